@@ -1,0 +1,4 @@
+pub mod Act
+pub mod Name
+pub mod History
+pub mod Verdict

@@ -1,0 +1,14 @@
+//! What a workspace answers to an act.
+
+/// Whether a workspace takes an act, or the first reason why it doesn't.
+#[derive(Clone, Copy, Debug, PartialEq, Eq)]
+pub enum Verdict {
+    /// The act is taken.
+    Accept,
+    /// The pushed state belongs to another history than the stored one.
+    LineageDiffers,
+    /// The pushed state is older than the stored one.
+    SerialTooLow,
+    /// The pushed state has the stored one's serial and another content.
+    SerialReused,
+}

@@ -1,0 +1,21 @@
+//! Laws of state texts, which hold whoever reads them.
+
+ghost use Rattle.std.specs.Prelude.{◌≡◌, ℕ, ◌≤◌, List, Some, None, length};
+ghost use Rattle.tfs_state.specs.Document.{Document};
+ghost use Rattle.tfs_state.specs.StateText.{SpellsDocument, first_state_fault, document_of};
+ghost use Rattle.tfs_state.specs.declared.fault.StateFault.{StateFault};
+ghost use Rattle.tfs_state.specs.declared.doc.TheConstants.{MAX_STATE_BYTES};
+
+/// Bytes of at most 16 MiB spell one document, or have a first fault, and never both.
+pub fn bytes_spell_a_document_or_have_a_fault()
+    ensures spelled { (bytes : List ℕ) (d : Document) → SpellsDocument bytes d
+        → first_state_fault bytes ≡ None }
+    ensures faultless { (bytes : List ℕ) → length bytes ≤ MAX_STATE_BYTES
+        → first_state_fault bytes ≡ None → (d : Document) × SpellsDocument bytes d }
+    ensures once { (bytes : List ℕ) (d e : Document) → SpellsDocument bytes d
+        → SpellsDocument bytes e → d ≡ e }
+    ensures computed { (bytes : List ℕ) (d : Document) → SpellsDocument bytes d
+        → document_of bytes ≡ Some d }
+    ensures none_else { (bytes : List ℕ) (fault : StateFault) → first_state_fault bytes ≡ Some fault
+        → document_of bytes ≡ None }
+{}
