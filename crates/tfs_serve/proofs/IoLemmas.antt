@@ -1,0 +1,45 @@
+-- Laws of the bytes that readers have left and writers hold, over several reads and writes.
+use Rattle.std.proofs.Common.{◌≡◌, ℕ, List, [], ◌∷◌, ◌++◌, Option, Some, None, take, drop, refl, sym, ◌∙◌, ap, append_assoc, append-nil, take-append-drop}
+use Rattle.std.specs.Io.KnownBytes.{Appends, Consumes, Keeps}
+
+-- Two writes in turn append both.
+pub appends_more : (a b c : Option (List ℕ)) (x y : List ℕ) → Appends a b x → Appends b c y → Appends a c (x ++ y)
+appends_more None b c x y p q = tt
+appends_more (Some xs) None c x y p q = absurd p
+appends_more (Some xs) (Some ys) None x y p q = absurd q
+appends_more (Some xs) (Some ys) (Some zs) x y p q = q ∙ ap (λ t. t ++ y) p ∙ append_assoc xs x y
+
+-- Two reads in turn consume both.
+pub consumes_more : (a b c : Option (List ℕ)) (x y : List ℕ) → Consumes a b x → Consumes b c y → Consumes a c (x ++ y)
+consumes_more None b c x y p q = tt
+consumes_more (Some xs) None c x y p q = absurd p
+consumes_more (Some xs) (Some ys) None x y p q = absurd q
+consumes_more (Some xs) (Some ys) (Some zs) x y p q = p ∙ ap (λ t. x ++ t) q ∙ sym (append_assoc x y zs)
+
+-- What stays as it is has appended, and consumed, nothing.
+pub appends_nothing : (a : Option (List ℕ)) → Appends a a []
+appends_nothing None = tt
+appends_nothing (Some xs) = sym (append-nil xs)
+
+pub consumes_nothing : (a : Option (List ℕ)) → Consumes a a []
+consumes_nothing None = tt
+consumes_nothing (Some xs) = refl
+
+pub keeps_appends : (a b : Option (List ℕ)) → Keeps a b → Appends a b []
+keeps_appends None b k = tt
+keeps_appends (Some xs) None k = absurd k
+keeps_appends (Some xs) (Some ys) k = k ∙ sym (append-nil xs)
+
+pub keeps_consumes : (a b : Option (List ℕ)) → Keeps a b → Consumes a b []
+keeps_consumes None b k = tt
+keeps_consumes (Some xs) None k = absurd k
+keeps_consumes (Some xs) (Some ys) k = sym k
+
+-- One more single write of what is left of a text.
+pub written_more : (a b c : Option (List ℕ)) (text part rest left : List ℕ) (n : ℕ) → text ≡ part ++ rest → left ≡ drop n rest → Appends a b part → Appends b c (take n rest)
+    → (x : List ℕ) × (text ≡ x ++ left) × Appends a c x
+written_more a b c text part rest left n split is p q = (
+  part ++ take n rest,
+  split ∙ ap (λ t. part ++ t) (sym (take-append-drop n rest)) ∙ sym (append_assoc part (take n rest) (drop n rest)) ∙ ap (λ t. (part ++ take n rest) ++ t) (sym is),
+  appends_more a b c part (take n rest) p q,
+)

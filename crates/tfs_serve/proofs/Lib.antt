@@ -1,0 +1,3 @@
+pub mod RowLemmas
+pub mod FirstLemmas
+pub mod IoLemmas

@@ -1,0 +1,55 @@
+//! The count of a conversation's reads.
+
+ghost use Rattle.std.specs.Prelude.{◌≡◌, ◌+◌, ◌≤◌, true, false};
+ghost use Rattle.tfs_serve.specs.declared.reads.TheConstants.{MAX_READS};
+
+use std::marker::Model;
+
+/// The most reads of a conversation.
+pub const MAX_READS: u64 = 1_048_576;
+
+/// How many reads a conversation has made; each is counted before it is made.
+#[derive(Drop)]
+pub struct Reads {
+    used: u64,
+}
+
+impl Model for Reads {
+    ghost use Rattle.std.specs.Prelude.{ℕ, ◌≤◌};
+    ghost use Rattle.tfs_serve.specs.declared.reads.TheConstants.{MAX_READS};
+
+    ghost Value = { ℕ };
+
+    ghost view = { λ r. r.used };
+
+    ghost invariant = { λ r. r.used ≤ MAX_READS };
+}
+
+impl Reads {
+    /// No reads.
+    pub fn new() -> Reads
+        ensures { result ≡ 0 }
+    {
+        Reads { used: 0 }
+    }
+
+    /// How many reads were made.
+    pub fn used(&self) -> u64
+        ensures value { result ≡ self.now }
+        ensures limit { result ≤ MAX_READS }
+    {
+        self.used
+    }
+
+    /// Counts one more read; false where there were as many as there may be.
+    pub(crate) fn count(&mut self) -> bool
+        ensures counted { result ≡ true → (self.new ≡ self.old + 1) × (self.new ≤ MAX_READS) }
+        ensures full { result ≡ false → (self.new ≡ self.old) × (self.old ≡ MAX_READS) }
+    {
+        if self.used == MAX_READS {
+            return false;
+        }
+        self.used += 1;
+        true
+    }
+}

@@ -1,0 +1,3 @@
+pub mod Refusal
+pub mod Reply
+pub mod Transition

@@ -1,0 +1,104 @@
+//! The refusals of requests, in the order in which they are looked for.
+
+ghost use Rattle.std.specs.Prelude.{◌≡◌};
+
+use thiserror::Error;
+
+/// The methods that a route takes.
+#[derive(Clone, Copy, Debug, PartialEq, Eq)]
+pub enum Methods {
+    /// Those of `/state/{name}`.
+    State,
+}
+
+/// Why a request is refused. A refusal that stands earlier comes first, but for `OutOfMemory`, which comes wherever a
+/// request for memory is refused.
+#[derive(Clone, Copy, Debug, PartialEq, Eq, Error)]
+pub enum Refusal {
+    #[error("the head of the request is too large")]
+    HeadTooLarge,
+    #[error("the head of the request cannot be read")]
+    BadHead,
+    #[error("the length of the body cannot be told")]
+    BadLength,
+    #[error("the body is too large")]
+    BodyTooLarge,
+    #[error("there is no such path")]
+    NoRoute,
+    #[error("the path doesn't take this method")]
+    MethodNotAllowed(Methods),
+    #[error("this is no name of a workspace")]
+    BadName,
+    #[error("the body is no state")]
+    BadState,
+    #[error("the journal has failed and takes no more changes")]
+    JournalStopped,
+    #[error("the stored state has another lineage")]
+    LineageDiffers,
+    #[error("the stored state has a higher serial")]
+    SerialTooLow,
+    #[error("the stored state has this serial and other content")]
+    SerialReused,
+    #[error("there is no state")]
+    NoState,
+    #[error("there are too many workspaces")]
+    TableFull,
+    #[error("the journal is full")]
+    JournalFull,
+    #[error("no memory to answer")]
+    OutOfMemory,
+    #[error("the journal could not be written")]
+    JournalFault,
+}
+
+impl Refusal {
+    ghost use Rattle.tfs_table.specs.Refusal.{row_of};
+
+    /// The refusal's number in the list of all refusals.
+    pub fn number(&self) -> u8
+        ensures { result ≡ (row_of self.now).number }
+    {
+        self.row().0
+    }
+
+    /// The refusal's name, as replies tell it.
+    pub fn name(&self) -> &'static str
+        ensures { result.now ≡ (row_of self.now).name }
+    {
+        self.row().1
+    }
+
+    /// The status of a reply that tells the refusal (RFC 9110, section 15; RFC 6585, section 5; RFC 4918, section 11).
+    pub fn status(&self) -> u16
+        ensures { result ≡ (row_of self.now).status }
+    {
+        self.row().2
+    }
+
+    /// The table of refusals: number, name and status.
+    fn row(&self) -> (u8, &'static str, u16)
+        ensures number { result.0 ≡ (row_of self.now).number }
+        ensures name { result.1.now ≡ (row_of self.now).name }
+        ensures status { result.2 ≡ (row_of self.now).status }
+    {
+        match self {
+            Refusal::HeadTooLarge => (1, "HeadTooLarge", 431),
+            Refusal::BadHead => (2, "BadHead", 400),
+            Refusal::BadLength => (4, "BadLength", 400),
+            Refusal::BodyTooLarge => (6, "BodyTooLarge", 413),
+            Refusal::NoRoute => (7, "NoRoute", 404),
+            Refusal::MethodNotAllowed(_) => (8, "MethodNotAllowed", 405),
+            Refusal::BadName => (9, "BadName", 400),
+            Refusal::BadState => (12, "BadState", 400),
+            Refusal::JournalStopped => (14, "JournalStopped", 503),
+            Refusal::LineageDiffers => (17, "LineageDiffers", 409),
+            Refusal::SerialTooLow => (18, "SerialTooLow", 409),
+            Refusal::SerialReused => (19, "SerialReused", 409),
+            Refusal::NoState => (20, "NoState", 404),
+            Refusal::TableFull => (24, "TableFull", 507),
+            Refusal::JournalFull => (25, "JournalFull", 507),
+            Refusal::OutOfMemory => (26, "OutOfMemory", 503),
+            Refusal::JournalFault => (27, "JournalFault", 500),
+        }
+    }
+}
