@@ -1,0 +1,3 @@
+pub mod Id
+pub mod LockInfo
+pub mod LockText

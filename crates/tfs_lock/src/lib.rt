@@ -1,0 +1,17 @@
+//! Reads the lock information of Terraform's http backend, and keeps its text as it came.
+//! Of what it says only the identifier is looked at.
+#![tactic(auto)]
+
+mod fault;
+mod id;
+mod json;
+mod laws;
+mod lock_info;
+
+pub use fault::LockFault;
+pub use id::{Id, MAX_ID_BYTES};
+pub use laws::bytes_spell_lock_info_or_have_a_fault;
+pub use lock_info::{LockInfo, MAX_LOCK_BYTES};
+
+#[cfg(test)]
+mod tests;

@@ -1,0 +1,87 @@
+//! Lock information.
+
+ghost use Rattle.std.specs.Prelude.{◌≡◌, ◌≢◌, Some, IfOk, IfErr, length};
+ghost use Rattle.serde_json.specs.View.{view};
+ghost use Rattle.tfs_lock.specs.LockText.{GivesId, SpellsLockInfo, first_lock_fault, first_value_fault};
+ghost use Rattle.tfs_lock.specs.declared.fault.LockFault.TheVariants.{NoMemory};
+
+use crate::fault::LockFault;
+use crate::id::{Id, MAX_ID_BYTES};
+use crate::json;
+use serde_json::Value;
+use std::alloc::Global;
+use std::marker::Model;
+
+/// The most bytes that a lock text may have: 64 KiB.
+pub const MAX_LOCK_BYTES: usize = 65_536;
+
+/// What the client that holds a lock says of it, with its text as it came. Terraform writes its members `ID`,
+/// `Operation`, `Info`, `Who`, `Version`, `Created` and `Path`; all but `ID` are kept without being looked at.
+#[derive(Drop)]
+pub struct LockInfo {
+    bytes: Vec<u8>,
+    id: Id,
+}
+
+impl Model for LockInfo {
+    ghost use Rattle.tfs_lock.specs.LockInfo.{LockText};
+    ghost use Rattle.tfs_lock.specs.LockText.{SpellsLockInfo};
+
+    ghost Value = { LockText };
+
+    ghost view = { λ info. record { bytes = info.bytes.items; id = info.id } };
+
+    ghost invariant = { λ info. SpellsLockInfo info.bytes.items
+        (record { bytes = info.bytes.items; id = info.id }) };
+}
+
+impl LockInfo {
+    /// Reads a lock text. A refusal is the first fault of the text: more than 65,536 bytes, then those in the order of
+    /// [`LockFault`]; but for `NoMemory`, which comes wherever a request for memory is refused.
+    pub fn read(alloc: Global, bytes: Vec<u8>) -> Result<LockInfo, LockFault>
+        ensures ok { IfOk result (SpellsLockInfo bytes.items) }
+        ensures err { IfErr result (λ fault. fault ≢ NoMemory
+            → first_lock_fault bytes.items ≡ Some fault) }
+    {
+        if bytes.len() > MAX_LOCK_BYTES {
+            return Err(LockFault::TooLong);
+        }
+        let value = json::read_json(alloc, bytes.as_slice())?;
+        let id = read_id(alloc, &value)?;
+        Ok(LockInfo { bytes, id })
+    }
+
+    /// The text, byte for byte as it came.
+    pub fn bytes(&self) -> &[u8]
+        ensures value { result.now ≡ self.now.bytes }
+        ensures spelled { SpellsLockInfo self.now.bytes self.now }
+    {
+        self.bytes.as_slice()
+    }
+
+    /// The identifier in the text, escapes decoded.
+    pub fn id(&self) -> &Id
+        ensures value { result.now ≡ self.now.id }
+    {
+        &self.id
+    }
+}
+
+/// The identifier that a value gives.
+fn read_id(alloc: Global, value: &Value) -> Result<Id, LockFault>
+    ensures ok { IfOk result (GivesId (view value.now)) }
+    ensures err { IfErr result (λ fault. fault ≢ NoMemory
+        → first_value_fault (view value.now) ≡ Some fault) }
+{
+    if !value.is_object() {
+        return Err(LockFault::NotObject);
+    }
+    let text = json::id(value).unwrap_or("");
+    if text.is_empty() {
+        return Err(LockFault::NoId);
+    }
+    if text.len() > MAX_ID_BYTES {
+        return Err(LockFault::TooLong);
+    }
+    Id::copy_of(alloc, text).map_err(|_| LockFault::NoMemory)
+}
