@@ -1,0 +1,6 @@
+-- Characters outside brackets are pieces.
+use Rattle.tfs_addr.proofs.PieceLemmas.{IsStripped-again}
+use Rattle.tfs_addr.proofs.laws.strips_once.Goals as goal
+
+pub returns : goal.returns
+returns c = IsStripped-again

@@ -1,0 +1,107 @@
+//! The addresses of a configuration block and of one of its instances.
+
+ghost use Rattle.std.specs.Prelude.{◌≡◌, ◌++◌, IfOk, OnOk, string_bytes, option_map, option_copied};
+ghost use Rattle.serde_json.specs.Data.{string};
+ghost use Rattle.serde_json.specs.Written.{compact_text};
+ghost use Rattle.tfs_addr.specs.Address.{opening, closing, StopsAt, GivesText, configuration_address, instance_address, key_of, resource_part, key_part, deposed_part};
+
+use crate::fault::AddrFault;
+use crate::resource::{Key, Mode};
+use crate::stripping::strip;
+use serde_json::Value;
+use std::alloc::{AllocError, Global};
+
+/// The address of a configuration block, which `dependencies` name: the module's path without keys
+/// and a dot, `data.` before a data source, and the resource's type (`kind`) and name with a dot
+/// between them. The root module's path is empty, and has no dot. Type and name stay as they came.
+///
+/// # Errors
+///
+/// Those of `strip` for the module's path.
+pub fn config_text(
+    alloc: Global,
+    module: &str,
+    mode: Mode,
+    kind: &str,
+    name: &str,
+) -> Result<String, AddrFault>
+    ensures value { GivesText result (configuration_address «module».now mode kind.now name.now) }
+    ensures unclosed { result ≡ Err AddrFault.Unclosed → StopsAt «module».now opening }
+    ensures stray_bracket { result ≡ Err AddrFault.StrayBracket → StopsAt «module».now closing }
+{
+    let mut text = strip(alloc, module)?;
+    if !module.is_empty() {
+        text.push('.')?;
+    }
+    push_resource(&mut text, mode, kind, name)?;
+    Ok(text)
+}
+
+/// The address of one instance: the module's path as it came and a dot, `data.` before a data
+/// source, type and name, the instance's key in brackets, and ` (deposed KEY)` for a deposed object.
+/// A number is written in decimal, and a text as JSON (RFC 8259, section 7). It fails only where
+/// memory runs out.
+pub fn instance_text(
+    alloc: Global,
+    module: &str,
+    mode: Mode,
+    kind: &str,
+    name: &str,
+    key: Option<Key>,
+    deposed: Option<&str>,
+) -> Result<String, AllocError>
+    ensures { IfOk result (λ text. string_bytes text
+        ≡ instance_address «module».now mode kind.now name.now (option_map key_of key.entry) (option_copied deposed.entry)) }
+{
+    let mut text = String::from_str(alloc, module)?;
+    if !module.is_empty() {
+        text.push('.')?;
+    }
+    push_resource(&mut text, mode, kind, name)?;
+    if let Some(key) = key {
+        push_key(alloc, &mut text, key)?;
+    }
+    if let Some(key) = deposed {
+        push_deposed(&mut text, key)?;
+    }
+    Ok(text)
+}
+
+// Appends the resource within its module.
+fn push_resource(text: &mut String, mode: Mode, kind: &str, name: &str) -> Result<(), AllocError>
+    ensures { OnOk result (string_bytes text.new ≡ string_bytes text.old ++ resource_part mode kind.now name.now) }
+{
+    if mode == Mode::DataSource {
+        text.push_str("data.")?;
+    }
+    text.push_str(kind)?;
+    text.push('.')?;
+    text.push_str(name)
+}
+
+// Appends the key in brackets.
+fn push_key(alloc: Global, text: &mut String, key: Key) -> Result<(), AllocError>
+    ensures { OnOk result (string_bytes text.new ≡ string_bytes text.old ++ key_part (Some (key_of key.entry))) }
+{
+    match key {
+        Key::Number(number) => write!(text, "[{number}]"),
+        Key::Text(key) => {
+            let key = json_text(alloc, key)?;
+            write!(text, "[{key}]")
+        }
+    }
+}
+
+// The text as JSON.
+fn json_text(alloc: Global, text: &str) -> Result<String, AllocError>
+    ensures { IfOk result (λ json. string_bytes json ≡ compact_text (string text.now)) }
+{
+    Value::String(String::from_str(alloc, text)?).to_string(alloc)
+}
+
+// Appends the key of a deposed object.
+fn push_deposed(text: &mut String, key: &str) -> Result<(), AllocError>
+    ensures { OnOk result (string_bytes text.new ≡ string_bytes text.old ++ deposed_part (Some key.now)) }
+{
+    write!(text, " (deposed {key})")
+}

@@ -1,0 +1,17 @@
+//! Terraform's addresses: a text without its instance keys, and the addresses of a configuration
+//! block and of one of its instances.
+#![tactic(auto)]
+
+mod address;
+mod fault;
+mod laws;
+mod resource;
+mod stripping;
+#[cfg(test)]
+mod tests;
+
+pub use address::{config_text, instance_text};
+pub use fault::AddrFault;
+pub use laws::{reads_once, reads_or_stops, stripped_text_agrees, strips_once};
+pub use resource::{Key, Mode};
+pub use stripping::strip;

@@ -1,0 +1,158 @@
+//! What no clause says: worked addresses, JSON of hard keys, and that calls succeed with ample memory.
+
+use super::*;
+use std::test::*;
+
+// A text and what is left of it.
+const STRIPPED: [(&str, &str); 9] = [
+    ("", ""),
+    ("a", "a"),
+    ("a[0].b[\"x\\\"]\"]", "a.b"),
+    ("a[00]", "a"),
+    ("a[\"é\"].b", "a.b"),
+    ("a[\"\\é\"]é", "aé"),
+    ("a[\"\"]\"b\"", "a\"b\""),
+    ("module.m[\"p.q]\"].t.n", "module.m.t.n"),
+    ("[18446744073709551616][\"\\\\\"]", ""),
+];
+
+// A text and its fault.
+const REFUSED: [(&str, AddrFault); 13] = [
+    ("]", AddrFault::StrayBracket),
+    ("a]", AddrFault::StrayBracket),
+    ("a]b[", AddrFault::StrayBracket),
+    ("a[0]]", AddrFault::StrayBracket),
+    ("[", AddrFault::Unclosed),
+    ("a[x]", AddrFault::Unclosed),
+    ("a[]", AddrFault::Unclosed),
+    ("a[\"", AddrFault::Unclosed),
+    ("a[\"x", AddrFault::Unclosed),
+    ("a[\"x\"", AddrFault::Unclosed),
+    ("a[\"x\\", AddrFault::Unclosed),
+    ("a[1x]", AddrFault::Unclosed),
+    ("a[1", AddrFault::Unclosed),
+];
+
+#[test]
+fn keys_are_left_out(rt: HostRuntime) -> Result<(), Fail> {
+    for (text, want) in STRIPPED {
+        let bare = strip(rt.alloc(), text)?;
+        assert!(rt; bare.as_str() == want, "at {text}");
+    }
+    Ok(())
+}
+
+#[test]
+fn the_first_bracket_without_a_key_is_refused(rt: HostRuntime) {
+    for (text, want) in REFUSED {
+        assert!(rt;
+            matches!(strip(rt.alloc(), text), Err(fault) if fault == want),
+            "at {text}"
+        );
+    }
+}
+
+#[test]
+fn configuration_addresses_have_no_keys(rt: HostRuntime) -> Result<(), Fail> {
+    let cases = [
+        ("", Mode::Managed, "t.n"),
+        ("", Mode::DataSource, "data.t.n"),
+        ("module.m[7]", Mode::Managed, "module.m.t.n"),
+        ("module.m[\"a.b\"]", Mode::DataSource, "module.m.data.t.n"),
+        ("[0]", Mode::Managed, ".t.n"),
+    ];
+    for (module, mode, want) in cases {
+        let text = config_text(rt.alloc(), module, mode, "t", "n")?;
+        assert!(rt; text.as_str() == want, "in {module}");
+    }
+    let brackets = config_text(rt.alloc(), "m", Mode::Managed, "t[0]", "n]")?;
+    assert_eq!(rt; brackets.as_str(), "m.t[0].n]");
+    Ok(())
+}
+
+#[test]
+fn a_module_that_is_not_stripped_has_no_configuration_address(rt: HostRuntime) {
+    for (module, want) in REFUSED {
+        let result = config_text(rt.alloc(), module, Mode::Managed, "t", "n");
+        assert!(rt;
+            matches!(result, Err(fault) if fault == want),
+            "in {module}"
+        );
+    }
+}
+
+// The key of an instance of t.n, and its address.
+const KEYED: [(Key<'static>, &str); 4] = [
+    (Key::Number(0), "t.n[0]"),
+    (Key::Number(u64::MAX), "t.n[18446744073709551615]"),
+    (Key::Text("k"), "t.n[\"k\"]"),
+    (Key::Text(""), "t.n[\"\"]"),
+];
+
+#[test]
+fn instance_addresses_have_their_keys(rt: HostRuntime) -> Result<(), Fail> {
+    for (key, want) in KEYED {
+        let text = instance_text(rt.alloc(), "", Mode::Managed, "t", "n", Some(key), None)?;
+        assert!(rt; text.as_str() == want, "for {want}");
+    }
+    Ok(())
+}
+
+#[test]
+fn instance_addresses_have_their_module_as_it_came(rt: HostRuntime) -> Result<(), Fail> {
+    for (module, want) in [
+        ("", "t.n"),
+        ("module.m[7]", "module.m[7].t.n"),
+        ("[0]", "[0].t.n"),
+        ("a]", "a].t.n"),
+    ] {
+        let text = instance_text(rt.alloc(), module, Mode::Managed, "t", "n", None, None)?;
+        assert!(rt; text.as_str() == want, "for {want}");
+    }
+    let key = Some(Key::Number(1));
+    let text = instance_text(rt.alloc(), "", Mode::DataSource, "t", "n", key, None)?;
+    assert_eq!(rt; text.as_str(), "data.t.n[1]");
+    Ok(())
+}
+
+#[test]
+fn deposed_instances_have_their_deposed_key(rt: HostRuntime) -> Result<(), Fail> {
+    let deposed = Some("ab12");
+    let text = instance_text(rt.alloc(), "", Mode::Managed, "t", "n", None, deposed)?;
+    assert_eq!(rt; text.as_str(), "t.n (deposed ab12)");
+    let key = Some(Key::Number(0));
+    let text = instance_text(rt.alloc(), "", Mode::Managed, "t", "n", key, deposed)?;
+    assert_eq!(rt; text.as_str(), "t.n[0] (deposed ab12)");
+    Ok(())
+}
+
+// RFC 8259, section 7: a quote and a backslash are escaped, and a control character has its code.
+#[test]
+fn a_text_key_is_printed_as_json(rt: HostRuntime) -> Result<(), Fail> {
+    let key = Some(Key::Text("a\"b\\c\u{1}\u{8}\n\u{7f}é😀]"));
+    let text = instance_text(rt.alloc(), "", Mode::Managed, "t", "n", key, None)?;
+    assert_eq!(rt; text.as_str(), "t.n[\"a\\\"b\\\\c\\u0001\\b\\n\u{7f}é😀]\"]");
+    let bare = strip(rt.alloc(), text.as_str())?;
+    assert_eq!(rt; bare.as_str(), "t.n");
+    Ok(())
+}
+
+#[test]
+fn faults_are_told_in_words(rt: HostRuntime) -> Result<(), Fail> {
+    let cases = [
+        (
+            AddrFault::Unclosed,
+            "a bracket is opened, and no key follows that ends",
+        ),
+        (
+            AddrFault::StrayBracket,
+            "a bracket is closed that was not opened",
+        ),
+        (AddrFault::NoMemory, "out of memory"),
+    ];
+    for (fault, want) in cases {
+        let text = format!(in rt.alloc(); "{fault}")?;
+        assert_eq!(rt; text.as_str(), want);
+    }
+    Ok(())
+}
