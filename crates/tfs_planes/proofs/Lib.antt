@@ -1,0 +1,11 @@
+pub mod BitLemmas
+pub mod BlockLemmas
+pub mod CountLemmas
+pub mod KernelLemmas
+pub mod PlainLemmas
+pub mod PlaneLemmas
+pub mod RelationLemmas
+pub mod RoundLemmas
+pub mod RowLemmas
+pub mod TakeLemmas
+pub mod WalkLemmas

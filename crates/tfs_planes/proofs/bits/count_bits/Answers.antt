@@ -1,0 +1,7 @@
+-- The counts of the words are the count of their bits.
+use Rattle.std.proofs.Common.{◌∙◌}
+use Rattle.tfs_planes.proofs.CountLemmas.{count_each}
+use Rattle.tfs_planes.proofs.bits.count_bits.Goals as goal
+
+pub returns : goal.returns
+returns c = c.count_words.ensures ∙ count_each c.args.words.now c.type_inv.words

@@ -1,0 +1,11 @@
+-- One word more, and all of them.
+use Rattle.std.proofs.Common.{◌+◌, ◌∙◌, bit_or, refl, arith}
+use Rattle.tfs_planes.proofs.KernelLemmas.{front_all, front_set}
+use Rattle.tfs_planes.proofs.kernels.union_singly.Goals as goal
+
+pub loop-i-preserved : goal.loop-i-preserved
+loop-i-preserved c =
+    rw c.loop-i.invariant (front_set bit_or c.loop-i.i (c.loop-i.i + 1) c.args.words.now c.args.others.now 0 0 refl c.requires (omega arith))
+
+pub returns : goal.returns
+returns c = c.loop-i.invariant ∙ front_all bit_or c.loop-i.i c.args.words.now c.args.others.now (omega arith) c.requires

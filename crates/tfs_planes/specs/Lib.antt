@@ -1,0 +1,6 @@
+pub mod Plain
+pub mod Plane
+pub mod Relation
+pub mod Rounds
+pub mod Row
+pub mod Walk

@@ -1,0 +1,86 @@
+//! Planes: relations between the numbers below a size, one bit a pair.
+ghost use Rattle.std.specs.Prelude.{◌≡◌, ℕ, ◌<◌, ◌≤◌, ◌↔◌, IfOk};
+ghost use Rattle.std.specs.FinSet as set;
+ghost use Rattle.tfs_planes.specs.Relation.{Relates};
+ghost use Rattle.tfs_planes.specs.Walk.{Joins};
+ghost use Rattle.tfs_planes.specs.declared.TheConstants.{MAX};
+
+use crate::bits::row_length;
+use crate::cells::{cell, row_at, set_cell};
+use crate::closure::close_rows;
+use crate::row::Row;
+use std::alloc::{AllocError, Global};
+use std::marker::Model;
+
+/// A relation between the numbers below a size.
+#[derive(Drop)]
+pub struct Plane {
+    size: usize,
+    words: Vec<u64>,
+}
+
+impl Model for Plane {
+    ghost use Rattle.std.specs.Prelude.{vec_len};
+    ghost use Rattle.tfs_planes.specs.Relation.{Relation, relation_code};
+    ghost use Rattle.tfs_planes.specs.Plane.{relation_of, IsPlane};
+
+    ghost Value = { Relation };
+
+    ghost coded = { relation_code };
+
+    ghost view = { λ plane. relation_of plane.size plane.words.items };
+
+    ghost invariant = { λ plane. IsPlane plane.size (vec_len plane.words) plane.words.items };
+}
+
+impl Plane {
+    /// The relation between the numbers below `size` in which no number is related to any. Its one
+    /// error is want of memory; it takes one bit for each pair, each row rounded up to 512.
+    pub fn new(alloc: Global, size: usize) -> Result<Plane, AllocError>
+        requires { size ≤ MAX }
+        ensures { IfOk result (λ plane. plane ≡ record { size = size; pairs = set.empty }) }
+    {
+        Ok(Plane {
+            size,
+            words: vec![in alloc; 0; size * row_length(size)]?,
+        })
+    }
+
+    /// Whether `i` is related to `j`.
+    pub fn get(&self, i: usize, j: usize) -> bool
+        requires row { i < self.now.size }
+        requires column { j < self.now.size }
+        ensures { result ≡ set.contains self.now.pairs (i, j) }
+    {
+        cell(&self.words, row_length(self.size), i, j)
+    }
+
+    /// Relates `i` to `j`.
+    pub fn set(&mut self, i: usize, j: usize)
+        requires row { i < self.old.size }
+        requires column { j < self.old.size }
+        ensures { self.new ≡ record self.old { pairs = set.insert self.old.pairs (i, j) } }
+    {
+        set_cell(&mut self.words, row_length(self.size), i, j);
+    }
+
+    /// Makes a row of this size the set of the numbers to which `i` is related.
+    pub fn row_into(&self, i: usize, row: &mut Row)
+        requires row { i < self.now.size }
+        requires size { row.old.size ≡ self.now.size }
+        ensures size { row.new.size ≡ row.old.size }
+        ensures members { (j : ℕ)
+            → set.contains row.new.members j ≡ set.contains self.now.pairs (i, j) }
+    {
+        row.copy_words(row_at(&self.words, row_length(self.size), i));
+    }
+
+    /// Closes the relation: afterwards `i` is related to `j` exactly where a walk over what was
+    /// related before leads from `i` to `j`.
+    pub fn close(&mut self)
+        ensures size { self.new.size ≡ self.old.size }
+        ensures walks { (i j : ℕ) → Relates self.new i j ↔ Joins (Relates self.old) i j }
+    {
+        close_rows(&mut self.words, self.size, row_length(self.size));
+    }
+}
