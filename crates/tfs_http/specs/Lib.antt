@@ -1,0 +1,5 @@
+pub mod Request
+pub mod Framing
+pub mod Form
+pub mod ReplyText
+pub mod Routing

@@ -1,0 +1,77 @@
+-- The text of a reply (RFC 9112, section 4). Each line ends with CR LF.
+use Rattle.std.specs.Prelude.{ℕ, ◌==◌, nat_lt, List, [], ◌∷◌, ◌++◌, length, find, codes, decimal, if◌then◌else◌}
+use Rattle.std.specs.Option.{option_map_or}
+use Rattle.tfs_table.specs.Reply.{ReplyValue, done, state, refused}
+use Rattle.tfs_table.specs.Refusal.{row_of}
+use Rattle.tfs_table.specs.declared.refusal.Refusal.TheVariants.{MethodNotAllowed}
+use Rattle.tfs_table.specs.declared.refusal.Methods.{Methods}
+use Rattle.tfs_table.specs.declared.refusal.Methods.TheVariants.{State}
+use Rattle.tfs_http.specs.declared.form.Form.{Form}
+
+-- A line, with its end.
+abbrev pub line : List ℕ → List ℕ
+line text = text ++ codes "\r\n"
+
+-- The statuses of replies, each with its phrase (RFC 9110, section 15; RFC 4918, section 11.5; RFC 6585, section 5).
+abbrev pub phrases : List (ℕ × List ℕ)
+phrases =
+    (200, codes "OK")
+    ∷ (400, codes "Bad Request")
+    ∷ (404, codes "Not Found")
+    ∷ (405, codes "Method Not Allowed")
+    ∷ (409, codes "Conflict")
+    ∷ (413, codes "Content Too Large")
+    ∷ (431, codes "Request Header Fields Too Large")
+    ∷ (500, codes "Internal Server Error")
+    ∷ (503, codes "Service Unavailable")
+    ∷ (507, codes "Insufficient Storage")
+    ∷ []
+
+-- The phrase of a status, empty for one that no reply has.
+abbrev pub phrase_of : ℕ → List ℕ
+phrase_of status = option_map_or (λ row. row.1) (find (λ row. status == row.0) phrases) []
+
+-- The status of a reply: 200 for an answer, and each refusal has its own.
+abbrev pub status_of : ReplyValue → ℕ
+status_of (done position) = 200
+status_of (state d) = 200
+status_of (refused refusal) = (row_of refusal).status
+
+-- The version, the status and its phrase.
+abbrev pub status_line : ℕ → List ℕ
+status_line status = line (codes "HTTP/1.1 " ++ decimal status ++ codes " " ++ phrase_of status)
+
+-- The methods of a route.
+abbrev pub methods_text : Methods → List ℕ
+methods_text State = codes "GET, POST"
+
+-- The methods that the route takes (RFC 9110, section 10.2.1), where the request's is another.
+abbrev pub allow_line : ReplyValue → List ℕ
+allow_line (refused (MethodNotAllowed methods)) = line (codes "Allow: " ++ methods_text methods)
+allow_line _ = []
+
+-- The conversation ends after the reply (RFC 9112, section 9.6).
+abbrev pub close_line : Form → List ℕ
+close_line form = if form.close then line (codes "Connection: close") else []
+
+-- The body is JSON, where there is one (RFC 9110, section 8.3).
+abbrev pub type_line : List ℕ → List ℕ
+type_line body = if nat_lt 0 (length body) then line (codes "Content-Type: application/json") else []
+
+-- The length of the body (RFC 9110, section 8.6).
+abbrev pub length_line : List ℕ → List ℕ
+length_line body = line (codes "Content-Length: " ++ decimal (length body))
+
+-- A state's bytes, or the name of a refusal.
+abbrev pub body_of : ReplyValue → List ℕ
+body_of (done position) = []
+body_of (state d) = d.bytes
+body_of (refused refusal) = codes "{\"error\":\"" ++ (row_of refusal).name ++ codes "\"}"
+
+-- The status line, the fields and the empty line, of a status, its line of methods, a form and a body.
+abbrev pub head_text : ℕ → List ℕ → Form → List ℕ → List ℕ
+head_text status allow form body = status_line status ++ allow ++ close_line form ++ type_line body ++ length_line body ++ line []
+
+-- The text of a reply: its head, and its body where the form isn't bare (RFC 9110, section 9.3.2).
+abbrev pub reply_text : ReplyValue → Form → List ℕ
+reply_text reply form = head_text (status_of reply) (allow_line reply) form (body_of reply) ++ (if form.bare then [] else body_of reply)

@@ -1,0 +1,7 @@
+-- A request as its reader sees it.
+use Rattle.std.specs.Prelude.{ℕ, List}
+
+pub record RequestValue : Type 0 where
+  pub method : List ℕ
+  pub target : List ℕ
+  pub body : List ℕ

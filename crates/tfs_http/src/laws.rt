@@ -1,0 +1,23 @@
+//! Laws of framing and routing, which hold of all bytes and of all requests.
+
+ghost use Rattle.std.specs.Prelude.{◌≡◌, ◌≢◌, ℕ, List, ◌++◌, Result};
+ghost use Rattle.tfs_http.specs.Framing.{Frames, IsUnfinished};
+ghost use Rattle.tfs_table.specs.declared.call.Call.{Call};
+ghost use Rattle.tfs_table.specs.declared.refusal.Refusal.{Refusal};
+ghost use Rattle.tfs_http.specs.Request.{RequestValue};
+ghost use Rattle.tfs_http.specs.Routing.{RoutesTo};
+ghost use Rattle.tfs_http.specs.declared.taken.Take.{Take};
+ghost use Rattle.tfs_http.specs.declared.taken.Take.TheVariants.{Need};
+
+/// Bytes begin with one thing alone, and a message or a refusal stays whatever bytes follow.
+pub fn what_bytes_begin_with_is_one_thing_and_stays()
+    ensures once { (bytes : List ℕ) (t u : Take) → Frames bytes t → Frames bytes u → t ≡ u }
+    ensures stays { (bytes more : List ℕ) (t : Take) → t ≢ Need → Frames bytes t
+        → Frames (bytes ++ more) t }
+{}
+
+/// A request has a call or a refusal, one of them, and not both.
+pub fn what_becomes_of_a_request_is_one_thing()
+    ensures each { (r : RequestValue) → (x : Result Call Refusal) × RoutesTo r x }
+    ensures once { (r : RequestValue) (x y : Result Call Refusal) → RoutesTo r x → RoutesTo r y → x ≡ y }
+{}

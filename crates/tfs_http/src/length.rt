@@ -1,0 +1,70 @@
+//! The length of a body, from the fields of its head.
+
+ghost use Rattle.std.specs.Prelude.{◌≡◌, ◌&&◌, nat_lt, map, length, codes, All};
+ghost use Rattle.std.specs.List.{list_all};
+ghost use Rattle.std.specs.Char.{to_ascii_lowercase, is_ascii_digit};
+ghost use Rattle.std.specs.Str.{bytes_eq};
+ghost use Rattle.httparse.specs.Spans.{IsHeaderWithin, header_bytes};
+ghost use Rattle.tfs_http.specs.Framing.{length_of_text, length_of_texts, values_named};
+
+use crate::limits::MAX_BODY_BYTES;
+use httparse::spans::HeaderSpan;
+use std::str;
+use tfs_table::Refusal;
+
+/// The length that a head's fields give its body. The spans of the fields lie in the head.
+pub(crate) fn body_length(head: &[u8], fields: &[HeaderSpan]) -> Result<usize, Refusal>
+    requires { All (IsHeaderWithin (length head.now)) fields.now }
+    ensures { result ≡ length_of_texts (values_named (codes "content-length")
+        (map (header_bytes head.now) fields.now)) }
+{
+    let mut found: Option<&[u8]> = None;
+    let mut rest = fields;
+    while let Some((field, others)) = rest.split_first() {
+        if is_content_length(field.name.of(head)) {
+            if found.is_some() {
+                return Err(Refusal::BadLength);
+            }
+            found = Some(field.value.of(head));
+        }
+        rest = others;
+    }
+    match found {
+        Some(text) => length_of_text(text),
+        None => Ok(0),
+    }
+}
+
+fn is_content_length(name: &[u8]) -> bool
+    ensures { result ≡ bytes_eq (map to_ascii_lowercase name.now) (codes "content-length") }
+{
+    name.eq_ignore_ascii_case(b"content-length")
+}
+
+/// The length that the text of a `Content-Length` gives.
+fn length_of_text(text: &[u8]) -> Result<usize, Refusal>
+    ensures { result ≡ length_of_text text.now }
+{
+    if !is_numeral(text) {
+        return Err(Refusal::BadLength);
+    }
+    let Ok(digits) = str::from_utf8(text) else {
+        return Err(Refusal::BadLength);
+    };
+    match digits.parse::<u64>() {
+        Ok(length) if length <= MAX_BODY_BYTES as u64 => Ok(length as usize),
+        _ => Err(Refusal::BodyTooLarge),
+    }
+}
+
+fn is_numeral(text: &[u8]) -> bool
+    ensures { result ≡ (nat_lt 0 (length text.now) && list_all is_ascii_digit text.now) }
+{
+    0 < text.len() && has_digits_only(text)
+}
+
+fn has_digits_only(text: &[u8]) -> bool
+    ensures { result ≡ list_all is_ascii_digit text.now }
+{
+    text.iter().all(u8::is_ascii_digit)
+}

@@ -1,0 +1,27 @@
+//! Reads HTTP/1.1 requests (RFC 9112) of the state backend, tells the call of each, and writes the replies.
+//! So far a request reads a state or pushes one.
+#![tactic(auto)]
+
+mod form;
+mod framing;
+mod head;
+mod laws;
+mod length;
+mod limits;
+mod reply;
+mod request;
+mod routes;
+mod taken;
+#[cfg(test)]
+mod tests;
+
+pub use form::Form;
+pub use framing::{frame, take};
+pub use laws::{
+    what_becomes_of_a_request_is_one_thing, what_bytes_begin_with_is_one_thing_and_stays,
+};
+pub use limits::{MAX_BODY_BYTES, MAX_FIELDS, MAX_HEAD_BYTES, MAX_HEAD_LINES};
+pub use reply::write_reply;
+pub use request::Request;
+pub use routes::{Routes, call_of};
+pub use taken::{Framed, Take};

@@ -1,0 +1,13 @@
+//! The limits of a request.
+
+/// The most bytes of a head, with the empty lines that are skipped in front of it.
+pub const MAX_HEAD_BYTES: usize = 16_384;
+
+/// The most line feeds of a head: a request line, 64 fields, and the empty line.
+pub const MAX_HEAD_LINES: usize = 66;
+
+/// The most fields of a head.
+pub const MAX_FIELDS: usize = 64;
+
+/// The most bytes of a body: 16 MiB.
+pub const MAX_BODY_BYTES: usize = 16_777_216;

@@ -1,0 +1,82 @@
+//! A request of a client.
+
+ghost use Rattle.std.specs.Prelude.{◌≡◌, IfOk};
+ghost use Rattle.tfs_http.specs.Request.{RequestValue};
+
+use crate::form::Form;
+use std::alloc::{AllocError, Global};
+use std::marker::Model;
+use tfs_table::Bytes;
+
+/// A request: its method, its target and its body, as they came.
+#[derive(Drop)]
+pub struct Request {
+    method: Vec<u8>,
+    target: Vec<u8>,
+    body: Vec<u8>,
+}
+
+impl Model for Request {
+    ghost use Rattle.tfs_http.specs.Request.{RequestValue};
+
+    ghost Value = { RequestValue };
+
+    ghost view = { λ r. record { method = r.method.items; target = r.target.items; body = r.body.items } };
+}
+
+impl Request {
+    ghost use Rattle.tfs_http.specs.Form.{form_of};
+
+    pub(crate) fn new(
+        alloc: Global,
+        method: &[u8],
+        target: &[u8],
+        body: &[u8],
+    ) -> Result<Request, AllocError>
+        ensures { IfOk result (λ r. r ≡ record { method = method.now; target = target.now; body = body.now }) }
+    {
+        Ok(Request {
+            method: Vec::from_slice(alloc, method)?,
+            target: Vec::from_slice(alloc, target)?,
+            body: Vec::from_slice(alloc, body)?,
+        })
+    }
+
+    /// The method, byte for byte as it came (RFC 9110, section 9.1).
+    pub fn method(&self) -> &[u8]
+        ensures { result.now ≡ self.now.method }
+    {
+        self.method.as_slice()
+    }
+
+    /// The target, byte for byte as it came (RFC 9112, section 3.2).
+    pub fn target(&self) -> &[u8]
+        ensures { result.now ≡ self.now.target }
+    {
+        self.target.as_slice()
+    }
+
+    /// The body; empty where the request has none.
+    pub fn body(&self) -> &[u8]
+        ensures { result.now ≡ self.now.body }
+    {
+        self.body.as_slice()
+    }
+
+    /// The body, given out without taking memory.
+    pub fn into_body(self) -> Bytes
+        ensures { result ≡ self.body }
+    {
+        Bytes::new(self.body)
+    }
+
+    /// The form that the request gives its reply.
+    pub fn form(&self) -> Form
+        ensures { result ≡ form_of self.now }
+    {
+        Form {
+            close: false,
+            bare: false,
+        }
+    }
+}

@@ -1,0 +1,132 @@
+//! From a request to a call.
+
+ghost use Rattle.std.specs.Prelude.{◌≡◌, ◌≢◌, ℕ, List, codes, IfOk, IfErr, IfSome, IfNone};
+ghost use Rattle.tfs_rules.specs.Name.{IsName};
+ghost use Rattle.tfs_table.specs.declared.refusal.Refusal.TheVariants.{OutOfMemory, BadName};
+ghost use Rattle.tfs_http.specs.Routing.{path_of, IsStatePath, NamesState, IsStateMethod, HasCall, routing_refusal, state_routes};
+
+use crate::request::Request;
+use matchit::Router;
+use std::alloc::{AllocError, Global};
+use std::marker::Model;
+use std::str;
+use tfs_rules::Name;
+use tfs_table::{Call, Methods, Raw, Refusal};
+
+/// The routes of the server: `/state/{name}`.
+#[derive(Drop)]
+pub struct Routes {
+    router: Router<Methods>,
+}
+
+impl Model for Routes {
+    ghost use Rattle.std.specs.Prelude.{◌≡◌};
+    ghost use Rattle.matchit.specs.Rows.{RowsOf};
+    ghost use Rattle.matchit.specs.Router.{RouteOf};
+    ghost use Rattle.tfs_table.specs.declared.refusal.Methods.{Methods};
+    ghost use Rattle.tfs_http.specs.Routing.{state_routes};
+
+    ghost Value = { RowsOf (RouteOf Methods) };
+
+    ghost view = { λ r. r.router };
+
+    ghost invariant = { λ r. r.router ≡ state_routes };
+}
+
+impl Routes {
+    /// The routes, or an error where a request for memory is refused: nothing else is wrong with the route.
+    pub fn new(alloc: Global) -> Result<Routes, AllocError>
+        ensures { IfOk result (λ routes. routes ≡ state_routes) }
+    {
+        let mut router = Router::new(alloc);
+        match router.insert("/state/{name}", Methods::State) {
+            Ok(()) => Ok(Routes { router }),
+            Err(_) => Err(AllocError),
+        }
+    }
+
+    /// What stands for `{name}` in the path of a state.
+    fn part<'p>(&self, path: &'p str) -> Option<&'p str>
+        ensures found { IfSome result (λ part. IsStatePath path.now part.now) }
+        ensures absent { IfNone result ((part : List ℕ) → ¬ (IsStatePath path.now part)) }
+    {
+        match self.router.at(path) {
+            Ok(found) => found.params.get("name"),
+            Err(_) => None,
+        }
+    }
+}
+
+/// The call of a request, or its first refusal in the order of their numbers, but for `OutOfMemory`, which comes wherever
+/// a request for memory is refused.
+pub fn call_of(alloc: Global, routes: &Routes, request: Request) -> Result<Call, Refusal>
+    ensures ok { IfOk result (HasCall request) }
+    ensures err { IfErr result (λ refusal. refusal ≢ OutOfMemory → routing_refusal request refusal) }
+{
+    let Some(part) = named_state(routes, request.target()) else {
+        return Err(Refusal::NoRoute);
+    };
+    let Some(method) = method_of(request.method()) else {
+        return Err(Refusal::MethodNotAllowed(Methods::State));
+    };
+    let name = read_name(alloc, part)?;
+    match method {
+        Method::Get => Ok(Call::Read(name)),
+        Method::Post => Ok(Call::Change(name, Raw::Push(request.into_body()))),
+    }
+}
+
+/// The part of the target's path that stands for a name, if the target is the one of a state.
+fn named_state<'t>(routes: &Routes, target: &'t [u8]) -> Option<&'t str>
+    ensures found { IfSome result (λ part. NamesState target.now part.now) }
+    ensures absent { IfNone result ((part : List ℕ) → ¬ (NamesState target.now part)) }
+{
+    match str::from_utf8(target) {
+        Ok(text) => routes.part(path_of(text)),
+        Err(_) => None,
+    }
+}
+
+/// What stands before the query.
+fn path_of(target: &str) -> &str
+    ensures { result.now ≡ path_of target.now }
+{
+    match target.split_once('?') {
+        Some((path, _)) => path,
+        None => target,
+    }
+}
+
+/// A method of a state.
+#[derive(Clone, Copy)]
+enum Method {
+    Get,
+    Post,
+}
+
+/// The method that the text names, byte for byte (RFC 9110, section 9.1).
+fn method_of(text: &[u8]) -> Option<Method>
+    ensures get { IfSome result (λ method. method ≡ Method.Get → text.now ≡ codes "GET") }
+    ensures post { IfSome result (λ method. method ≡ Method.Post → text.now ≡ codes "POST") }
+    ensures absent { IfNone result (¬ (IsStateMethod text.now)) }
+{
+    match text {
+        b"GET" => Some(Method::Get),
+        b"POST" => Some(Method::Post),
+        _ => None,
+    }
+}
+
+/// A copy of the part, if it is a name.
+fn read_name(alloc: Global, part: &str) -> Result<Name, Refusal>
+    ensures ok { IfOk result (λ name. (name ≡ part.now) × IsName part.now) }
+    ensures err { IfErr result (λ refusal. refusal ≢ OutOfMemory → (refusal ≡ BadName) × ¬ (IsName part.now)) }
+{
+    let Ok(text) = String::from_str(alloc, part) else {
+        return Err(Refusal::OutOfMemory);
+    };
+    match Name::read(text) {
+        Some(name) => Ok(name),
+        None => Err(Refusal::BadName),
+    }
+}
