@@ -1,5 +1,5 @@
 -- Laws of specs/Rows.antt.
-use Rattle.std.proofs.Common.{◌≡◌, ◌+◌, ◌-◌, ◌<◌, ℕ, List, [], ◌∷◌, ◌++◌, length, Bool, true, false, ◌||◌, cond, refl, sym, ◌∙◌, ap, subst, arith, append_assoc, append-nil, length-append, map, filter, fold, get_or, set}
+use Rattle.std.proofs.Common.{◌≡◌, ◌+◌, ◌-◌, ℕ, List, [], ◌∷◌, ◌++◌, length, Bool, true, false, ◌||◌, cond, refl, sym, ◌∙◌, ap, subst, arith, append_assoc, append-nil, length-append, map, filter, fold, get_or, set}
 use Rattle.std.proofs.lemmas.List.{map-append}
 use Rattle.std.proofs.Math.Seq.{get_or-append_seam, set-append_seam}
 use Rattle.std.specs.List.{list_any, flat_map}

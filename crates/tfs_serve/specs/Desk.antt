@@ -4,7 +4,6 @@ use Rattle.tfs_state.specs.declared.doc.TheConstants.{MAX_STATE_BYTES}
 use Rattle.tfs_journal.specs.Journal.{Journal}
 use Rattle.tfs_table.specs.declared.call.Call.{Call}
 use Rattle.tfs_table.specs.declared.call.Call.TheVariants.{Read, Change}
-use Rattle.tfs_table.specs.declared.call.Raw.{Raw}
 use Rattle.tfs_table.specs.declared.call.Raw.TheVariants.{Push}
 use Rattle.tfs_table.specs.declared.reply.Reply.{Reply}
 use Rattle.tfs_table.specs.Reply.{reply_value}

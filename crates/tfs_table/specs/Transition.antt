@@ -1,10 +1,9 @@
 -- The transition of a table: from its journal and whether it is stopped, by a call, to a reply, a journal, and whether it
 -- is stopped then.
-use Rattle.std.specs.Prelude.{◌≡◌, ◌+◌, ◌⊎◌, ℕ, Bool, true, false, not, ◌&&◌, nat_le, List, length, if◌then◌else◌, Option, Some, None, is_some, option_map}
+use Rattle.std.specs.Prelude.{◌≡◌, ◌+◌, ◌⊎◌, ℕ, Bool, true, not, ◌&&◌, nat_le, List, length, if◌then◌else◌, Option, Some, None, is_some, option_map}
 use Rattle.std.specs.List.{list_any}
 use Rattle.std.specs.Option.{option_map_or, option_or}
 use Rattle.std.specs.Str.{bytes_eq}
-use Rattle.tfs_state.specs.Document.{Document}
 use Rattle.tfs_state.specs.StateText.{document_of}
 use Rattle.tfs_rules.specs.Act.{ActValue, push}
 use Rattle.tfs_rules.specs.History.{state_of}

@@ -5,7 +5,7 @@ use Rattle.tfs_rules.specs.Verdict.{verdict_over}
 use Rattle.tfs_journal.specs.Journal.{with_entry}
 use Rattle.tfs_serve.specs.Rows.{IsPlaceOf, has_row, AreRowsOf}
 use Rattle.tfs_serve.specs.declared.row.Row.{Row}
-use Rattle.tfs_serve.proofs.RowLemmas.{standing_at_place, standing_absent, rows_changed, rows_added}
+use Rattle.tfs_serve.proofs.RowLemmas.{standing_at_place, rows_changed, rows_added}
 use Rattle.tfs_serve.proofs.rows.commit_at.Goals as goal
 
 pub commit-requires : goal.commit-requires
