@@ -1,3 +1,5 @@
 pub mod RowLemmas
 pub mod FirstLemmas
 pub mod IoLemmas
+pub mod ConversationLemmas
+pub mod OutputLemmas

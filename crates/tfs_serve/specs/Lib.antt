@@ -1,2 +1,5 @@
 pub mod Rows
 pub mod Desk
+pub mod Conversation
+pub mod Turns
+pub mod Output

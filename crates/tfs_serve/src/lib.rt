@@ -1,18 +1,26 @@
 //! Conversations over a connection. So far there is a desk that answers calls and keeps its journal in memory.
 #![tactic(auto)]
 
+mod conversation;
 mod desk;
+mod ended;
 mod fault;
 pub mod first;
 mod input;
+mod laws;
 mod output;
 mod reads;
 mod row;
 mod rows;
 
+pub use conversation::converse;
 pub use desk::Desk;
+pub use ended::Ended;
 pub use fault::ServeFault;
+pub use laws::bytes_have_one_output;
 pub use reads::{MAX_READS, Reads};
 
+#[cfg(test)]
+mod conversation_tests;
 #[cfg(test)]
 mod tests;

@@ -1,0 +1,131 @@
+-- Bytes have one output.
+use Rattle.std.proofs.Common.{◌≡◌, ◌<◌, ◌+◌, ℕ, List, [], ◌∷◌, ◌++◌, length, drop, Result, Ok, Err, refl, sym, ◌∙◌, ap, subst, arith, inl, inr, append_assoc}
+use Rattle.std.proofs.Math.Seq.{drop-append_seam}
+use Rattle.std.proofs.lemmas.List.{length-append}
+use Rattle.tfs_journal.specs.Journal.{Journal}
+use Rattle.tfs_table.specs.declared.call.Call.{Call}
+use Rattle.tfs_table.specs.declared.reply.Reply.{Reply}
+use Rattle.tfs_table.specs.declared.refusal.Refusal.{Refusal}
+use Rattle.tfs_table.specs.declared.refusal.Refusal.TheVariants.{OutOfMemory}
+use Rattle.tfs_table.specs.Reply.{ReplyValue, refused, reply_value}
+use Rattle.tfs_table.specs.Transition.{TableModel}
+use Rattle.tfs_http.specs.Request.{RequestValue}
+use Rattle.tfs_http.specs.Form.{form_of}
+use Rattle.tfs_http.specs.Framing.{Frames, BeginsWith, ReadsMessage, framing_refusal}
+use Rattle.tfs_http.specs.Routing.{RoutesTo}
+use Rattle.tfs_http.specs.ReplyText.{reply_text}
+use Rattle.tfs_http.specs.declared.taken.Take.{Take}
+use Rattle.tfs_http.specs.declared.taken.Take.TheVariants.{Got, Fault}
+use Rattle.tfs_serve.specs.Desk.{AnswersCall}
+use Rattle.tfs_serve.specs.Conversation.{AnswersRequest, Exchange, Serves, Ends, closing_form}
+use Rattle.tfs_serve.specs.Output.{HadMemory, HasOutput}
+use Rattle.tfs_serve.specs.declared.ended.Ended.{Ended}
+use Rattle.tfs_serve.specs.declared.ended.Ended.TheVariants.{Clean, Cut, Asked, Refused}
+use Rattle.tfs_serve.proofs.ConversationLemmas.{frame_is_no_empty_text, no_refusal_of_no_bytes}
+
+-- ---- the answer to a request
+
+-- A desk in memory that had memory gives the model's answer.
+memory_step : (j k l : Journal) (call : Call) (given also : Reply) → AnswersCall j call given k → AnswersCall j call also l
+    → ¬ (reply_value given ≡ refused OutOfMemory) → ¬ (reply_value also ≡ refused OutOfMemory) → (reply_value given ≡ reply_value also) × (k ≡ l)
+memory_step j k l call given also (inl a) (inl b) had has = (a.0 ∙ sym b.0, ap (λ (m : TableModel). m.journal) (a.1 ∙ sym b.1))
+memory_step j k l call given also (inr a) b had has = absurd (had a.0)
+memory_step j k l call given also (inl a) (inr b) had has = absurd (has b.0)
+
+module _ (routed : (r : RequestValue) (x y : Result Call Refusal) → RoutesTo r x → RoutesTo r y → x ≡ y) where
+  answers_once : (j k l : Journal) (r : RequestValue) (reply also : ReplyValue) → AnswersRequest AnswersCall j r reply k → AnswersRequest AnswersCall j r also l
+      → ¬ (reply ≡ refused OutOfMemory) → ¬ (also ≡ refused OutOfMemory) → (reply ≡ also) × (k ≡ l)
+  answers_once j k l r reply also (inr (inl a)) b had has = absurd (had a.0)
+  answers_once j k l r reply also a (inr (inl b)) had has = absurd (has b.0)
+  answers_once j k l r reply also (inl a) (inl b) had has =
+      let same = routed r (Err a.0) (Err b.0) a.1 b.1 in
+      let refusal : a.0 ≡ b.0 = cc in
+      (a.2 ∙ ap refused refusal ∙ sym b.2, a.3 ∙ sym b.3)
+  answers_once j k l r reply also (inl a) (inr (inr b)) had has =
+      let same = routed r (Err a.0) (Ok b.0) a.1 b.1 in cc
+  answers_once j k l r reply also (inr (inr a)) (inl b) had has =
+      let same = routed r (Ok a.0) (Err b.0) a.1 b.1 in cc
+  answers_once j k l r reply also (inr (inr a)) (inr (inr b)) had has =
+      let same = routed r (Ok a.0) (Ok b.0) a.1 b.1 in
+      let call : a.0 ≡ b.0 = cc in
+      let step = memory_step j k l b.0 a.2 b.2 (subst (λ (x : Call). AnswersCall j x a.2 k) call a.3) b.3 (λ e. had (a.4 ∙ e)) (λ e. has (b.4 ∙ e)) in
+      (a.4 ∙ step.0 ∙ sym b.4, step.1)
+
+-- ---- the first message
+
+module _ (framed : (bytes : List ℕ) (t u : Take) → Frames bytes t → Frames bytes u → t ≡ u) where
+  -- The ends of a conversation with a rest.
+  ends_once : (rest last also : List ℕ) (d e : Ended) → Ends rest last d → Ends rest also e → (last ≡ also) × (d ≡ e)
+  ends_once rest last also Clean Clean a b = (a.1 ∙ sym b.1, refl)
+  ends_once rest last also Clean Cut a b = absurd (b.0 a.0)
+  ends_once rest last also Clean Refused a b = absurd (no_refusal_of_no_bytes b.0 (subst (λ (t : List ℕ). framing_refusal t b.0) a.0 b.1))
+  ends_once rest last also Cut Clean a b = absurd (a.0 b.0)
+  ends_once rest last also Cut Cut a b = (a.2 ∙ sym b.2, refl)
+  ends_once rest last also Cut Refused a b = absurd (a.1.no_refusal b.0 b.1)
+  ends_once rest last also Refused Clean a b = absurd (no_refusal_of_no_bytes a.0 (subst (λ (t : List ℕ). framing_refusal t a.0) b.0 a.1))
+  ends_once rest last also Refused Cut a b = absurd (b.1.no_refusal a.0 a.1)
+  ends_once rest last also Refused Refused a b =
+      let same : Fault a.0 ≡ Fault b.0 = framed rest (Fault a.0) (Fault b.0) a.1 b.1 in
+      let refusal : a.0 ≡ b.0 = cc in
+      (a.2 ∙ ap (λ r. reply_text (refused r) closing_form) refusal ∙ sym b.2, refl)
+  ends_once rest last also Asked e a b = absurd a
+  ends_once rest last also Clean Asked a b = absurd b
+  ends_once rest last also Cut Asked a b = absurd b
+  ends_once rest last also Refused Asked a b = absurd b
+
+  -- A conversation doesn't end before a message.
+  no_end_before : (bytes rest last frame after : List ℕ) (d : Ended) (r : RequestValue) → bytes ≡ rest → Ends rest last d → bytes ≡ frame ++ after → ReadsMessage frame r → ⊥
+  no_end_before bytes rest last frame after Clean r is end parts m =
+      let some : 0 < length frame = frame_is_no_empty_text frame r m in
+      let none : 0 ≡ length frame + length after = ap (λ (t : List ℕ). length t) (sym end.0 ∙ sym is ∙ parts) ∙ length-append frame after in
+      omega arith
+  no_end_before bytes rest last frame after Cut r is end parts m = end.1.no_message frame after r (sym is ∙ parts) m
+  no_end_before bytes rest last frame after Asked r is end parts m = end
+  no_end_before bytes rest last frame after Refused r is end parts m =
+      let begins : BeginsWith rest r (length frame) = record { frame = frame; rest = after; parts = sym is ∙ parts; used_is = refl; reads = m } in
+      let same : Fault end.0 ≡ Got r (length frame) = framed rest (Fault end.0) (Got r (length frame)) end.1 begins in
+      cc
+
+  -- Bytes begin with one message, and have one rest behind it.
+  message_once : (bytes frame after other behind : List ℕ) (r s : RequestValue) → bytes ≡ frame ++ after → bytes ≡ other ++ behind → ReadsMessage frame r → ReadsMessage other s
+      → (r ≡ s) × (after ≡ behind)
+  message_once bytes frame after other behind r s parts pieces m n =
+      let begins : BeginsWith bytes r (length frame) = record { frame = frame; rest = after; parts = parts; used_is = refl; reads = m } in
+      let starts : BeginsWith bytes s (length other) = record { frame = other; rest = behind; parts = pieces; used_is = refl; reads = n } in
+      let same : Got r (length frame) ≡ Got s (length other) = framed bytes (Got r (length frame)) (Got s (length other)) begins starts in
+      let request : r ≡ s = cc in
+      let long : length frame ≡ length other = cc in
+      (request, sym (drop-append_seam frame after) ∙ ap (λ (t : List ℕ). drop (length frame) t) (sym parts ∙ pieces) ∙ ap (λ n. drop n (other ++ behind)) long ∙ drop-append_seam other behind)
+
+  -- ---- the whole conversation
+
+  module _ (routed : (r : RequestValue) (x y : Result Call Refusal) → RoutesTo r x → RoutesTo r y → x ≡ y) where
+    output_once : (j k l : Journal) (bytes rest left text also last end : List ℕ) (d e : Ended) (xs ys : List Exchange)
+        → Serves AnswersCall j bytes xs k rest text → Serves AnswersCall j bytes ys l left also → Ends rest last d → Ends left end e → HadMemory xs → HadMemory ys
+        → (k ≡ l) × (text ++ last ≡ also ++ end) × (d ≡ e)
+    output_once j k l bytes rest left text also last end d e [] [] s t ends stops had has =
+        let same = ends_once rest last end d e ends (subst (λ (b : List ℕ). Ends b end e) (sym t.0 ∙ s.0) stops) in
+        (s.2 ∙ sym t.2, ap (λ (w : List ℕ). w ++ last) s.1 ∙ same.0 ∙ ap (λ (w : List ℕ). w ++ end) (sym t.1), same.1)
+    output_once j k l bytes rest left text also last end d e [] (y ∷ ys) s t ends stops had has =
+        absurd (no_end_before bytes rest last t.0 t.1 d y.request s.0 ends t.2 t.3)
+    output_once j k l bytes rest left text also last end d e (x ∷ xs) [] s t ends stops had has =
+        absurd (no_end_before bytes left end s.0 s.1 e x.request t.0 stops s.2 s.3)
+    output_once j k l bytes rest left text also last end d e (x ∷ xs) (y ∷ ys) s t ends stops had has =
+        let message = message_once bytes s.0 s.1 t.0 t.1 x.request y.request s.2 t.2 s.3 t.3 in
+        let answer = answers_once routed j s.4 t.4 y.request x.reply y.reply (subst (λ (r : RequestValue). AnswersRequest AnswersCall j r x.reply s.4) message.0 s.5) t.5 had.0 has.0 in
+        let later = output_once s.4 k l s.1 rest left s.6 t.6 last end d e xs ys s.8
+        (subst (λ (b : List ℕ). Serves AnswersCall s.4 b ys l left t.6) (sym message.1) (subst (λ (m : Journal). Serves AnswersCall m t.1 ys l left t.6) (sym answer.1) t.8)) ends stops had.1 has.1 in
+        let front : reply_text x.reply (form_of x.request) ≡ reply_text y.reply (form_of y.request) =
+        ap (λ (v : ReplyValue). reply_text v (form_of x.request)) answer.0 ∙ ap (λ (r : RequestValue). reply_text y.reply (form_of r)) message.0 in (
+          later.0,
+          ap (λ (w : List ℕ). w ++ last) s.7 ∙ append_assoc (reply_text x.reply (form_of x.request)) s.6 last ∙ ap (λ (w : List ℕ). w ++ (s.6 ++ last)) front
+              ∙ ap (λ (w : List ℕ). reply_text y.reply (form_of y.request) ++ w) later.1 ∙ sym (append_assoc (reply_text y.reply (form_of y.request)) t.6 end) ∙ ap (λ (w : List ℕ). w ++ end) (sym t.7),
+          later.2,
+        )
+
+    pub one_output : (j k l : Journal) (bytes text also : List ℕ) (d e : Ended) → HasOutput j k bytes text d → HasOutput j l bytes also e → (k ≡ l) × (text ≡ also) × (d ≡ e)
+    one_output j k l bytes text also d e a b =
+        let x = a.converses in
+        let y = b.converses in
+        let same = output_once j k l bytes x.rest y.rest x.served y.served x.last y.last d e x.has_served.0 y.has_served.0 x.has_served.1 y.has_served.1 x.ends y.ends a.had_memory b.had_memory in
+        (same.0, x.whole ∙ same.1 ∙ sym y.whole, same.2)

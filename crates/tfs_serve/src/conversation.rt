@@ -1,0 +1,194 @@
+//! Conversations: requests in, replies out.
+
+ghost use Rattle.std.specs.Prelude.{◌≡◌, ◌≤◌, ◌<◌, ◌⊎◌, ◌++◌, ℕ, List, [], length, None, Ok, IfOk, IfErr, IfSome, OnOk};
+ghost use Rattle.std.specs.Io.KnownBytes.{Appends, Consumes};
+ghost use Rattle.tfs_table.specs.Reply.{ReplyValue, reply_value};
+ghost use Rattle.tfs_http.specs.Form.{form_of};
+ghost use Rattle.tfs_http.specs.ReplyText.{reply_text};
+ghost use Rattle.tfs_http.specs.declared.limits.TheConstants.{MAX_BODY_BYTES};
+ghost use Rattle.tfs_serve.specs.Conversation.{AnswersRequest, Converses, BreaksOff, IsReadThrough};
+ghost use Rattle.tfs_serve.specs.Turns.{WritesPart, Went, HasEnded, HasBroken, work_left};
+ghost use Rattle.tfs_serve.specs.declared.ended.Ended.TheVariants.{Clean, Cut};
+
+use crate::desk::Desk;
+use crate::ended::Ended;
+use crate::fault::ServeFault;
+use crate::input::{Input, fill};
+use crate::output::write_out;
+use crate::reads::Reads;
+use std::alloc::Global;
+use std::io::{Read, Write};
+use tfs_http::{Form, Framed, Request, Routes, call_of, frame, write_reply};
+use tfs_table::{Refusal, Reply};
+
+/// The form of a reply after which the conversation ends.
+const CLOSING: Form = Form {
+    close: true,
+    bare: false,
+};
+
+/// Answers each message as soon as it is whole, until the input ends or a message is refused whose end isn't known. Each
+/// read is counted before it is made.
+pub fn converse<R: Read, W: Write, D: Desk>(
+    alloc: Global,
+    reader: &mut R,
+    writer: &mut W,
+    desk: &mut D,
+    reads: &mut Reads,
+) -> Result<Ended, ServeFault>
+    ensures ended { IfOk result (λ ended. (bytes : List ℕ) × (text : List ℕ)
+        × Consumes (R.remaining reader.old) (R.remaining reader.new) bytes
+        × Appends (W.contents writer.old) (W.contents writer.new) text
+        × Converses D.step desk.old desk.new bytes text ended) }
+    ensures through { IfOk result (λ ended. IsReadThrough ended (R.remaining reader.new)) }
+    ensures fault { IfErr result (λ fault. (bytes : List ℕ) × (text : List ℕ)
+        × Consumes (R.remaining reader.old) (R.remaining reader.new) bytes
+        × Appends (W.contents writer.old) (W.contents writer.new) text
+        × BreaksOff D.step desk.old desk.new bytes text fault reads.new) }
+{
+    let Ok(routes) = Routes::new(alloc) else {
+        return Err(ServeFault::NoMemory);
+    };
+    let Ok(mut input) = Input::new(alloc) else {
+        return Err(ServeFault::NoMemory);
+    };
+    run(alloc, &routes, &mut input, reader, writer, desk, reads)
+}
+
+/// Takes turns until the conversation ends.
+fn run<R: Read, W: Write, D: Desk>(
+    alloc: Global,
+    routes: &Routes,
+    input: &mut Input,
+    reader: &mut R,
+    writer: &mut W,
+    desk: &mut D,
+    reads: &mut Reads,
+) -> Result<Ended, ServeFault>
+    ensures ended { IfOk result (HasEnded D.step desk.old desk.new (R.remaining reader.old) (R.remaining reader.new)
+        (W.contents writer.old) (W.contents writer.new) input.old) }
+    ensures fault { IfErr result (λ fault. HasBroken D.step desk.old desk.new (R.remaining reader.old) (R.remaining reader.new)
+        (W.contents writer.old) (W.contents writer.new) input.old fault reads.new) }
+{
+    loop {
+        match turn(alloc, routes, input, reader, writer, desk, reads) {
+            Ok(end) => {
+                if let Some(ended) = end {
+                    return Ok(ended);
+                }
+            }
+            Err(fault) => return Err(fault),
+        }
+    }
+}
+
+/// Reads more where more is wanted, or else answers the message that comes first. Tells how the conversation ends, if it
+/// does.
+fn turn<R: Read, W: Write, D: Desk>(
+    alloc: Global,
+    routes: &Routes,
+    input: &mut Input,
+    reader: &mut R,
+    writer: &mut W,
+    desk: &mut D,
+    reads: &mut Reads,
+) -> Result<Option<Ended>, ServeFault>
+    ensures went { result ≡ Ok None → Went D.step desk.old desk.new (R.remaining reader.old) (R.remaining reader.new)
+        (W.contents writer.old) (W.contents writer.new) input.old input.new }
+    ensures less { result ≡ Ok None → work_left reads.new input.new < work_left reads.old input.old }
+    ensures ended { IfOk result (λ end. IfSome end (HasEnded D.step desk.old desk.new (R.remaining reader.old) (R.remaining reader.new)
+        (W.contents writer.old) (W.contents writer.new) input.old)) }
+    ensures fault { IfErr result (λ fault. HasBroken D.step desk.old desk.new (R.remaining reader.old) (R.remaining reader.new)
+        (W.contents writer.old) (W.contents writer.new) input.old fault reads.new) }
+{
+    let framed = match frame(alloc, input.unused()) {
+        Ok(framed) => framed,
+        Err(_) => return Err(ServeFault::NoMemory),
+    };
+    match framed {
+        Framed::Want(wanted) => match fill(input, reader, reads, wanted) {
+            Ok(more) => {
+                if more {
+                    return Ok(None);
+                }
+                Ok(Some(end_of(input.unused())))
+            }
+            Err(fault) => Err(fault),
+        },
+        Framed::Got(request, used) => {
+            input.consume(used);
+            match reply_to(alloc, routes, writer, desk, request) {
+                Ok(()) => Ok(None),
+                Err(fault) => Err(fault),
+            }
+        }
+        Framed::Fault(refusal) => match send(alloc, writer, &Reply::Refused(refusal), CLOSING) {
+            Ok(()) => Ok(Some(Ended::Refused)),
+            Err(fault) => Err(fault),
+        },
+    }
+}
+
+/// How the conversation ends with the input.
+fn end_of(rest: &[u8]) -> Ended
+    ensures { ((result ≡ Clean) × (rest.now ≡ [])) ⊎ ((result ≡ Cut) × ¬ (rest.now ≡ [])) }
+{
+    if rest.is_empty() {
+        Ended::Clean
+    } else {
+        Ended::Cut
+    }
+}
+
+/// Answers a request, and writes the text of the reply.
+fn reply_to<W: Write, D: Desk>(
+    alloc: Global,
+    routes: &Routes,
+    writer: &mut W,
+    desk: &mut D,
+    request: Request,
+) -> Result<(), ServeFault>
+    requires { length request.body ≤ MAX_BODY_BYTES }
+    ensures ok { OnOk result ((reply : ReplyValue) × AnswersRequest D.step desk.old request reply desk.new
+        × Appends (W.contents writer.old) (W.contents writer.new) (reply_text reply (form_of request))) }
+    ensures err { IfErr result (λ fault. (reply : ReplyValue) × AnswersRequest D.step desk.old request reply desk.new
+        × WritesPart (W.contents writer.old) (W.contents writer.new) (reply_text reply (form_of request)) fault) }
+{
+    let form = request.form();
+    let reply = answer(alloc, routes, desk, request);
+    if let Err(fault) = send(alloc, writer, &reply, form) {
+        return Err(fault);
+    }
+    Ok(())
+}
+
+/// The reply to a request: its refusal by routing, or the desk's.
+fn answer<D: Desk>(alloc: Global, routes: &Routes, desk: &mut D, request: Request) -> Reply
+    requires { length request.body ≤ MAX_BODY_BYTES }
+    ensures { AnswersRequest D.step desk.old request (reply_value result) desk.new }
+{
+    match call_of(alloc, routes, request) {
+        Ok(call) => desk.answer(call),
+        Err(refusal) => Reply::Refused(refusal),
+    }
+}
+
+/// Writes the text of a reply; after a fault a part of it is written.
+fn send<W: Write>(
+    alloc: Global,
+    writer: &mut W,
+    reply: &Reply,
+    form: Form,
+) -> Result<(), ServeFault>
+    ensures ok { OnOk result (Appends (W.contents writer.old) (W.contents writer.new) (reply_text (reply_value reply.now) form)) }
+    ensures err { IfErr result (λ fault. WritesPart (W.contents writer.old) (W.contents writer.new) (reply_text (reply_value reply.now) form) fault) }
+{
+    let mut text = Vec::new(alloc);
+    if write_reply(alloc, reply, form, &mut text).is_err() {
+        return Err(ServeFault::NoMemory);
+    }
+    if let Err(fault) = write_out(writer, text.as_slice()) {
+        return Err(fault);
+    }
+    Ok(())
+}
