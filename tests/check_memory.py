@@ -1,0 +1,94 @@
+"""Refuses the built program's requests for memory, by a preloaded shim: each request of the stored run in turn, and all
+from each one on. Each run ends by itself, and what it wrote is whole replies that the model allows.
+
+All requests are the program's own, by malloc and realloc; the loader and the C library make none. The first ones are
+for the arguments: refused, the arguments can't be had and count as other arguments."""
+import os
+import subprocess
+import sys
+import tempfile
+from pathlib import Path
+
+from stdio_model import DONE, refusal_text, reply_text
+from stdio_program import CRATE, PROGRAM, S1, SECONDS, USAGE, checks_in, expect, run_checks
+
+FOLDER = tempfile.TemporaryDirectory(prefix="tfstated-")
+SHIM = Path(FOLDER.name) / "refuse_memory.so"
+PUSH_AND_GET = (CRATE / "stdin").read_bytes()
+STATE = reply_text(200, S1)
+NO_MEMORY = refusal_text("OutOfMemory")
+NO_STATE = refusal_text("NoState")
+FAULT = b"tfstated: NoMemory\n"
+FOREVER = 10**9
+
+
+def build_shim():
+    source = Path(__file__).resolve().parent / "refuse_memory.c"
+    subprocess.run(["gcc", "-O1", "-Wall", "-shared", "-fPIC", "-o", str(SHIM), str(source)], check=True)
+
+
+def run_refused(first, last, word="stdio"):
+    """Runs the program, whose requests from the first to the last are refused: what it wrote, its status, what it wrote on
+    standard error, and the counts of its own requests and of others."""
+    reading, writing = os.pipe()
+    given = {"LD_PRELOAD": str(SHIM), "REFUSE_FROM": str(first), "REFUSE_TO": str(last), "COUNTS": str(writing)}
+    how = {"input": PUSH_AND_GET, "capture_output": True, "timeout": SECONDS, "check": False}
+    ran = subprocess.run([PROGRAM, word], env=given, pass_fds=[writing], **how)
+    os.close(writing)
+    with os.fdopen(reading) as counts:
+        own, others = map(int, counts.read().split())
+    return ran.stdout, ran.returncode, ran.stderr, own, others
+
+
+def ample_counts():
+    """How many requests the stored run makes, and how many of them are for the arguments."""
+    output, status, errors, requests, others = run_refused(0, 0)
+    expect((output, status, errors, others), (DONE + STATE, 0, b"", 0), "no request is refused")
+    output, status, errors, for_arguments, others = run_refused(0, 0, "other")
+    expect((output, status, errors, others), (b"", 2, USAGE, 0), "other arguments of the same length")
+    return requests, for_arguments
+
+
+def whole_outputs(refused_once):
+    """The outputs of a conversation that ended without a fault, at least one of its replies being OutOfMemory."""
+    outputs = {DONE + NO_MEMORY, NO_MEMORY + NO_STATE}
+    return outputs if refused_once else outputs | {NO_MEMORY + NO_MEMORY}
+
+
+def expect_allowed(ran, request, for_arguments, refused_once):
+    """Fails where a run did something else than a refused request allows."""
+    output, status, errors, _, others = ran
+    expect(others, 0, f"request {request}: requests of others")
+    if request <= for_arguments:
+        expect((output, status, errors), (b"", 2, USAGE), f"request {request}, for the arguments")
+    elif status == 0:
+        expect((output in whole_outputs(refused_once), errors), (True, b""), f"request {request}, {output}")
+    else:
+        before = {b"", DONE, DONE + STATE} | ({NO_MEMORY} if not refused_once else set())
+        expect((status, errors), (1, FAULT), f"request {request}")
+        expect(output in before, True, f"request {request}, {output}")
+
+
+def check_each_request_of_the_stored_run_is_refused_in_turn():
+    requests, for_arguments = ample_counts()
+    expect(0 < for_arguments < requests, True, "there are requests of both sorts")
+    seen = set()
+    for request in range(1, requests + 1):
+        ran = run_refused(request, request)
+        expect_allowed(ran, request, for_arguments, refused_once=True)
+        seen.add(ran[:2])
+    expect(run_refused(requests + 1, FOREVER)[:3], (DONE + STATE, 0, b""), "there is no further request")
+    for output, status in [(b"", 1), (DONE, 1), (NO_MEMORY + NO_STATE, 0), (DONE + NO_MEMORY, 0)]:
+        expect((output, status) in seen, True, f"some request gives {status}, {output}")
+
+
+def check_all_requests_from_each_one_on_are_refused():
+    requests, for_arguments = ample_counts()
+    for request in range(1, requests + 1):
+        ran = run_refused(request, FOREVER)
+        expect_allowed(ran, request, for_arguments, refused_once=False)
+
+
+if __name__ == "__main__":
+    build_shim()
+    sys.exit(run_checks(checks_in(globals())))

@@ -1,0 +1,286 @@
+"""Drives the built program over pipes: `tfstated stdio` and its arguments. What it must write is written here by hand, or
+computed by the plain model of stdio_model.py."""
+import os
+import random
+import subprocess
+import sys
+
+import stdio_model as model
+from stdio_model import CLEAN, CUT, DONE, REFUSED, refusal_text, reply_text
+from stdio_program import (
+    MAX_READ, PROGRAM, S1, S2, SECONDS, USAGE, Talk, checks_in, expect, run, run_checks, run_in_pieces)
+
+PUSH_HEAD = b"POST /state/a HTTP/1.1\r\nHost: h\r\nContent-Length: 41\r\n\r\n"
+GET = b"GET /state/a HTTP/1.1\r\nHost: h\r\n\r\n"
+PUSH_AND_GET = PUSH_HEAD + S1 + GET
+REPLIES = (
+    b"HTTP/1.1 200 OK\r\nContent-Length: 0\r\n\r\n"
+    b"HTTP/1.1 200 OK\r\nContent-Type: application/json\r\nContent-Length: 41\r\n\r\n"
+    b'{"version":4, "serial":1 ,"lineage":"L1"}'
+)
+NO_STATE = (
+    b"HTTP/1.1 404 Not Found\r\nContent-Type: application/json\r\nContent-Length: 19\r\n\r\n"
+    b'{"error":"NoState"}'
+)
+# Three that are refused by framing, and one that isn't finished unless more bytes follow.
+BROKEN = [
+    b"GET\r\n\r\n", b"\x00\n\n", b"POST / HTTP/1.1\nContent-Length: x\n\n", b"POST / HTTP/1.1\nContent-Length: 9\n\n1",
+]
+MAX_READS = 1048576
+MAX_BODY = 16777216
+
+
+def push(body, name="a"):
+    """A request that pushes a state."""
+    return f"POST /state/{name} HTTP/1.1\r\nHost: h\r\nContent-Length: {len(body)}\r\n\r\n".encode() + body
+
+
+def state(serial, lineage="L1"):
+    """A state's text."""
+    return f'{{"version":4,"serial":{serial},"lineage":"{lineage}"}}'.encode()
+
+
+def state_of_size(size):
+    """A valid state of so many bytes."""
+    start, end = b'{"version":4,"serial":1,"lineage":"L1","filler":"', b'"}'
+    return start + b"x" * (size - len(start) - len(end)) + end
+
+
+def pieces_of(data, size):
+    """The bytes in pieces of so many."""
+    return [data[at : at + size] for at in range(0, len(data), size)]
+
+
+def prefix_is(count):
+    """What the first so many bytes of the two requests give: the bytes written, and the status."""
+    written = 0 if count < 96 else 38 if count < 130 else 150
+    return REPLIES[:written], CLEAN if count in (0, 96, 130) else CUT, b""
+
+
+def check_a_push_and_a_get_are_answered():
+    expect((len(PUSH_AND_GET), len(REPLIES)), (130, 150))
+    expect(run(PUSH_AND_GET), (REPLIES, CLEAN, b""))
+
+
+def check_each_prefix_ends_as_it_should():
+    for count in range(131):
+        expect(run(PUSH_AND_GET[:count]), prefix_is(count), f"the first {count} bytes")
+
+
+def check_a_cut_at_each_byte_changes_nothing():
+    for at in range(1, 130):
+        talk = Talk()
+        talk.give(PUSH_AND_GET[:at])
+        talk.give(PUSH_AND_GET[at:])
+        expect(talk.end(), (REPLIES, CLEAN, b""), f"cut at {at}")
+
+
+def check_one_byte_at_a_time_changes_nothing():
+    talk = Talk()
+    for byte in pieces_of(PUSH_AND_GET, 1):
+        talk.give(byte)
+    expect(talk.end(), (REPLIES, CLEAN, b""))
+
+
+def check_a_message_is_answered_before_the_next_byte_is_there():
+    talk = Talk()
+    talk.give(PUSH_AND_GET[:96])
+    expect(talk.take(38), REPLIES[:38])
+    talk.give(GET)
+    expect(talk.take(112), REPLIES[38:])
+    expect(talk.end(), (b"", CLEAN, b""))
+
+
+def check_a_name_with_no_state_is_told():
+    expect(len(NO_STATE), 97)
+    expect(run(GET), (NO_STATE, CLEAN, b""))
+
+
+def check_pushes_are_judged_by_serial_and_bytes():
+    wanted = DONE + DONE + refusal_text("SerialReused") + REPLIES[38:]
+    expect(run(push(S1) + push(S1) + push(S1 + b" ") + GET), (wanted, CLEAN, b""))
+    wanted = DONE + DONE + refusal_text("SerialTooLow") + reply_text(200, S2)
+    expect(run(push(S1) + push(S2) + push(S1) + GET), (wanted, CLEAN, b""))
+
+
+def check_serials_have_64_bits():
+    pushes = push(state(18446744073709551615)) + push(state(0)) + push(state(18446744073709551616))
+    expect(run(pushes), (DONE + refusal_text("SerialTooLow") + refusal_text("BadState"), CLEAN, b""))
+
+
+def check_another_lineage_is_refused():
+    expect(run(push(S1) + push(state(9, "L2"))), (DONE + refusal_text("LineageDiffers"), CLEAN, b""))
+
+
+def check_states_that_are_none_are_refused():
+    bad = [b'{"version":3,"serial":1,"lineage":"L1"}', state(1, ""), b"", b"abc", b"\xff", S1 + b"x", b"[4]"]
+    good = b'{"version":4,"serial":0,"lineage":"L1","resources":null,"more":[1]}'
+    wanted = refusal_text("BadState") * len(bad) + DONE
+    expect(run(b"".join(map(push, bad)) + push(good)), (wanted, CLEAN, b""))
+
+
+def check_refused_heads_end_the_conversation():
+    def fields(count):
+        return b"GET /state/a HTTP/1.1\r\n" + b"A: b\r\n" * count + b"\r\n"
+
+    def length(*values):
+        lines = b"".join(b"Content-Length: %s\r\n" % value for value in values)
+        return b"POST /state/a HTTP/1.1\r\n" + lines + b"\r\n"
+
+    refused = [
+        (length(b"16777217"), "BodyTooLarge"), (length(b"9" * 400), "BodyTooLarge"), (fields(65), "HeadTooLarge"),
+        (b"GET /" + b"a" * 16379, "HeadTooLarge"), (b"\r\n" * 8192, "HeadTooLarge"), (b"GET\r\n\r\n", "BadHead"),
+        (length(b"1", b"1"), "BadLength"), (length(b"+3"), "BadLength"), (length(b""), "BadLength"),
+    ]
+    for data, name in refused:
+        expect(run(data + GET), (refusal_text(name, close=True), REFUSED, b""), name)
+    expect(refusal_text("BodyTooLarge", close=True), b"HTTP/1.1 413 Content Too Large\r\nConnection: close\r\n"
+           b'Content-Type: application/json\r\nContent-Length: 24\r\n\r\n{"error":"BodyTooLarge"}')
+    expect(run(fields(64)), (NO_STATE, CLEAN, b""), "64 fields")
+    expect(run(b"GET /" + b"a" * 16378), (b"", CUT, b""), "16,383 bytes of a head")
+    expect(run(length(b" 00041\t") + S1), (DONE, CLEAN, b""), "zeros and blanks")
+
+
+def check_targets_and_methods_are_judged_in_order():
+    table = [
+        (b"GET /state/", "NoRoute"), (b"GET /", "NoRoute"), (b"GET /state/a/b", "NoRoute"), (b"GET *", "NoRoute"),
+        (b"PUT /state/a", "MethodNotAllowed"), (b"get /state/a", "MethodNotAllowed"),
+        (b"PUT /state/a%20b", "MethodNotAllowed"), (b"GET /state/a%20b", "BadName"), (b"GET /state/" + b"n" * 65, "BadName"),
+        (b"GET /state/" + b"n" * 64, "NoState"), (b"GET /state/a?b=c", "NoState"), (b"GET /state/..", "NoState"),
+    ]
+    requests = b"".join(line + b" HTTP/1.1\r\nHost: h\r\n\r\n" for line, _ in table)
+    expect(run(requests), (b"".join(refusal_text(name) for _, name in table), CLEAN, b""))
+    expect(refusal_text("MethodNotAllowed"), b"HTTP/1.1 405 Method Not Allowed\r\nAllow: GET, POST\r\n"
+           b'Content-Type: application/json\r\nContent-Length: 28\r\n\r\n{"error":"MethodNotAllowed"}')
+
+
+def check_a_body_that_is_too_large_is_refused_at_once():
+    talk = Talk()
+    talk.give(b"POST /state/a HTTP/1.1\r\nHost: h\r\nContent-Length: 16777217\r\n\r\n")
+    wanted = refusal_text("BodyTooLarge", close=True)
+    expect(talk.take(len(wanted) + 1), wanted)
+    expect(talk.process.wait(timeout=SECONDS), REFUSED)
+    talk.end()
+
+
+def check_a_body_of_16_mib_is_taken_in_pieces():
+    body = state_of_size(MAX_BODY)
+    for size in (64, 4096):
+        talk = Talk()
+        for piece in pieces_of(push(body), size):
+            talk.process.stdin.write(piece)
+        expect(talk.take(38), DONE, f"pieces of {size}")
+        talk.process.stdin.write(GET)
+        output, status, errors = talk.end()
+        expect((output == reply_text(200, body), status, errors), (True, CLEAN, b""), f"pieces of {size}, GET")
+
+
+def check_reads_are_limited():
+    short = push(S1 + b" " * (MAX_READS - 1 - len(push(S1)) - 5))
+    expect(len(short), MAX_READS - 1)
+    expect(run_in_pieces(pieces_of(short, 1)), (DONE, CLEAN, b""), "the last read tells the end")
+    expect(run_in_pieces(pieces_of(b"\n" + short, 1)), (DONE, 1, b"tfstated: TooManyReads\n"), "one more is wanted")
+    unfinished = push(state_of_size(MAX_BODY))[: MAX_READS + 1]
+    expect(run_in_pieces(pieces_of(unfinished, 1)), (b"", 1, b"tfstated: TooManyReads\n"), "no reply yet")
+
+
+def random_state(chance):
+    """A state's text, or what only looks like one."""
+    text = state(chance.randrange(4), chance.choice(["L1", "L1", "L2"])) + b" " * chance.choice([0, 0, 1, 3000])
+    return chance.choice([text] * 6 + [text[:-1] + b"}", text + b"x", text.replace(b"4", b"4.0"), b"", b"[]", b"\xff"])
+
+
+def random_message(chance):
+    """A request as bytes; a rare one is refused by framing or isn't finished."""
+    name = chance.choice(["a", "a", "b", "c", "a/b", "a%20", "n" * 65])
+    if chance.random() < 0.02:
+        return chance.choice(BROKEN)
+    if chance.random() < 0.5:
+        end = chance.choice([b"\r\n", b"\n"])
+        line = b"%s /state/%s HTTP/1.%d" % (chance.choice([b"GET", b"GET", b"PUT"]), name.encode(), chance.choice([1, 1, 0]))
+        return b"\r\n" * chance.choice([0, 0, 2]) + line + end + b"X-Long: " + b"y" * chance.randrange(600) + end + end
+    return push(random_state(chance), name)
+
+
+def check_random_streams_in_random_cuts_are_answered_as_the_model_says():
+    chance = random.Random(20261122)
+    ends = set()
+    for turn in range(200):
+        data = b"".join(random_message(chance) for _ in range(chance.randrange(1, 40)))
+        data = data[: max(1, len(data) - chance.choice([0, 0, 0, chance.randrange(1, 40)]))]
+        cuts = {chance.randrange(len(data)) for _ in range(chance.randrange(30))} | {*range(0, len(data), MAX_READ)}
+        starts = sorted(cuts)
+        pieces = [data[a:b] for a, b in zip(starts, [*starts[1:], len(data)])]
+        output, status = model.conversation(data)
+        expect(run_in_pieces(pieces), (output, status, b""), f"stream {turn}")
+        ends.add(status)
+    expect(ends, {CLEAN, CUT, REFUSED}, "each end is met")
+
+
+def check_what_isnt_http_is_refused_or_cut():
+    table = [
+        (b"\x16\x03\x01\x02\x00\x01\x00\x01\xfc\x03\x03", b"", CUT), (b"\x00" * 16383, b"", CUT),
+        (b"\x00" * 16384, refusal_text("HeadTooLarge", close=True), REFUSED), (b"\r\n\r\n", b"", CUT),
+    ]
+    bad = [b"SSH-2.0-client\r\n\r\n", b"PRI * HTTP/2.0\r\n\r\nSM\r\n\r\n", b"GET /\r\n\r\n", b"\xff\n\n", b"{}\n\n" + S1]
+    table += [(data, refusal_text("BadHead", close=True), REFUSED) for data in bad]
+    for data, output, status in table:
+        expect(run(data), (output, status, b""), data[:40])
+    chance = random.Random(7)
+    for turn in range(60):
+        size = chance.randrange(1, 40000)
+        data = chance.getrandbits(8 * size).to_bytes(size, "little")
+        expect(run(data), (*model.conversation(data), b""), f"noise {turn}")
+
+
+def check_a_reader_of_the_output_that_goes_away_is_a_fault():
+    reading, writing = os.pipe()
+    os.close(reading)
+    talk = Talk(stdout=writing)
+    os.close(writing)
+    talk.process.stdin.write(PUSH_AND_GET)
+    expect(talk.end()[1:], (1, b"tfstated: Write\n"), "from the start")
+    talk = Talk()
+    talk.give(PUSH_AND_GET[:96])
+    expect(talk.take(38), REPLIES[:38])
+    talk.process.stdout.close()
+    talk.process.stdout = None
+    talk.process.stdin.write(GET)
+    expect(talk.end()[1:], (1, b"tfstated: Write\n"), "after a reply")
+    talk = Talk()
+    talk.process.stdin.write(push(state_of_size(MAX_BODY)) + GET)
+    expect(talk.take(38 + 1000)[:38], DONE)
+    talk.process.stdout.close()
+    talk.process.stdout = None
+    expect(talk.end()[1:], (1, b"tfstated: Write\n"), "inside a reply")
+
+
+def check_input_and_output_that_fail_are_faults():
+    folder = os.open("/", os.O_RDONLY)
+    expect(Talk(stdin=folder).end(), (b"", 1, b"tfstated: Read\n"))
+    os.close(folder)
+    with open("/dev/full", "wb") as full:
+        talk = Talk(stdout=full)
+    talk.process.stdin.write(PUSH_AND_GET)
+    expect(talk.end()[1:], (1, b"tfstated: Write\n"))
+
+
+def check_other_arguments_print_the_usage():
+    others = [
+        ("",), ("stdin",), ("stdio", ""), ("stdio", "stdio"), ("Stdio",), ("stdio ",), ("--help",), (b"\xff",),
+        ("stdio", b"\xff"), ("check", "file"), ("rebase", "old", "new"), ("serve", "127.0.0.1:0", "1", "new"),
+    ]
+    for arguments in others:
+        expect(run(PUSH_AND_GET, *arguments), (b"", 2, USAGE), arguments)
+    bare = subprocess.run([PROGRAM], input=PUSH_AND_GET, capture_output=True, timeout=SECONDS, check=False)
+    expect((bare.stdout, bare.returncode, bare.stderr), (b"", 2, USAGE), "no arguments")
+
+
+def check_a_standard_error_that_is_closed_leaves_the_status():
+    for words, data, status in [("other", b"", 2), ("stdio", PUSH_AND_GET, 1)]:
+        shell = ["sh", "-c", '"$0" "$1" >&- 2>&-', PROGRAM, words]
+        expect(subprocess.run(shell, input=data, timeout=SECONDS, check=False).returncode, status, words)
+
+
+if __name__ == "__main__":
+    sys.exit(run_checks(checks_in(globals())))

@@ -1,0 +1,145 @@
+"""Gets the built program for the checks, runs it over pipes, and counts what passed."""
+import fcntl
+import os
+import signal
+import socket
+import struct
+import subprocess
+import sys
+import termios
+import time
+import traceback
+from pathlib import Path
+
+TOP = Path(__file__).resolve().parent.parent
+CRATE = TOP / "crates" / "tfstated"
+BUILT = CRATE / "out" / "tfstated"
+SECONDS = 60
+MAX_READ = 65536
+
+S1 = b'{"version":4, "serial":1 ,"lineage":"L1"}'
+S2 = S1.replace(b"1 ", b"2 ")
+USAGE = b"usage: tfstated stdio | check FILE | rebase OLD NEW | serve ADDR WORKERS NEW [OLD]\n"
+
+
+def is_current():
+    """Whether the program was built after the last change of what it is built from."""
+    if not BUILT.is_file():
+        return False
+    built = BUILT.stat().st_mtime
+    sources = [TOP / "crates.txt", *TOP.glob("crates/*/src/**/*.rt")]
+    return all(source.stat().st_mtime <= built for source in sources)
+
+
+def program():
+    """The path of the program. `rt ci` leaves it built; where it isn't there, or is older than its sources, it is proved
+    and built now. The variable TFSTATED names another build."""
+    if "TFSTATED" in os.environ:
+        return os.environ["TFSTATED"]
+    if not is_current():
+        built = subprocess.run(["rt", "run", "--", "stdio"], cwd=CRATE, stdin=subprocess.DEVNULL, check=False)
+        if built.returncode != 0:
+            sys.exit("the program can't be built: see `rt run` in crates/tfstated")
+    return str(BUILT)
+
+
+PROGRAM = program()
+
+
+def run(data, *arguments, **how):
+    """Runs the program on all of the bytes: what it wrote, its status, and what it wrote on standard error."""
+    words = [PROGRAM, *(arguments or ("stdio",))]
+    ran = subprocess.run(words, input=data, capture_output=True, timeout=SECONDS, check=False, **how)
+    return ran.stdout, ran.returncode, ran.stderr
+
+
+def expect(found, wanted, about=""):
+    """Fails where two values differ."""
+    if found != wanted:
+        raise AssertionError(f"{about}: found {str(found)[:400]}, wanted {str(wanted)[:400]}")
+
+
+class Talk:
+    """The running program, to which bytes are given and from which they are read in turn."""
+
+    started = []
+
+    def __init__(self, stdin=subprocess.PIPE, stdout=subprocess.PIPE):
+        self.process = subprocess.Popen([PROGRAM, "stdio"], stdin=stdin, stdout=stdout, stderr=subprocess.PIPE, bufsize=0)
+        Talk.started.append(self.process)
+
+    def give(self, piece):
+        """Gives one piece, and waits until the program has taken it."""
+        self.process.stdin.write(piece)
+        end = time.monotonic() + SECONDS
+        while struct.unpack("i", fcntl.ioctl(self.process.stdin, termios.FIONREAD, b"\0" * 4))[0]:
+            if time.monotonic() > end:
+                raise AssertionError("the program doesn't read")
+
+    def take(self, count):
+        """Reads so many bytes, or fewer where the program ends."""
+        found = b""
+        while len(found) < count:
+            piece = self.process.stdout.read(count - len(found))
+            if not piece:
+                break
+            found += piece
+        return found
+
+    def end(self):
+        """Ends the input: what else the program writes, its status, and what it wrote on standard error."""
+        output, errors = self.process.communicate(timeout=SECONDS)
+        return output, self.process.returncode, errors
+
+
+def run_in_pieces(pieces):
+    """Runs the program on pieces of at most 65,536 bytes, the most of one read. Each is a packet of a socket, so that a
+    read takes just one of them."""
+    near, far = socket.socketpair(socket.AF_UNIX, socket.SOCK_SEQPACKET)
+    with near:
+        with far:
+            talk = Talk(stdin=far)
+        try:
+            for piece in pieces:
+                expect(len(piece) <= MAX_READ, True, "a larger packet would lose its end")
+                near.send(piece)
+            near.shutdown(socket.SHUT_WR)
+        except (BrokenPipeError, ConnectionResetError):
+            pass
+        return talk.end()
+
+
+def stop(number, frame):
+    """Fails a check that waits too long."""
+    raise AssertionError("it takes too long")
+
+
+def end_all():
+    """Ends each program that a failed check has left running."""
+    for process in Talk.started:
+        process.kill()
+        process.wait()
+    Talk.started.clear()
+
+
+def run_checks(checks):
+    """Runs the checks, prints the count as the last line, and gives the exit status."""
+    signal.signal(signal.SIGALRM, stop)
+    failed = 0
+    for check in checks:
+        signal.alarm(2 * SECONDS)
+        try:
+            check()
+        except Exception:
+            failed += 1
+            print(f"FAILED {check.__name__}\n{traceback.format_exc(limit=3)}", flush=True)
+        finally:
+            signal.alarm(0)
+            end_all()
+    print(f"{len(checks) - failed} passed, {failed} failed", flush=True)
+    return 1 if failed else 0
+
+
+def checks_in(names):
+    """The functions of a module whose names begin with `check_`, in the order in which they stand."""
+    return [value for name, value in names.items() if name.startswith("check_") and callable(value)]
