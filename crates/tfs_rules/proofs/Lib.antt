@@ -1,1 +1,3 @@
 pub mod HistoryLemmas
+pub mod VerdictLemmas
+pub mod HistoryLawLemmas

@@ -1,4 +1,5 @@
 pub mod Act
 pub mod Name
 pub mod History
+pub mod HistoryLaws
 pub mod Verdict

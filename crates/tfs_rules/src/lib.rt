@@ -1,5 +1,5 @@
-//! The rules of a workspace: which acts it takes over its history, and the state that they leave.
-//! So far an act is a push, and no lock is held.
+//! The rules of a workspace: which acts it takes over its history, and the state and the holder that they leave.
+//! An accepted history keeps the history laws, which speak of positions alone.
 #![tactic(auto)]
 
 mod act;
@@ -9,7 +9,11 @@ mod record;
 mod verdict;
 
 pub use act::Act;
-pub use laws::the_current_state_is_that_of_the_last_push;
+pub use laws::{
+    a_lock_is_the_holders_own_where_its_bytes_are, accepted_histories_keep_the_history_laws,
+    locked_acts_have_a_holder, the_current_state_is_that_of_the_last_push,
+    the_holder_is_that_of_the_last_lock,
+};
 pub use name::{MAX_NAME_BYTES, Name};
 pub use record::Record;
 pub use verdict::Verdict;

@@ -1,22 +1,25 @@
 //! A workspace's record: what its history leaves.
 
-ghost use Rattle.std.specs.Prelude.{◌≡◌, ◌∷◌, [], ◌++◌, None, option_map};
+ghost use Rattle.std.specs.Prelude.{◌≡◌, ◌∷◌, [], ◌++◌, None, option_map, unwrap_or};
 ghost use Rattle.std.specs.Arc.{arc_value};
 ghost use Rattle.tfs_rules.specs.Act.{act_value};
 ghost use Rattle.tfs_rules.specs.History.{History, standing_of};
-ghost use Rattle.tfs_rules.specs.Verdict.{verdict_of, verdict_over, push_verdict};
+ghost use Rattle.tfs_rules.specs.Verdict.{verdict_of, verdict_over, lock_verdict, unlock_verdict, write_verdict, push_verdict};
+ghost use Rattle.tfs_rules.specs.declared.verdict.Verdict.{Verdict};
 ghost use Rattle.tfs_rules.specs.declared.verdict.Verdict.TheVariants.{Accept};
 
 use crate::act::Act;
 use crate::verdict::Verdict;
 use std::marker::Model;
 use std::sync::Arc;
+use tfs_lock::{Id, LockInfo};
 use tfs_state::Doc;
 
-/// What the accepted acts of a workspace leave: its current state, if there is one.
+/// What the accepted acts of a workspace leave: its current state and the holder of its lock, if there are any.
 #[derive(Drop)]
 pub struct Record {
     state: Option<Arc<Doc>>,
+    holder: Option<Arc<LockInfo>>,
 }
 
 impl Model for Record {
@@ -26,7 +29,7 @@ impl Model for Record {
 
     ghost Value = { Standing };
 
-    ghost view = { λ r. record { state = option_map arc_value r.state } };
+    ghost view = { λ r. record { state = option_map arc_value r.state; holder = option_map arc_value r.holder } };
 }
 
 impl Record {
@@ -34,7 +37,10 @@ impl Record {
     pub fn empty() -> Record
         ensures { result ≡ standing_of [] }
     {
-        Record { state: None }
+        Record {
+            state: None,
+            holder: None,
+        }
     }
 
     /// Whether the workspace takes the act over what it has, or the first reason why not.
@@ -44,9 +50,15 @@ impl Record {
             → result ≡ verdict_of h (act_value act.now) }
     {
         match act {
-            Act::Push(pushed) => match &self.state {
+            Act::Lock(info) => lock_verdict(&self.holder, info),
+            Act::Unlock(id) => unlock_verdict(&self.holder, id),
+            Act::Push(id, pushed) => match write_refusal(&self.holder, id) {
+                Some(refusal) => refusal,
+                None => push_verdict(&self.state, pushed),
+            },
+            Act::Delete(id) => match write_refusal(&self.holder, id) {
+                Some(refusal) => refusal,
                 None => Verdict::Accept,
-                Some(stored) => push_verdict(stored, pushed),
             },
         }
     }
@@ -58,7 +70,10 @@ impl Record {
             → self.new ≡ standing_of (h ++ act_value act ∷ []) }
     {
         match act {
-            Act::Push(pushed) => self.state = Some(pushed),
+            Act::Lock(info) => self.holder = Some(info),
+            Act::Unlock(_) => self.holder = None,
+            Act::Push(_, pushed) => self.state = Some(pushed),
+            Act::Delete(_) => self.state = None,
         }
     }
 
@@ -68,12 +83,69 @@ impl Record {
     {
         self.state.as_ref()
     }
+
+    /// The information of the lock that is held.
+    pub fn holder(&self) -> Option<&Arc<LockInfo>>
+        ensures { option_map (λ info. arc_value info.now) result ≡ self.now.holder }
+    {
+        self.holder.as_ref()
+    }
 }
 
-/// The verdict on a push over a stored state.
-fn push_verdict(stored: &Doc, pushed: &Doc) -> Verdict
-    ensures { result ≡ push_verdict (Some stored.now) pushed.now }
+/// The verdict on a lock.
+fn lock_verdict(holder: &Option<Arc<LockInfo>>, info: &LockInfo) -> Verdict
+    ensures { result ≡ lock_verdict (option_map arc_value holder.now) info.now }
 {
+    let Some(held) = holder else {
+        return Verdict::Accept;
+    };
+    if held.bytes() == info.bytes() {
+        Verdict::Accept
+    } else {
+        Verdict::Locked
+    }
+}
+
+/// The verdict on an unlock.
+fn unlock_verdict(holder: &Option<Arc<LockInfo>>, id: &Option<Id>) -> Verdict
+    ensures { result ≡ unlock_verdict (option_map arc_value holder.now) id.now }
+{
+    let (Some(held), Some(id)) = (holder, id) else {
+        return Verdict::Accept;
+    };
+    if held.id().text() == id.text() {
+        Verdict::Accept
+    } else {
+        Verdict::Locked
+    }
+}
+
+/// The verdict on a write by the lock; none where the write goes on.
+fn write_refusal(holder: &Option<Arc<LockInfo>>, id: &Option<Id>) -> Option<Verdict>
+    ensures { (otherwise : Verdict)
+        → unwrap_or result otherwise ≡ write_verdict (option_map arc_value holder.now) id.now otherwise }
+{
+    match (holder, id) {
+        (None, None) => None,
+        (None, Some(_)) => Some(Verdict::LockLost),
+        (Some(_), None) => Some(Verdict::Locked),
+        (Some(held), Some(id)) => {
+            if held.id().text() == id.text() {
+                None
+            } else {
+                Some(Verdict::Locked)
+            }
+        }
+    }
+}
+
+/// The verdict on a push over what is stored.
+fn push_verdict(stored: &Option<Arc<Doc>>, pushed: &Doc) -> Verdict
+    ensures { result ≡ push_verdict (option_map arc_value stored.now) pushed.now }
+{
+    let Some(stored) = stored else {
+        return Verdict::Accept;
+    };
     if stored.lineage() != pushed.lineage() {
         return Verdict::LineageDiffers;
     }

@@ -5,6 +5,10 @@
 pub enum Verdict {
     /// The act is taken.
     Accept,
+    /// Somebody else holds the lock.
+    Locked,
+    /// The act bears the identifier of a lock, and nobody holds one.
+    LockLost,
     /// The pushed state belongs to another history than the stored one.
     LineageDiffers,
     /// The pushed state is older than the stored one.
