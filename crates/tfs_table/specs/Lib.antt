@@ -1,3 +1,4 @@
+pub mod Draft
 pub mod Refusal
 pub mod Reply
 pub mod Transition

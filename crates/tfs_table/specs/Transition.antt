@@ -1,23 +1,22 @@
 -- The transition of a table: from its journal and whether it is stopped, by a call, to a reply, a journal, and whether it
 -- is stopped then.
-use Rattle.std.specs.Prelude.{◌≡◌, ◌+◌, ◌⊎◌, ℕ, Bool, true, not, ◌&&◌, nat_le, List, length, if◌then◌else◌, Option, Some, None, is_some, option_map}
+use Rattle.std.specs.Prelude.{◌≡◌, ◌+◌, ◌⊎◌, ℕ, Bool, true, not, ◌&&◌, nat_le, List, length, if◌then◌else◌, Option, Some, None, is_some}
 use Rattle.std.specs.List.{list_any}
 use Rattle.std.specs.Option.{option_map_or, option_or}
 use Rattle.std.specs.Str.{bytes_eq}
-use Rattle.tfs_state.specs.StateText.{document_of}
-use Rattle.tfs_rules.specs.Act.{ActValue, push}
-use Rattle.tfs_rules.specs.History.{state_of}
+use Rattle.tfs_lock.specs.LockInfo.{LockText}
+use Rattle.tfs_rules.specs.Act.{ActValue}
+use Rattle.tfs_rules.specs.History.{History, state_of, holder_of}
 use Rattle.tfs_rules.specs.Verdict.{verdict_of}
 use Rattle.tfs_rules.specs.declared.verdict.Verdict.{Verdict}
 use Rattle.tfs_rules.specs.declared.verdict.Verdict.TheVariants as verdict
 use Rattle.tfs_journal.specs.Journal.{Journal, acts_of, names_of, position_of, with_entry}
+use Rattle.tfs_table.specs.Draft.{act_of, draft_refusal}
+use Rattle.tfs_table.specs.Refusal.{RefusalValue, locked, plain}
 use Rattle.tfs_table.specs.Reply.{ReplyValue, done, state, refused}
 use Rattle.tfs_table.specs.declared.call.Call.{Call}
 use Rattle.tfs_table.specs.declared.call.Call.TheVariants.{Read, Change}
-use Rattle.tfs_table.specs.declared.call.Raw.{Raw}
-use Rattle.tfs_table.specs.declared.call.Raw.TheVariants.{Push}
-use Rattle.tfs_table.specs.declared.refusal.Refusal.{Refusal}
-use Rattle.tfs_table.specs.declared.refusal.Refusal.TheVariants.{BadState, JournalStopped, LineageDiffers, SerialTooLow, SerialReused, NoState, TableFull, JournalFull, OutOfMemory, JournalFault}
+use Rattle.tfs_table.specs.declared.refusal.Refusal.TheVariants.{JournalStopped, LockLost, LineageDiffers, SerialTooLow, SerialReused, NoState, TableFull, JournalFull, OutOfMemory, JournalFault}
 use Rattle.tfs_table.specs.declared.TheConstants.{MAX_NAMES, MAX_ENTRIES}
 
 -- What a table is to its callers.
@@ -25,30 +24,29 @@ pub record TableModel : Type 0 where
   pub journal : Journal
   pub stopped : Bool
 
--- The act that a raw change asks for; none where its body is no state.
-abbrev pub act_of : Raw → Option ActValue
-act_of (Push body) = option_map push (document_of body)
+-- The refusal that a verdict asks for, over the holder, which is told with `Locked`; none for `Accept`. (No act is `Locked`
+-- where there is no holder.)
+abbrev pub refusal_of : Option LockText → Verdict → Option RefusalValue
+refusal_of holder verdict.Accept = None
+refusal_of holder verdict.Locked = Some (option_map_or locked holder (plain LockLost))
+refusal_of holder verdict.LockLost = Some (plain LockLost)
+refusal_of holder verdict.LineageDiffers = Some (plain LineageDiffers)
+refusal_of holder verdict.SerialTooLow = Some (plain SerialTooLow)
+refusal_of holder verdict.SerialReused = Some (plain SerialReused)
 
--- The refusal of a raw change that has no act.
-abbrev pub draft_refusal : Raw → Refusal
-draft_refusal (Push body) = BadState
-
--- The refusal that a verdict asks for; none for `Accept`.
-abbrev pub refusal_of : Verdict → Option Refusal
-refusal_of verdict.Accept = None
-refusal_of verdict.LineageDiffers = Some LineageDiffers
-refusal_of verdict.SerialTooLow = Some SerialTooLow
-refusal_of verdict.SerialReused = Some SerialReused
+-- The refusal of an act by the rules, over the history of its name.
+abbrev pub verdict_refusal : History → ActValue → Option RefusalValue
+verdict_refusal h act = refusal_of (holder_of h) (verdict_of h act)
 
 -- The refusal by the table's limits: a new name where there are 1,024, or another entry where there are 65,536.
-abbrev pub limit_refusal : Journal → List ℕ → Option Refusal
-limit_refusal j name = if nat_le MAX_NAMES (length (names_of j)) && not (list_any (bytes_eq name) (names_of j)) then Some TableFull
-    else (if nat_le MAX_ENTRIES (length j.entries) then Some JournalFull else None)
+abbrev pub limit_refusal : Journal → List ℕ → Option RefusalValue
+limit_refusal j name = if nat_le MAX_NAMES (length (names_of j)) && not (list_any (bytes_eq name) (names_of j)) then Some (plain TableFull)
+    else (if nat_le MAX_ENTRIES (length j.entries) then Some (plain JournalFull) else None)
 
 -- The refusal of an act, or none where it is accepted: a stopped table takes none; then the verdict, then the limits.
-abbrev pub act_refusal : TableModel → List ℕ → ActValue → Option Refusal
-act_refusal m name act = if m.stopped then Some JournalStopped
-    else option_or (refusal_of (verdict_of (acts_of name m.journal) act)) (limit_refusal m.journal name)
+abbrev pub act_refusal : TableModel → List ℕ → ActValue → Option RefusalValue
+act_refusal m name act = if m.stopped then Some (plain JournalStopped)
+    else option_or (verdict_refusal (acts_of name m.journal) act) (limit_refusal m.journal name)
 
 -- The model's answer to a change whose body was read.
 abbrev pub act_answer : TableModel → List ℕ → ActValue → ReplyValue
@@ -56,8 +54,8 @@ act_answer m name act = option_map_or refused (act_refusal m name act) (done (po
 
 -- The model's answer to a call.
 abbrev pub answer_of : TableModel → Call → ReplyValue
-answer_of m (Read name) = option_map_or state (state_of (acts_of name m.journal)) (refused NoState)
-answer_of m (Change name raw) = option_map_or (act_answer m name) (act_of raw) (refused (draft_refusal raw))
+answer_of m (Read name) = option_map_or state (state_of (acts_of name m.journal)) (refused (plain NoState))
+answer_of m (Change name raw) = option_map_or (act_answer m name) (act_of raw) (refused (plain (draft_refusal raw)))
 
 -- The journal after an act: with the entry at its end where it is accepted.
 abbrev pub journal_after_act : TableModel → List ℕ → ActValue → Journal
@@ -78,11 +76,11 @@ GivesAnswer m call reply m' = (reply ≡ answer_of m call) × (m' ≡ model_afte
 
 -- A request for memory was refused, and nothing changed.
 abbrev pub LacksMemory : TableModel → ReplyValue → TableModel → Type 0
-LacksMemory m reply m' = (reply ≡ refused OutOfMemory) × (m' ≡ m)
+LacksMemory m reply m' = (reply ≡ refused (plain OutOfMemory)) × (m' ≡ m)
 
 -- The sink failed in place of an acceptance: the journal stays, and the table is stopped.
 abbrev pub FaultsJournal : TableModel → Call → ReplyValue → TableModel → Type 0
-FaultsJournal m call reply m' = (answer_of m call ≡ done (position_of m.journal + 1)) × (reply ≡ refused JournalFault)
+FaultsJournal m call reply m' = (answer_of m call ≡ done (position_of m.journal + 1)) × (reply ≡ refused (plain JournalFault))
     × (m' ≡ record { journal = m.journal; stopped = true })
 
 -- The transition of a table that keeps its journal in memory alone.

@@ -1,16 +1,20 @@
-//! What is asked of a table and what it answers: calls, replies, refusals, and the transition between them.
-//! So far a call reads a state or pushes one; the table itself is to come.
+//! What is asked of a table and what it answers: calls, drafts of changes, replies, refusals, and the transition between
+//! them. The table itself is to come.
 #![tactic(auto)]
 
 mod bytes;
 mod call;
+mod draft;
 mod refusal;
 mod reply;
+mod text;
 
 pub use bytes::Bytes;
 pub use call::{Call, Raw};
+pub use draft::Draft;
 pub use refusal::{Methods, Refusal};
 pub use reply::Reply;
+pub use text::Text;
 
 /// The most names that a table may have.
 pub const MAX_NAMES: usize = 1_024;

@@ -2,6 +2,10 @@
 
 ghost use Rattle.std.specs.Prelude.{◌≡◌};
 
+use std::fmt;
+use std::fmt::{Debug, Formatter};
+use std::sync::Arc;
+use tfs_lock::LockInfo;
 use thiserror::Error;
 
 /// The methods that a route takes.
@@ -13,7 +17,7 @@ pub enum Methods {
 
 /// Why a request is refused. A refusal that stands earlier comes first, but for `OutOfMemory`, which comes wherever a
 /// request for memory is refused.
-#[derive(Clone, Copy, Debug, PartialEq, Eq, Error)]
+#[derive(Drop, Error)]
 pub enum Refusal {
     #[error("the head of the request is too large")]
     HeadTooLarge,
@@ -29,10 +33,17 @@ pub enum Refusal {
     MethodNotAllowed(Methods),
     #[error("this is no name of a workspace")]
     BadName,
+    #[error("the body is no lock information, or the identifier is too long")]
+    BadLockInfo,
     #[error("the body is no state")]
     BadState,
     #[error("the journal has failed and takes no more changes")]
     JournalStopped,
+    /// With the information of the lock that is held.
+    #[error("the workspace is locked")]
+    Locked(Arc<LockInfo>),
+    #[error("nobody holds the lock that the request names")]
+    LockLost,
     #[error("the stored state has another lineage")]
     LineageDiffers,
     #[error("the stored state has a higher serial")]
@@ -52,34 +63,34 @@ pub enum Refusal {
 }
 
 impl Refusal {
-    ghost use Rattle.tfs_table.specs.Refusal.{row_of};
+    ghost use Rattle.tfs_table.specs.Refusal.{row_of, refusal_value};
 
     /// The refusal's number in the list of all refusals.
     pub fn number(&self) -> u8
-        ensures { result ≡ (row_of self.now).number }
+        ensures { result ≡ (row_of (refusal_value self.now)).number }
     {
         self.row().0
     }
 
     /// The refusal's name, as replies tell it.
     pub fn name(&self) -> &'static str
-        ensures { result.now ≡ (row_of self.now).name }
+        ensures { result.now ≡ (row_of (refusal_value self.now)).name }
     {
         self.row().1
     }
 
     /// The status of a reply that tells the refusal (RFC 9110, section 15; RFC 6585, section 5; RFC 4918, section 11).
     pub fn status(&self) -> u16
-        ensures { result ≡ (row_of self.now).status }
+        ensures { result ≡ (row_of (refusal_value self.now)).status }
     {
         self.row().2
     }
 
     /// The table of refusals: number, name and status.
     fn row(&self) -> (u8, &'static str, u16)
-        ensures number { result.0 ≡ (row_of self.now).number }
-        ensures name { result.1.now ≡ (row_of self.now).name }
-        ensures status { result.2 ≡ (row_of self.now).status }
+        ensures number { result.0 ≡ (row_of (refusal_value self.now)).number }
+        ensures name { result.1.now ≡ (row_of (refusal_value self.now)).name }
+        ensures status { result.2 ≡ (row_of (refusal_value self.now)).status }
     {
         match self {
             Refusal::HeadTooLarge => (1, "HeadTooLarge", 431),
@@ -89,8 +100,11 @@ impl Refusal {
             Refusal::NoRoute => (7, "NoRoute", 404),
             Refusal::MethodNotAllowed(_) => (8, "MethodNotAllowed", 405),
             Refusal::BadName => (9, "BadName", 400),
+            Refusal::BadLockInfo => (11, "BadLockInfo", 400),
             Refusal::BadState => (12, "BadState", 400),
             Refusal::JournalStopped => (14, "JournalStopped", 503),
+            Refusal::Locked(_) => (15, "Locked", 423),
+            Refusal::LockLost => (16, "LockLost", 409),
             Refusal::LineageDiffers => (17, "LineageDiffers", 409),
             Refusal::SerialTooLow => (18, "SerialTooLow", 409),
             Refusal::SerialReused => (19, "SerialReused", 409),
@@ -100,5 +114,11 @@ impl Refusal {
             Refusal::OutOfMemory => (26, "OutOfMemory", 503),
             Refusal::JournalFault => (27, "JournalFault", 500),
         }
+    }
+}
+
+impl Debug for Refusal {
+    fn fmt<W: fmt::Write>(&self, f: &mut Formatter<W>) -> fmt::Result {
+        f.write_str(self.name())
     }
 }

@@ -1,0 +1,163 @@
+//! Drafts: raw changes whose texts were read.
+
+ghost use Rattle.std.specs.Prelude.{◌≡◌, ◌≤◌, ◌⊎◌, length, true, false, Some, None, IfOk, IfErr};
+ghost use Rattle.std.specs.Arc.{arc_value};
+ghost use Rattle.tfs_state.specs.StateText.{document_of};
+ghost use Rattle.tfs_state.specs.declared.doc.TheConstants.{MAX_STATE_BYTES};
+ghost use Rattle.tfs_lock.specs.LockText.{lock_info_of};
+ghost use Rattle.tfs_rules.specs.Act.{act_value};
+ghost use Rattle.tfs_table.specs.Draft.{act_of, draft_refusal, id_given, is_too_long, HasFittingState};
+ghost use Rattle.tfs_table.specs.declared.call.Raw.TheVariants.{Lock, Unlock, Push, Delete};
+ghost use Rattle.tfs_table.specs.declared.refusal.Refusal.TheVariants.{BadLockInfo, BadState, OutOfMemory};
+
+use crate::bytes::Bytes;
+use crate::call::Raw;
+use crate::refusal::Refusal;
+use crate::text::Text;
+use std::alloc::Global;
+use std::marker::Model;
+use std::sync::Arc;
+use tfs_lock::{Id, LockFault, LockInfo, bytes_spell_lock_info_or_have_a_fault};
+use tfs_rules::Act;
+use tfs_state::{Doc, StateFault, bytes_spell_a_document_or_have_a_fault};
+
+/// An act that was read from a raw change, and that no table has judged yet.
+#[derive(Drop)]
+pub struct Draft {
+    act: Act,
+}
+
+impl Model for Draft {
+    ghost use Rattle.tfs_rules.specs.Act.{ActValue, act_value};
+
+    ghost Value = { ActValue };
+
+    ghost view = { λ d. act_value d.act };
+}
+
+impl Draft {
+    /// Reads the texts of a raw change. A refusal is `BadLockInfo` or `BadState`, the first that fits, but for
+    /// `OutOfMemory`, which comes wherever a request for memory is refused.
+    pub fn read(alloc: Global, raw: Raw) -> Result<Draft, Refusal>
+        requires { HasFittingState raw }
+        ensures ok { IfOk result (λ draft. act_of raw ≡ Some draft) }
+        ensures err { IfErr result (λ refusal. (refusal ≡ OutOfMemory)
+            ⊎ ((refusal ≡ draft_refusal raw) × (act_of raw ≡ None))) }
+    {
+        let act = match raw {
+            Raw::Lock(body) => read_lock(alloc, body)?,
+            Raw::Unlock(body, text) => read_unlock(alloc, body, text)?,
+            Raw::Push(text, body) => read_push(alloc, text, body)?,
+            Raw::Delete(text) => read_delete(text)?,
+        };
+        Ok(Draft { act })
+    }
+
+    /// The act, lent.
+    pub fn act(&self) -> &Act
+        ensures { act_value result.now ≡ self.now }
+    {
+        &self.act
+    }
+
+    /// The act, given up.
+    pub fn into_act(self) -> Act
+        ensures { act_value result ≡ self }
+    {
+        self.act
+    }
+}
+
+fn read_lock(alloc: Global, body: Bytes) -> Result<Act, Refusal>
+    ensures ok { IfOk result (λ act. act_of (Lock body) ≡ Some (act_value act)) }
+    ensures err { IfErr result (λ refusal. (refusal ≡ OutOfMemory)
+        ⊎ ((refusal ≡ draft_refusal (Lock body)) × (act_of (Lock body) ≡ None))) }
+{
+    let info = read_info(alloc, body.into_vec())?;
+    match Arc::new(alloc, info) {
+        Ok(info) => Ok(Act::Lock(info)),
+        Err(_) => Err(Refusal::OutOfMemory),
+    }
+}
+
+/// An unlock by the lock information of the body or, where the body is empty, by the text.
+fn read_unlock(alloc: Global, body: Bytes, text: Option<Text>) -> Result<Act, Refusal>
+    ensures ok { IfOk result (λ act. act_of (Unlock body text) ≡ Some (act_value act)) }
+    ensures err { IfErr result (λ refusal. (refusal ≡ OutOfMemory)
+        ⊎ ((refusal ≡ draft_refusal (Unlock body text)) × (act_of (Unlock body text) ≡ None))) }
+{
+    if body.as_slice().is_empty() {
+        return Ok(Act::Unlock(read_id(text)?));
+    }
+    let info = read_info(alloc, body.into_vec())?;
+    match info.id().copy() {
+        Ok(id) => Ok(Act::Unlock(Some(id))),
+        Err(_) => Err(Refusal::OutOfMemory),
+    }
+}
+
+fn read_push(alloc: Global, text: Option<Text>, body: Bytes) -> Result<Act, Refusal>
+    requires { length body ≤ MAX_STATE_BYTES }
+    ensures ok { IfOk result (λ act. act_of (Push text body) ≡ Some (act_value act)) }
+    ensures err { IfErr result (λ refusal. (refusal ≡ OutOfMemory)
+        ⊎ ((refusal ≡ draft_refusal (Push text body)) × (act_of (Push text body) ≡ None))) }
+{
+    let id = read_id(text)?;
+    let doc = read_doc(alloc, body.into_vec())?;
+    Ok(Act::Push(id, doc))
+}
+
+fn read_delete(text: Option<Text>) -> Result<Act, Refusal>
+    ensures ok { IfOk result (λ act. act_of (Delete text) ≡ Some (act_value act)) }
+    ensures err { IfErr result (λ refusal. (refusal ≡ draft_refusal (Delete text))
+        × (act_of (Delete text) ≡ None)) }
+{
+    Ok(Act::Delete(read_id(text)?))
+}
+
+/// The identifier that a text gives.
+fn read_id(text: Option<Text>) -> Result<Option<Id>, Refusal>
+    ensures ok { IfOk result (λ id. (id ≡ id_given text) × (is_too_long text ≡ false)) }
+    ensures err { IfErr result (λ refusal. (refusal ≡ BadLockInfo) × (is_too_long text ≡ true)) }
+{
+    let Some(text) = text else {
+        return Ok(None);
+    };
+    if text.as_str().is_empty() {
+        return Ok(None);
+    }
+    match Id::read(text.into_string()) {
+        Some(id) => Ok(Some(id)),
+        None => Err(Refusal::BadLockInfo),
+    }
+}
+
+fn read_info(alloc: Global, bytes: Vec<u8>) -> Result<LockInfo, Refusal>
+    ensures ok { IfOk result (λ info. lock_info_of bytes.items ≡ Some info) }
+    ensures err { IfErr result (λ refusal. (refusal ≡ OutOfMemory)
+        ⊎ ((refusal ≡ BadLockInfo) × (lock_info_of bytes.items ≡ None))) }
+{
+    bytes_spell_lock_info_or_have_a_fault();
+    match LockInfo::read(alloc, bytes) {
+        Ok(info) => Ok(info),
+        Err(LockFault::NoMemory) => Err(Refusal::OutOfMemory),
+        Err(_) => Err(Refusal::BadLockInfo),
+    }
+}
+
+fn read_doc(alloc: Global, bytes: Vec<u8>) -> Result<Arc<Doc>, Refusal>
+    requires { length bytes.items ≤ MAX_STATE_BYTES }
+    ensures ok { IfOk result (λ doc. document_of bytes.items ≡ Some (arc_value doc)) }
+    ensures err { IfErr result (λ refusal. (refusal ≡ OutOfMemory)
+        ⊎ ((refusal ≡ BadState) × (document_of bytes.items ≡ None))) }
+{
+    bytes_spell_a_document_or_have_a_fault();
+    match Doc::read(alloc, bytes) {
+        Ok(doc) => match Arc::new(alloc, doc) {
+            Ok(doc) => Ok(doc),
+            Err(_) => Err(Refusal::OutOfMemory),
+        },
+        Err(StateFault::NoMemory) => Err(Refusal::OutOfMemory),
+        Err(_) => Err(Refusal::BadState),
+    }
+}
