@@ -11,12 +11,13 @@ use Rattle.tfs_rules.specs.Name.{IsName, is_name_byte}
 use Rattle.tfs_rules.specs.declared.name.TheConstants.{MAX_NAME_BYTES}
 use Rattle.tfs_table.specs.declared.call.Call.{Call}
 use Rattle.tfs_table.specs.declared.call.Call.TheVariants.{Read, Change}
-use Rattle.tfs_table.specs.declared.call.Raw.TheVariants.{Push}
+use Rattle.tfs_table.specs.declared.call.Raw.TheVariants.{Lock, Unlock, Push, Delete}
 use Rattle.tfs_table.specs.declared.refusal.Methods.TheVariants.{State}
 use Rattle.tfs_table.specs.declared.refusal.Refusal.{Refusal}
 use Rattle.tfs_table.specs.declared.refusal.Refusal.TheVariants.{NoRoute, MethodNotAllowed, BadName}
 use Rattle.tfs_http.specs.Request.{RequestValue}
-use Rattle.tfs_http.specs.Routing.{slash, path_of, IsStatePath, NamesState, IsStateMethod, RoutesTo}
+use Rattle.tfs_http.specs.Query.{identifier_parameter}
+use Rattle.tfs_http.specs.Routing.{slash, path_of, IsStatePath, NamesState, IsStateMethod, HasCall, RoutesTo}
 use Rattle.tfs_http.proofs.RoutingLemmas.{slash_found, slash_tested, front_split, front_joined}
 
 -- A path is the one of a state, or the one of none.
@@ -48,28 +49,45 @@ name_decided text = by (nat_le 1 (length text)) refl (nat_le (length text) MAX_N
     by true a true b false c = inr (λ n. cc (n.clean, c))
     by true a true b true c = inl (record { filled = leb-true 1 (length text) a; short = leb-true (length text) MAX_NAME_BYTES b; clean = c })
 
--- A method is `GET`, `POST` or another.
-data Kind (method : List ℕ) : Type 0 where
-  get : method ≡ codes "GET" → Kind method
-  post : method ≡ codes "POST" → Kind method
-  other : ¬ (IsStateMethod method) → Kind method
-
-method_decided : (method : List ℕ) → Kind method
-method_decided method = by (same_text method (codes "GET")) refl (same_text method (codes "POST")) refl
+-- A text is this one or another.
+text_decided : (text other : List ℕ) → (text ≡ other) ⊎ ¬ (text ≡ other)
+text_decided text other = by (same_text text other) refl
   where
-    by : (v : Bool) → same_text method (codes "GET") ≡ v → (w : Bool) → same_text method (codes "POST") ≡ w → Kind method
-    by true e w f = get ((bytes_decides method (codes "GET")).0 e)
-    by false e true f = post ((bytes_decides method (codes "POST")).0 f)
-    by false e false f = other (λ is. elim is [ inl g ↦ cc (e, (bytes_decides method (codes "GET")).1 g) | inr p ↦ cc (f, (bytes_decides method (codes "POST")).1 p) ])
+    by : (v : Bool) → same_text text other ≡ v → (text ≡ other) ⊎ ¬ (text ≡ other)
+    by true e = inl ((bytes_decides text other).0 e)
+    by false e = inr (λ is. cc (e, (bytes_decides text other).1 is))
+
+either_decided : {A B : Type 0} → A ⊎ ¬ A → B ⊎ ¬ B → (A ⊎ B) ⊎ ¬ (A ⊎ B)
+either_decided (inl a) other = inl (inl a)
+either_decided (inr not_a) (inl b) = inl (inr b)
+either_decided (inr not_a) (inr not_b) = inr (λ is. elim is [ inl a ↦ not_a a | inr b ↦ not_b b ])
+
+-- A method is one of a state or another.
+method_decided : (method : List ℕ) → IsStateMethod method ⊎ ¬ (IsStateMethod method)
+method_decided method =
+    either_decided (text_decided method (codes "GET"))
+    (either_decided (text_decided method (codes "POST"))
+    (either_decided (text_decided method (codes "DELETE"))
+    (either_decided (text_decided method (codes "LOCK")) (text_decided method (codes "UNLOCK")))))
+
+-- A request with a name and a method of a state has a call.
+method_called : (r : RequestValue) (name : List ℕ) → NamesState r.target name → IsName name → IsStateMethod r.method → (call : Call) × HasCall r call
+method_called r name names is (inl get) = (Read name, (names, is, get))
+method_called r name names is (inr (inl post)) = (Change name (Push (identifier_parameter r.target) r.body), (names, is, (post, refl, refl)))
+method_called r name names is (inr (inr (inl delete))) = (Change name (Delete (identifier_parameter r.target)), (names, is, (delete, refl)))
+method_called r name names is (inr (inr (inr (inl lock)))) = (Change name (Lock r.body), (names, is, (lock, refl)))
+method_called r name names is (inr (inr (inr (inr unlock)))) = (Change name (Unlock r.body (identifier_parameter r.target)), (names, is, (unlock, refl, refl)))
 
 abbrev IsRouted : RequestValue → Type 0
 IsRouted r = (x : Result Call Refusal) × RoutesTo r x
 
 state_routed : (r : RequestValue) (part : List ℕ) → NamesState r.target part → IsRouted r
-state_routed r part n = elim (method_decided r.method) [
-  | get g ↦ elim (name_decided part) [ inl is ↦ (Ok (Read part), (n, g, is)) | inr not ↦ (Err BadName, (part, n, inl g, not)) ]
-  | post p ↦ elim (name_decided part) [ inl is ↦ (Ok (Change part (Push r.body)), (n, p, is, refl)) | inr not ↦ (Err BadName, (part, n, inr p, not)) ]
-  | other none ↦ (Err (MethodNotAllowed State), (part, n, none))
+state_routed r part names = elim (method_decided r.method) [
+  | inl method ↦ elim (name_decided part) [
+    | inl is ↦ (let called = method_called r part names is method in (Ok called.0, called.1))
+    | inr not ↦ (Err BadName, (part, names, method, not))
+  ]
+  | inr none ↦ (Err (MethodNotAllowed State), (part, names, none))
 ]
 
 pub each_routed : (r : RequestValue) → IsRouted r

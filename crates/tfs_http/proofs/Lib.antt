@@ -4,3 +4,4 @@ pub mod FramingLemmas
 pub mod ReplyLemmas
 pub mod RoutingLemmas
 pub mod EachRequest
+pub mod QueryLemmas

@@ -2,4 +2,5 @@ pub mod Request
 pub mod Framing
 pub mod Form
 pub mod ReplyText
+pub mod Query
 pub mod Routing

@@ -2,7 +2,7 @@
 use Rattle.std.specs.Prelude.{ℕ, ◌==◌, nat_lt, List, [], ◌∷◌, ◌++◌, length, find, codes, decimal, if◌then◌else◌}
 use Rattle.std.specs.Option.{option_map_or}
 use Rattle.tfs_table.specs.Reply.{ReplyValue, done, state, refused}
-use Rattle.tfs_table.specs.Refusal.{row_of}
+use Rattle.tfs_table.specs.Refusal.{locked, plain, row_of}
 use Rattle.tfs_table.specs.declared.refusal.Refusal.TheVariants.{MethodNotAllowed}
 use Rattle.tfs_table.specs.declared.refusal.Methods.{Methods}
 use Rattle.tfs_table.specs.declared.refusal.Methods.TheVariants.{State}
@@ -12,7 +12,7 @@ use Rattle.tfs_http.specs.declared.form.Form.{Form}
 abbrev pub line : List ℕ → List ℕ
 line text = text ++ codes "\r\n"
 
--- The statuses of replies, each with its phrase (RFC 9110, section 15; RFC 4918, section 11.5; RFC 6585, section 5).
+-- The statuses of replies, each with its phrase (RFC 9110, section 15; RFC 4918, sections 11.3 and 11.5; RFC 6585, section 5).
 abbrev pub phrases : List (ℕ × List ℕ)
 phrases =
     (200, codes "OK")
@@ -21,6 +21,7 @@ phrases =
     ∷ (405, codes "Method Not Allowed")
     ∷ (409, codes "Conflict")
     ∷ (413, codes "Content Too Large")
+    ∷ (423, codes "Locked")
     ∷ (431, codes "Request Header Fields Too Large")
     ∷ (500, codes "Internal Server Error")
     ∷ (503, codes "Service Unavailable")
@@ -43,11 +44,11 @@ status_line status = line (codes "HTTP/1.1 " ++ decimal status ++ codes " " ++ p
 
 -- The methods of a route.
 abbrev pub methods_text : Methods → List ℕ
-methods_text State = codes "GET, POST"
+methods_text State = codes "DELETE, GET, LOCK, POST, UNLOCK"
 
 -- The methods that the route takes (RFC 9110, section 10.2.1), where the request's is another.
 abbrev pub allow_line : ReplyValue → List ℕ
-allow_line (refused (MethodNotAllowed methods)) = line (codes "Allow: " ++ methods_text methods)
+allow_line (refused (plain (MethodNotAllowed methods))) = line (codes "Allow: " ++ methods_text methods)
 allow_line _ = []
 
 -- The conversation ends after the reply (RFC 9112, section 9.6).
@@ -62,11 +63,12 @@ type_line body = if nat_lt 0 (length body) then line (codes "Content-Type: appli
 abbrev pub length_line : List ℕ → List ℕ
 length_line body = line (codes "Content-Length: " ++ decimal (length body))
 
--- A state's bytes, or the name of a refusal.
+-- A state's bytes; the holder's information, byte for byte as it came, where a lock refuses; else the name of a refusal.
 abbrev pub body_of : ReplyValue → List ℕ
 body_of (done position) = []
 body_of (state d) = d.bytes
-body_of (refused refusal) = codes "{\"error\":\"" ++ (row_of refusal).name ++ codes "\"}"
+body_of (refused (locked info)) = info.bytes
+body_of (refused (plain refusal)) = codes "{\"error\":\"" ++ (row_of (plain refusal)).name ++ codes "\"}"
 
 -- The status line, the fields and the empty line, of a status, its line of methods, a form and a body.
 abbrev pub head_text : ℕ → List ℕ → Form → List ℕ → List ℕ

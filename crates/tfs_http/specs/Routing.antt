@@ -7,19 +7,18 @@ use Rattle.matchit.specs.Router.{RouteOf}
 use Rattle.tfs_rules.specs.Name.{IsName}
 use Rattle.tfs_table.specs.declared.call.Call.{Call}
 use Rattle.tfs_table.specs.declared.call.Call.TheVariants.{Read, Change}
-use Rattle.tfs_table.specs.declared.call.Raw.TheVariants.{Push}
+use Rattle.tfs_table.specs.declared.call.Raw.{Raw}
+use Rattle.tfs_table.specs.declared.call.Raw.TheVariants.{Lock, Unlock, Push, Delete}
 use Rattle.tfs_table.specs.declared.refusal.Methods.{Methods}
 use Rattle.tfs_table.specs.declared.refusal.Methods.TheVariants.{State}
 use Rattle.tfs_table.specs.declared.refusal.Refusal.{Refusal}
 use Rattle.tfs_table.specs.declared.refusal.Refusal.TheVariants.{NoRoute, MethodNotAllowed, BadName}
 use Rattle.tfs_http.specs.Request.{RequestValue}
+use Rattle.tfs_http.specs.Query.{question_mark, identifier_parameter}
 
--- The bytes `/` and `?`.
+-- The byte `/`.
 abbrev pub slash : ℕ
 slash = 47
-
-abbrev pub question_mark : ℕ
-question_mark = 63
 
 -- The path of a target: what stands before its first question mark, or all of it (RFC 9112, section 3.2.1).
 abbrev pub path_of : List ℕ → List ℕ
@@ -36,14 +35,22 @@ pub record NamesState (target part : List ℕ) : Type 0 where
   pub text : IsUtf8 target
   pub path : IsStatePath (path_of target) part
 
--- The methods of a state (RFC 9110, sections 9.1 and 9.3).
+-- The methods of a state (RFC 9110, sections 9.1 and 9.3; Terraform, http backend).
 abbrev pub IsStateMethod : List ℕ → Type 0
-IsStateMethod method = (method ≡ codes "GET") ⊎ (method ≡ codes "POST")
+IsStateMethod method = (method ≡ codes "GET") ⊎ (method ≡ codes "POST") ⊎ (method ≡ codes "DELETE") ⊎ (method ≡ codes "LOCK") ⊎ (method ≡ codes "UNLOCK")
 
--- The request has the call: GET reads a state, POST makes the body the state.
+-- The request asks for the change: POST makes the body the state, DELETE takes the state away, LOCK takes the lock and
+-- UNLOCK gives it back (Terraform, http backend). The identifier is the parameter `ID`, also where it is empty.
+abbrev pub HasChange : RequestValue → Raw → Type 0
+HasChange r (Push id body) = (r.method ≡ codes "POST") × (id ≡ identifier_parameter r.target) × (body ≡ r.body)
+HasChange r (Delete id) = (r.method ≡ codes "DELETE") × (id ≡ identifier_parameter r.target)
+HasChange r (Lock body) = (r.method ≡ codes "LOCK") × (body ≡ r.body)
+HasChange r (Unlock body id) = (r.method ≡ codes "UNLOCK") × (body ≡ r.body) × (id ≡ identifier_parameter r.target)
+
+-- The request has the call: GET reads a state, and the other methods change its workspace.
 abbrev pub HasCall : RequestValue → Call → Type 0
-HasCall r (Read name) = NamesState r.target name × (r.method ≡ codes "GET") × IsName name
-HasCall r (Change name (Push body)) = NamesState r.target name × (r.method ≡ codes "POST") × IsName name × (body ≡ r.body)
+HasCall r (Read name) = NamesState r.target name × IsName name × (r.method ≡ codes "GET")
+HasCall r (Change name raw) = NamesState r.target name × IsName name × HasChange r raw
 
 -- The first refusal of a request: its target names no state, or its method isn't one of a state, or the part is no name.
 abbrev pub routing_refusal : RequestValue → Refusal → Type 0

@@ -51,10 +51,13 @@ fn length_of_text(text: &[u8]) -> Result<usize, Refusal>
     let Ok(digits) = str::from_utf8(text) else {
         return Err(Refusal::BadLength);
     };
-    match digits.parse::<u64>() {
-        Ok(length) if length <= MAX_BODY_BYTES as u64 => Ok(length as usize),
-        _ => Err(Refusal::BodyTooLarge),
+    let Ok(length) = digits.parse::<u64>() else {
+        return Err(Refusal::BodyTooLarge);
+    };
+    if length > MAX_BODY_BYTES as u64 {
+        return Err(Refusal::BodyTooLarge);
     }
+    Ok(length as usize)
 }
 
 fn is_numeral(text: &[u8]) -> bool

@@ -1,5 +1,5 @@
 //! Reads HTTP/1.1 requests (RFC 9112) of the state backend, tells the call of each, and writes the replies.
-//! So far a request reads a state or pushes one.
+//! A request reads, pushes or deletes a state, or takes or gives back its lock.
 #![tactic(auto)]
 
 mod form;
@@ -8,6 +8,7 @@ mod head;
 mod laws;
 mod length;
 mod limits;
+mod query;
 mod reply;
 mod request;
 mod routes;

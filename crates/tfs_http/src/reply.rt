@@ -1,6 +1,7 @@
 //! The texts of replies (RFC 9112, section 4).
 
 ghost use Rattle.std.specs.Prelude.{◌≡◌, ◌++◌, [], string_bytes, OnOk, OnErr, IfOk, if◌then◌else◌};
+ghost use Rattle.tfs_table.specs.Refusal.{refusal_value, plain};
 ghost use Rattle.tfs_table.specs.Reply.{reply_value, refused};
 ghost use Rattle.tfs_http.specs.ReplyText.{phrase_of, allow_line, close_line, type_line, head_text, reply_text};
 
@@ -28,14 +29,32 @@ pub fn write_reply(
     }
 }
 
-/// Adds the text of a refusal: its body is JSON with its name.
+/// Adds the text of a refusal: of one by a lock the body is the holder's information, as it came.
 fn write_refusal(
     alloc: Global,
     refusal: &Refusal,
     form: Form,
     out: &mut Vec<u8>,
 ) -> Result<(), AllocError>
-    ensures ok { OnOk result (out.new.items ≡ out.old.items ++ reply_text (refused refusal.now) form) }
+    ensures ok { OnOk result (out.new.items ≡ out.old.items ++ reply_text (refused (refusal_value refusal.now)) form) }
+    ensures err { OnErr result (out.new.items ≡ out.old.items) }
+{
+    match refusal {
+        Refusal::Locked(info) => {
+            write_parts(alloc, refusal.status(), "", form, info.bytes(), out)
+        }
+        _ => write_name(alloc, refusal, form, out),
+    }
+}
+
+/// Adds the text of a refusal whose body is JSON with its name.
+fn write_name(
+    alloc: Global,
+    refusal: &Refusal,
+    form: Form,
+    out: &mut Vec<u8>,
+) -> Result<(), AllocError>
+    ensures ok { OnOk result (out.new.items ≡ out.old.items ++ reply_text (refused (plain refusal.now)) form) }
     ensures err { OnErr result (out.new.items ≡ out.old.items) }
 {
     let name = refusal.name();
@@ -114,6 +133,7 @@ fn phrase(status: u16) -> &'static str
         405 => "Method Not Allowed",
         409 => "Conflict",
         413 => "Content Too Large",
+        423 => "Locked",
         431 => "Request Header Fields Too Large",
         500 => "Internal Server Error",
         503 => "Service Unavailable",
@@ -124,10 +144,10 @@ fn phrase(status: u16) -> &'static str
 
 /// The line that lists the methods of the refused request's route.
 fn allow_line(refusal: &Refusal) -> &'static str
-    ensures { result.now ≡ allow_line (refused refusal.now) }
+    ensures { result.now ≡ allow_line (refused (plain refusal.now)) }
 {
     match refusal {
-        Refusal::MethodNotAllowed(Methods::State) => "Allow: GET, POST\r\n",
+        Refusal::MethodNotAllowed(Methods::State) => "Allow: DELETE, GET, LOCK, POST, UNLOCK\r\n",
         _ => "",
     }
 }

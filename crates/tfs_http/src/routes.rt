@@ -3,15 +3,17 @@
 ghost use Rattle.std.specs.Prelude.{◌≡◌, ◌≢◌, ℕ, List, codes, IfOk, IfErr, IfSome, IfNone};
 ghost use Rattle.tfs_rules.specs.Name.{IsName};
 ghost use Rattle.tfs_table.specs.declared.refusal.Refusal.TheVariants.{OutOfMemory, BadName};
+ghost use Rattle.tfs_http.specs.Query.{identifier_parameter};
 ghost use Rattle.tfs_http.specs.Routing.{path_of, IsStatePath, NamesState, IsStateMethod, HasCall, routing_refusal, state_routes};
 
+use crate::query::identifier_parameter;
 use crate::request::Request;
 use matchit::Router;
 use std::alloc::{AllocError, Global};
 use std::marker::Model;
 use std::str;
 use tfs_rules::Name;
-use tfs_table::{Call, Methods, Raw, Refusal};
+use tfs_table::{Call, Methods, Raw, Refusal, Text};
 
 /// The routes of the server: `/state/{name}`.
 #[derive(Drop)]
@@ -24,6 +26,7 @@ impl Model for Routes {
     ghost use Rattle.matchit.specs.Rows.{RowsOf};
     ghost use Rattle.matchit.specs.Router.{RouteOf};
     ghost use Rattle.tfs_table.specs.declared.refusal.Methods.{Methods};
+    ghost use Rattle.tfs_http.specs.Query.{identifier_parameter};
     ghost use Rattle.tfs_http.specs.Routing.{state_routes};
 
     ghost Value = { RowsOf (RouteOf Methods) };
@@ -63,7 +66,7 @@ pub fn call_of(alloc: Global, routes: &Routes, request: Request) -> Result<Call,
     ensures ok { IfOk result (HasCall request) }
     ensures err { IfErr result (λ refusal. refusal ≢ OutOfMemory → routing_refusal request refusal) }
 {
-    let Some(part) = named_state(routes, request.target()) else {
+    let Some((target, part)) = named_state(routes, request.target()) else {
         return Err(Refusal::NoRoute);
     };
     let Some(method) = method_of(request.method()) else {
@@ -72,19 +75,32 @@ pub fn call_of(alloc: Global, routes: &Routes, request: Request) -> Result<Call,
     let name = read_name(alloc, part)?;
     match method {
         Method::Get => Ok(Call::Read(name)),
-        Method::Post => Ok(Call::Change(name, Raw::Push(request.into_body()))),
+        Method::Post => {
+            let id = read_identifier(alloc, target)?;
+            Ok(Call::Change(name, Raw::Push(id, request.into_body())))
+        }
+        Method::Delete => {
+            let id = read_identifier(alloc, target)?;
+            Ok(Call::Change(name, Raw::Delete(id)))
+        }
+        Method::Lock => Ok(Call::Change(name, Raw::Lock(request.into_body()))),
+        Method::Unlock => {
+            let id = read_identifier(alloc, target)?;
+            Ok(Call::Change(name, Raw::Unlock(request.into_body(), id)))
+        }
     }
 }
 
-/// The part of the target's path that stands for a name, if the target is the one of a state.
-fn named_state<'t>(routes: &Routes, target: &'t [u8]) -> Option<&'t str>
-    ensures found { IfSome result (λ part. NamesState target.now part.now) }
+/// The target, and the part of its path that stands for a name, if the target is the one of a state.
+fn named_state<'t>(routes: &Routes, target: &'t [u8]) -> Option<(&'t str, &'t str)>
+    ensures found { IfSome result (λ texts. (texts.0.now ≡ target.now) × NamesState target.now texts.1.now) }
     ensures absent { IfNone result ((part : List ℕ) → ¬ (NamesState target.now part)) }
 {
-    match str::from_utf8(target) {
-        Ok(text) => routes.part(path_of(text)),
-        Err(_) => None,
-    }
+    let Ok(text) = str::from_utf8(target) else {
+        return None;
+    };
+    let part = routes.part(path_of(text))?;
+    Some((text, part))
 }
 
 /// What stands before the query.
@@ -102,17 +118,26 @@ fn path_of(target: &str) -> &str
 enum Method {
     Get,
     Post,
+    Delete,
+    Lock,
+    Unlock,
 }
 
 /// The method that the text names, byte for byte (RFC 9110, section 9.1).
 fn method_of(text: &[u8]) -> Option<Method>
     ensures get { IfSome result (λ method. method ≡ Method.Get → text.now ≡ codes "GET") }
     ensures post { IfSome result (λ method. method ≡ Method.Post → text.now ≡ codes "POST") }
+    ensures delete { IfSome result (λ method. method ≡ Method.Delete → text.now ≡ codes "DELETE") }
+    ensures lock { IfSome result (λ method. method ≡ Method.Lock → text.now ≡ codes "LOCK") }
+    ensures unlock { IfSome result (λ method. method ≡ Method.Unlock → text.now ≡ codes "UNLOCK") }
     ensures absent { IfNone result (¬ (IsStateMethod text.now)) }
 {
     match text {
         b"GET" => Some(Method::Get),
         b"POST" => Some(Method::Post),
+        b"DELETE" => Some(Method::Delete),
+        b"LOCK" => Some(Method::Lock),
+        b"UNLOCK" => Some(Method::Unlock),
         _ => None,
     }
 }
@@ -128,5 +153,17 @@ fn read_name(alloc: Global, part: &str) -> Result<Name, Refusal>
     match Name::read(text) {
         Some(name) => Ok(name),
         None => Err(Refusal::BadName),
+    }
+}
+
+/// The parameter `ID` of a target, as a text of a call; the empty one too.
+fn read_identifier(alloc: Global, target: &str) -> Result<Option<Text>, Refusal>
+    ensures ok { IfOk result (λ id. id ≡ identifier_parameter target.now) }
+    ensures err { IfErr result (λ refusal. refusal ≡ OutOfMemory) }
+{
+    match identifier_parameter(alloc, target) {
+        Ok(Some(id)) => Ok(Some(Text::new(id))),
+        Ok(None) => Ok(None),
+        Err(_) => Err(Refusal::OutOfMemory),
     }
 }

@@ -6,6 +6,6 @@ use Rattle.tfs_http.proofs.length.length_of_text.Goals as goal
 pub returns-in_default : goal.returns-in_default
 returns-in_default c = absurd (c.in_default.ensures.cases.0 (numeral_from_test _ (sym c.is_numeral.ensures ∙ c.if-not-is_numeral.false)).1)
 
-pub returns-in_default-parse-2 : goal.returns-in_default-parse-2
-returns-in_default-parse-2 c =
+pub returns-in_default-parse : goal.returns-in_default-parse
+returns-in_default-parse c =
     length_beyond _ _ c.in-Ok.ensures.cases.0 (sym c.is_numeral.ensures ∙ c.if-not-is_numeral.false) c.in_default-parse.ensures.value.0

@@ -1,6 +1,6 @@
 -- The parts that are written are those of the refusal.
 use Rattle.tfs_http.proofs.ReplyLemmas.{refusal_printed}
-use Rattle.tfs_http.proofs.reply.write_refusal.Goals as goal
+use Rattle.tfs_http.proofs.reply.write_name.Goals as goal
 
 pub returns-clause-ok : goal.returns-clause-ok
 returns-clause-ok c =

@@ -1,0 +1,61 @@
+//! The query of a request's target.
+
+ghost use Rattle.std.specs.Prelude.{◌≡◌, ◌∷◌, [], ◌++◌, ℕ, List, IfOk, Some, None, true, false, Ok, codes, option_map, string_bytes};
+ghost use Rattle.std.specs.Cow.{cow_str_bytes};
+ghost use Rattle.std.specs.Str.{bytes_eq};
+ghost use Rattle.form_urlencoded.specs.Form as form;
+ghost use Rattle.form_urlencoded.specs.Parse.{raw_pairs_left};
+ghost use Rattle.tfs_http.specs.Query.{query_of, decoded, first_value, identifier_parameter};
+
+use form_urlencoded::{RawPairs, decode, raw_pairs};
+use std::alloc::{AllocError, Global};
+
+/// The value of the first parameter `ID` of a target, decoded as the text of a form (URL Standard, section 5).
+pub(crate) fn identifier_parameter(
+    alloc: Global,
+    target: &str,
+) -> Result<Option<String>, AllocError>
+    ensures { IfOk result (λ id. option_map string_bytes id ≡ identifier_parameter target.now) }
+{
+    first_value(alloc, raw_pairs(query_of(target).as_bytes()), "ID")
+}
+
+/// The value of the first pair with this name, decoded.
+fn first_value(
+    alloc: Global,
+    pairs: RawPairs<'_>,
+    called: &str,
+) -> Result<Option<String>, AllocError>
+    ensures { IfOk result (λ value. option_map string_bytes value ≡ first_value called.now (raw_pairs_left pairs.entry)) }
+{
+    for (name, value) in pairs {
+        if is_called(alloc, name, called)? {
+            return Ok(Some(decoded(alloc, value)?));
+        }
+    }
+    Ok(None)
+}
+
+/// Whether the name of a pair stands for this text.
+fn is_called(alloc: Global, name: &[u8], called: &str) -> Result<bool, AllocError>
+    ensures { IfOk result (λ same. same ≡ bytes_eq (decoded name.now) called.now) }
+{
+    Ok(decode(alloc, name)?.as_str() == called)
+}
+
+/// The text that the value of a pair stands for.
+fn decoded(alloc: Global, value: &[u8]) -> Result<String, AllocError>
+    ensures { IfOk result (λ text. string_bytes text ≡ decoded value.now) }
+{
+    decode(alloc, value)?.into_owned(alloc)
+}
+
+/// What stands behind the first question mark.
+fn query_of(target: &str) -> &str
+    ensures { result.now ≡ query_of target.now }
+{
+    match target.split_once('?') {
+        Some((_, query)) => query,
+        None => "",
+    }
+}
