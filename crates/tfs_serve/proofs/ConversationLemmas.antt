@@ -11,15 +11,16 @@ use Rattle.httparse.specs.Grammar.{LineEnd, print_end, print_blank}
 use Rattle.httparse.specs.Spans.{name_and_value}
 use Rattle.tfs_table.specs.declared.call.Call.{Call}
 use Rattle.tfs_table.specs.declared.call.Call.TheVariants.{Read, Change}
-use Rattle.tfs_table.specs.declared.call.Raw.TheVariants.{Push}
+use Rattle.tfs_table.specs.declared.call.Raw.TheVariants.{Lock, Unlock, Push, Delete}
 use Rattle.tfs_table.specs.declared.reply.Reply.{Reply}
 use Rattle.tfs_table.specs.declared.refusal.Refusal.{Refusal}
 use Rattle.tfs_table.specs.declared.refusal.Refusal.TheVariants.{BadLength, BodyTooLarge}
+use Rattle.tfs_table.specs.Refusal.{refusal_value}
 use Rattle.tfs_table.specs.Reply.{ReplyValue, refused}
 use Rattle.tfs_http.specs.Request.{RequestValue}
 use Rattle.tfs_http.specs.Form.{form_of}
 use Rattle.tfs_http.specs.Framing.{length_of_text, length_of_texts, values_named, ReadsMessage, BeginsWith, AreWanted, IsUnfinished, framing_refusal}
-use Rattle.tfs_http.specs.Routing.{HasCall}
+use Rattle.tfs_http.specs.Routing.{HasCall, HasChange}
 use Rattle.tfs_http.specs.ReplyText.{reply_text}
 use Rattle.tfs_http.specs.declared.limits.TheConstants.{MAX_BODY_BYTES}
 use Rattle.tfs_serve.specs.Desk.{HasFittingBody}
@@ -58,7 +59,12 @@ body_fits bytes r used b = texts_fit (values_named (codes "content-length") (map
 -- The call of a request carries its body.
 pub call_fits : (r : RequestValue) (call : Call) → HasCall r call → length r.body ≤ MAX_BODY_BYTES → HasFittingBody call
 call_fits r (Read name) has fits = tt
-call_fits r (Change name (Push body)) has fits = subst (λ (t : List ℕ). length t ≤ MAX_BODY_BYTES) (sym has.3) fits
+call_fits r (Change name (Push id body)) has fits =
+    let change : HasChange r (Push id body) = has.2 in
+    subst (λ (t : List ℕ). length t ≤ MAX_BODY_BYTES) (sym change.2) fits
+call_fits r (Change name (Delete id)) has fits = tt
+call_fits r (Change name (Lock body)) has fits = tt
+call_fits r (Change name (Unlock body id)) has fits = tt
 
 -- ---- where faults come
 
@@ -224,17 +230,17 @@ module _ {S : Type 0} (step : S → Call → Reply → S → Type 0) where
 
   -- A message was refused.
   pub ended_refusing : (old : S) (reader into writer : Option (List ℕ)) (input : List ℕ) (refusal : Refusal) → framing_refusal input refusal
-      → Appends into writer (reply_text (refused refusal) closing_form) → HasEnded step old old reader reader into writer input Refused
+      → Appends into writer (reply_text (refused (refusal_value refusal)) closing_form) → HasEnded step old old reader reader into writer input Refused
   ended_refusing old reader into writer input refusal is appended = record {
     more = [];
-    text = reply_text (refused refusal) closing_form;
+    text = reply_text (refused (refusal_value refusal)) closing_form;
     consumed = consumes_nothing reader;
     appended = appended;
     through = tt;
     converses = record {
       rest = input;
       served = [];
-      last = reply_text (refused refusal) closing_form;
+      last = reply_text (refused (refusal_value refusal)) closing_form;
       has_served = ([], (append-nil input, refl, refl));
       ends = (refusal, is, refl);
       whole = refl;
@@ -280,7 +286,7 @@ module _ {S : Type 0} (step : S → Call → Reply → S → Type 0) where
   }
 
   pub broken_refusing : (old : S) (reader into writer : Option (List ℕ)) (input : List ℕ) (refusal : Refusal) (fault : ServeFault) (reads : ℕ) → framing_refusal input refusal
-      → WritesPart into writer (reply_text (refused refusal) closing_form) fault → HasBroken step old old reader reader into writer input fault reads
+      → WritesPart into writer (reply_text (refused (refusal_value refusal)) closing_form) fault → HasBroken step old old reader reader into writer input fault reads
   broken_refusing old reader into writer input refusal fault reads is w = record {
     more = [];
     text = w.part;
@@ -289,11 +295,11 @@ module _ {S : Type 0} (step : S → Call → Reply → S → Type 0) where
     breaks = record {
       rest = input;
       served = [];
-      last = reply_text (refused refusal) closing_form;
+      last = reply_text (refused (refusal_value refusal)) closing_form;
       lost = w.rest;
       has_served = ([], (append-nil input, refl, refl));
       end = inr (refusal, is, refl);
-      comes_at = comes_writing fault reads (reply_text (refused refusal) closing_form) w.rest w.one_of;
+      comes_at = comes_writing fault reads (reply_text (refused (refusal_value refusal)) closing_form) w.rest w.one_of;
       prefix = w.split;
     };
   }

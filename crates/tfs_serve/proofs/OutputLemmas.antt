@@ -7,6 +7,7 @@ use Rattle.tfs_table.specs.declared.call.Call.{Call}
 use Rattle.tfs_table.specs.declared.reply.Reply.{Reply}
 use Rattle.tfs_table.specs.declared.refusal.Refusal.{Refusal}
 use Rattle.tfs_table.specs.declared.refusal.Refusal.TheVariants.{OutOfMemory}
+use Rattle.tfs_table.specs.Refusal.{plain, refusal_value}
 use Rattle.tfs_table.specs.Reply.{ReplyValue, refused, reply_value}
 use Rattle.tfs_table.specs.Transition.{TableModel}
 use Rattle.tfs_http.specs.Request.{RequestValue}
@@ -27,20 +28,20 @@ use Rattle.tfs_serve.proofs.ConversationLemmas.{frame_is_no_empty_text, no_refus
 
 -- A desk in memory that had memory gives the model's answer.
 memory_step : (j k l : Journal) (call : Call) (given also : Reply) → AnswersCall j call given k → AnswersCall j call also l
-    → ¬ (reply_value given ≡ refused OutOfMemory) → ¬ (reply_value also ≡ refused OutOfMemory) → (reply_value given ≡ reply_value also) × (k ≡ l)
+    → ¬ (reply_value given ≡ refused (plain OutOfMemory)) → ¬ (reply_value also ≡ refused (plain OutOfMemory)) → (reply_value given ≡ reply_value also) × (k ≡ l)
 memory_step j k l call given also (inl a) (inl b) had has = (a.0 ∙ sym b.0, ap (λ (m : TableModel). m.journal) (a.1 ∙ sym b.1))
 memory_step j k l call given also (inr a) b had has = absurd (had a.0)
 memory_step j k l call given also (inl a) (inr b) had has = absurd (has b.0)
 
 module _ (routed : (r : RequestValue) (x y : Result Call Refusal) → RoutesTo r x → RoutesTo r y → x ≡ y) where
   answers_once : (j k l : Journal) (r : RequestValue) (reply also : ReplyValue) → AnswersRequest AnswersCall j r reply k → AnswersRequest AnswersCall j r also l
-      → ¬ (reply ≡ refused OutOfMemory) → ¬ (also ≡ refused OutOfMemory) → (reply ≡ also) × (k ≡ l)
+      → ¬ (reply ≡ refused (plain OutOfMemory)) → ¬ (also ≡ refused (plain OutOfMemory)) → (reply ≡ also) × (k ≡ l)
   answers_once j k l r reply also (inr (inl a)) b had has = absurd (had a.0)
   answers_once j k l r reply also a (inr (inl b)) had has = absurd (has b.0)
   answers_once j k l r reply also (inl a) (inl b) had has =
       let same = routed r (Err a.0) (Err b.0) a.1 b.1 in
       let refusal : a.0 ≡ b.0 = cc in
-      (a.2 ∙ ap refused refusal ∙ sym b.2, a.3 ∙ sym b.3)
+      (a.2 ∙ ap (λ (r : Refusal). refused (refusal_value r)) refusal ∙ sym b.2, a.3 ∙ sym b.3)
   answers_once j k l r reply also (inl a) (inr (inr b)) had has =
       let same = routed r (Err a.0) (Ok b.0) a.1 b.1 in cc
   answers_once j k l r reply also (inr (inr a)) (inl b) had has =
@@ -67,7 +68,7 @@ module _ (framed : (bytes : List ℕ) (t u : Take) → Frames bytes t → Frames
   ends_once rest last also Refused Refused a b =
       let same : Fault a.0 ≡ Fault b.0 = framed rest (Fault a.0) (Fault b.0) a.1 b.1 in
       let refusal : a.0 ≡ b.0 = cc in
-      (a.2 ∙ ap (λ r. reply_text (refused r) closing_form) refusal ∙ sym b.2, refl)
+      (a.2 ∙ ap (λ r. reply_text (refused (refusal_value r)) closing_form) refusal ∙ sym b.2, refl)
   ends_once rest last also Asked e a b = absurd a
   ends_once rest last also Clean Asked a b = absurd b
   ends_once rest last also Cut Asked a b = absurd b

@@ -5,6 +5,7 @@ use Rattle.tfs_table.specs.declared.call.Call.{Call}
 use Rattle.tfs_table.specs.declared.reply.Reply.{Reply}
 use Rattle.tfs_table.specs.declared.refusal.Refusal.{Refusal}
 use Rattle.tfs_table.specs.declared.refusal.Refusal.TheVariants.{OutOfMemory}
+use Rattle.tfs_table.specs.Refusal.{plain, refusal_value}
 use Rattle.tfs_table.specs.Reply.{ReplyValue, refused, reply_value}
 use Rattle.tfs_http.specs.declared.form.Form.{Form}
 use Rattle.tfs_http.specs.Request.{RequestValue}
@@ -22,8 +23,8 @@ use Rattle.tfs_serve.specs.declared.reads.TheConstants.{MAX_READS}
 -- else the desk's own answer to its call.
 abbrev pub AnswersRequest : {S : Type 0} → (S → Call → Reply → S → Type 0) → S → RequestValue → ReplyValue → S → Type 0
 AnswersRequest step old r reply new =
-    ((refusal : Refusal) × routing_refusal r refusal × (reply ≡ refused refusal) × (new ≡ old))
-    ⊎ (((reply ≡ refused OutOfMemory) × (new ≡ old))
+    ((refusal : Refusal) × routing_refusal r refusal × (reply ≡ refused (refusal_value refusal)) × (new ≡ old))
+    ⊎ (((reply ≡ refused (plain OutOfMemory)) × (new ≡ old))
     ⊎ ((call : Call) × HasCall r call × (given : Reply) × step old call given new × (reply ≡ reply_value given)))
 
 -- A message's request, with its reply.
@@ -53,7 +54,7 @@ abbrev pub Ends : List ℕ → List ℕ → Ended → Type 0
 Ends rest last Clean = (rest ≡ []) × (last ≡ [])
 Ends rest last Cut = ¬ (rest ≡ []) × IsUnfinished rest × (last ≡ [])
 Ends rest last Asked = ⊥
-Ends rest last Refused = (refusal : Refusal) × framing_refusal rest refusal × (last ≡ reply_text (refused refusal) closing_form)
+Ends rest last Refused = (refusal : Refusal) × framing_refusal rest refusal × (last ≡ reply_text (refused (refusal_value refusal)) closing_form)
 
 -- A conversation that ends with the input has a reader that is at its end.
 abbrev pub IsReadThrough : Ended → Option (List ℕ) → Type 0

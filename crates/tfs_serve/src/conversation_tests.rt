@@ -9,7 +9,7 @@ use std::test::Fail;
 use tfs_rules::Name;
 use tfs_table::{Bytes, Call, Raw, Reply};
 
-const S1: &str = "{\"version\":4, \"serial\":1 ,\"lineage\":\"L1\"}";
+pub(crate) const S1: &str = "{\"version\":4, \"serial\":1 ,\"lineage\":\"L1\"}";
 
 /// A push of S1 to `a` and a read of `a`, 130 bytes.
 const PUSH_AND_READ: &str =
@@ -108,19 +108,32 @@ impl io::Write for OneByOne {
 }
 
 /// How many entries the desk has: a further push tells the position that it gets.
-fn entries_of(rt: &(impl Alloc<A = Global> + Abort), desk: &mut FirstDesk) -> Result<u64, Fail> {
+pub(crate) fn entries_of(
+    rt: &(impl Alloc<A = Global> + Abort),
+    desk: &mut FirstDesk,
+) -> Result<u64, Fail> {
     let Some(name) = Name::read(String::from_str(rt.alloc(), "count")?) else {
         panic!(rt; "the text is a name");
     };
     let body = Bytes::new(S1.as_bytes().to_vec(rt.alloc())?);
-    match desk.answer(Call::Change(name, Raw::Push(body))) {
+    match desk.answer(Call::Change(name, Raw::Push(None, body))) {
         Reply::Done(position) => Ok(position - 1),
         _ => panic!(rt; "the push is accepted"),
     }
 }
 
+/// A conversation with no reads so far.
+fn talk<R: io::Read, W: io::Write>(
+    alloc: Global,
+    reader: &mut R,
+    writer: &mut W,
+    desk: &mut FirstDesk,
+) -> Result<Ended, ServeFault> {
+    converse(alloc, reader, writer, desk, &mut Reads::new())
+}
+
 /// The input in one piece is answered with this output and this end.
-fn expect(
+fn expect_end(
     rt: &(impl Alloc<A = Global> + Abort),
     desk: &mut FirstDesk,
     input: &str,
@@ -129,19 +142,23 @@ fn expect(
 ) {
     let mut reader = input.as_bytes();
     let mut writer = Vec::new(rt.alloc());
-    let ended = converse(
-        rt.alloc(),
-        &mut reader,
-        &mut writer,
-        desk,
-        &mut Reads::new(),
-    );
+    let ended = talk(rt.alloc(), &mut reader, &mut writer, desk);
     assert!(rt; ended == Ok(end), "{input}");
     assert!(rt; writer.as_slice() == output.as_bytes(), "{input}");
 }
 
+/// The input in one piece is answered with this output, and the conversation is Clean.
+pub(crate) fn expect(
+    rt: &(impl Alloc<A = Global> + Abort),
+    desk: &mut FirstDesk,
+    input: &str,
+    output: &str,
+) {
+    expect_end(rt, desk, input, output, Ended::Clean);
+}
+
 /// A push of the text to `a`.
-fn push_of(rt: &impl Alloc<A = Global>, text: &str) -> Result<String, Fail> {
+pub(crate) fn push_of(rt: &impl Alloc<A = Global>, text: &str) -> Result<String, Fail> {
     let len = text.len();
     Ok(format!(in rt.alloc();
         "POST /state/a HTTP/1.1\r\nHost: h\r\nContent-Length: {len}\r\n\r\n{text}"
@@ -149,7 +166,11 @@ fn push_of(rt: &impl Alloc<A = Global>, text: &str) -> Result<String, Fail> {
 }
 
 /// The reply of a refusal after which the conversation goes on.
-fn refusal_of(rt: &impl Alloc<A = Global>, status: &str, name: &str) -> Result<String, Fail> {
+pub(crate) fn refusal_of(
+    rt: &impl Alloc<A = Global>,
+    status: &str,
+    name: &str,
+) -> Result<String, Fail> {
     let len = name.len() + 12;
     Ok(format!(in rt.alloc();
         "HTTP/1.1 {status}\r\nContent-Type: application/json\r\nContent-Length: {len}\r\n\r\n{{\"error\":\"{name}\"}}"
@@ -164,7 +185,7 @@ fn last_refusal_of(rt: &impl Alloc<A = Global>, status: &str, name: &str) -> Res
     )?)
 }
 
-const DONE: &str = "HTTP/1.1 200 OK\r\nContent-Length: 0\r\n\r\n";
+pub(crate) const DONE: &str = "HTTP/1.1 200 OK\r\nContent-Length: 0\r\n\r\n";
 
 #[test]
 fn a_push_and_a_read_are_answered_however_they_are_cut(rt: HostRuntime) -> Result<(), Fail> {
@@ -173,13 +194,7 @@ fn a_push_and_a_read_are_answered_however_they_are_cut(rt: HostRuntime) -> Resul
         let mut reader = Pieces::new(PUSH_AND_READ, usize::MAX);
         reader.before_cut = cut;
         let mut writer = Vec::new(rt.alloc());
-        let ended = converse(
-            rt.alloc(),
-            &mut reader,
-            &mut writer,
-            &mut desk,
-            &mut Reads::new(),
-        );
+        let ended = talk(rt.alloc(), &mut reader, &mut writer, &mut desk);
         assert!(rt; ended == Ok(Ended::Clean), "{cut}");
         assert!(rt; writer.as_slice() == BOTH_REPLIES.as_bytes(), "{cut}");
     }
@@ -187,13 +202,7 @@ fn a_push_and_a_read_are_answered_however_they_are_cut(rt: HostRuntime) -> Resul
         let mut desk = FirstDesk::new(rt.alloc());
         let mut reader = Pieces::new(PUSH_AND_READ, most);
         let mut writer = OneByOne::new(rt.alloc(), 0);
-        let ended = converse(
-            rt.alloc(),
-            &mut reader,
-            &mut writer,
-            &mut desk,
-            &mut Reads::new(),
-        );
+        let ended = talk(rt.alloc(), &mut reader, &mut writer, &mut desk);
         assert!(rt; ended == Ok(Ended::Clean), "{most}");
         assert!(rt;
             writer.taken.as_slice() == BOTH_REPLIES.as_bytes(),
@@ -211,25 +220,14 @@ fn the_input_is_read_to_its_end(rt: HostRuntime) -> Result<(), Fail> {
         let mut reader = Pieces::new(PUSH_AND_READ, usize::MAX);
         reader.before_cut = cut;
         let mut writer = Vec::new(rt.alloc());
-        let ended = converse(
-            rt.alloc(),
-            &mut reader,
-            &mut writer,
-            &mut desk,
-            &mut Reads::new(),
-        );
+        let ended = talk(rt.alloc(), &mut reader, &mut writer, &mut desk);
         assert!(rt; ended == Ok(Ended::Clean), "{cut}");
         assert!(rt; reader.told_end, "{cut}");
     }
     let mut desk = FirstDesk::new(rt.alloc());
     let mut reader = Pieces::new("GET /state/a HT", 1);
-    let ended = converse(
-        rt.alloc(),
-        &mut reader,
-        &mut Vec::new(rt.alloc()),
-        &mut desk,
-        &mut Reads::new(),
-    );
+    let mut writer = Vec::new(rt.alloc());
+    let ended = talk(rt.alloc(), &mut reader, &mut writer, &mut desk);
     assert!(rt; ended == Ok(Ended::Cut));
     assert!(rt; reader.told_end);
     Ok(())
@@ -243,13 +241,7 @@ fn an_input_that_is_cut_short_has_the_replies_to_its_whole_messages(
         let mut desk = FirstDesk::new(rt.alloc());
         let mut reader = PUSH_AND_READ.as_bytes().split_at(len).0;
         let mut writer = Vec::new(rt.alloc());
-        let ended = converse(
-            rt.alloc(),
-            &mut reader,
-            &mut writer,
-            &mut desk,
-            &mut Reads::new(),
-        );
+        let ended = talk(rt.alloc(), &mut reader, &mut writer, &mut desk);
         let (written, end) = match len {
             0 => (0, Ended::Clean),
             1..=95 => (0, Ended::Cut),
@@ -258,10 +250,8 @@ fn an_input_that_is_cut_short_has_the_replies_to_its_whole_messages(
             _ => (BOTH_REPLIES.len(), Ended::Clean),
         };
         assert!(rt; ended == Ok(end), "{len}");
-        assert!(rt;
-            writer.as_slice() == BOTH_REPLIES.as_bytes().split_at(written).0,
-            "{len}"
-        );
+        let wanted = BOTH_REPLIES.as_bytes().split_at(written).0;
+        assert!(rt; writer.as_slice() == wanted, "{len}");
     }
     Ok(())
 }
@@ -272,23 +262,17 @@ fn replies_tell_what_the_desk_says(rt: HostRuntime) -> Result<(), Fail> {
     let read = "GET /state/a HTTP/1.1\r\nHost: h\r\n\r\n";
     let none =
         "HTTP/1.1 404 Not Found\r\nContent-Type: application/json\r\nContent-Length: 19\r\n\r\n{\"error\":\"NoState\"}";
-    expect(&rt, &mut desk, read, none, Ended::Clean);
+    expect(&rt, &mut desk, read, none);
     let push = push_of(&rt, S1)?;
-    expect(&rt, &mut desk, push.as_str(), DONE, Ended::Clean);
-    expect(&rt, &mut desk, push.as_str(), DONE, Ended::Clean);
+    expect(&rt, &mut desk, push.as_str(), DONE);
+    expect(&rt, &mut desk, push.as_str(), DONE);
     let spaced = format!(in rt.alloc(); "{S1} ")?;
     let spaced = push_of(&rt, spaced.as_str())?;
     let reused = refusal_of(&rt, "409 Conflict", "SerialReused")?;
-    expect(
-        &rt,
-        &mut desk,
-        spaced.as_str(),
-        reused.as_str(),
-        Ended::Clean,
-    );
+    expect(&rt, &mut desk, spaced.as_str(), reused.as_str());
     let state =
         "HTTP/1.1 200 OK\r\nContent-Type: application/json\r\nContent-Length: 41\r\n\r\n{\"version\":4, \"serial\":1 ,\"lineage\":\"L1\"}";
-    expect(&rt, &mut desk, read, state, Ended::Clean);
+    expect(&rt, &mut desk, read, state);
     assert_eq!(rt; entries_of(&rt, &mut desk)?, 2);
     Ok(())
 }
@@ -299,22 +283,16 @@ fn serials_and_lineages_are_compared(rt: HostRuntime) -> Result<(), Fail> {
     let other = push_of(&rt, "{\"version\":4,\"serial\":9,\"lineage\":\"L2\"}")?;
     let differs = refusal_of(&rt, "409 Conflict", "LineageDiffers")?;
     let first = push_of(&rt, S1)?;
-    expect(&rt, &mut desk, first.as_str(), DONE, Ended::Clean);
-    expect(
-        &rt,
-        &mut desk,
-        other.as_str(),
-        differs.as_str(),
-        Ended::Clean,
-    );
+    expect(&rt, &mut desk, first.as_str(), DONE);
+    expect(&rt, &mut desk, other.as_str(), differs.as_str());
     let greatest = push_of(
         &rt,
         "{\"version\":4,\"serial\":18446744073709551615,\"lineage\":\"L1\"}",
     )?;
-    expect(&rt, &mut desk, greatest.as_str(), DONE, Ended::Clean);
+    expect(&rt, &mut desk, greatest.as_str(), DONE);
     let least = push_of(&rt, "{\"version\":4,\"serial\":0,\"lineage\":\"L1\"}")?;
     let low = refusal_of(&rt, "409 Conflict", "SerialTooLow")?;
-    expect(&rt, &mut desk, least.as_str(), low.as_str(), Ended::Clean);
+    expect(&rt, &mut desk, least.as_str(), low.as_str());
     Ok(())
 }
 
@@ -329,13 +307,26 @@ fn texts_that_are_no_states_are_refused(rt: HostRuntime) -> Result<(), Fail> {
         "",
     ] {
         let push = push_of(&rt, text)?;
-        expect(&rt, &mut desk, push.as_str(), bad.as_str(), Ended::Clean);
+        expect(&rt, &mut desk, push.as_str(), bad.as_str());
     }
     let more = push_of(
         &rt,
         "{\"version\":4,\"serial\":0,\"lineage\":\"L1\",\"resources\":null,\"more\":[1]}",
     )?;
-    expect(&rt, &mut desk, more.as_str(), DONE, Ended::Clean);
+    expect(&rt, &mut desk, more.as_str(), DONE);
+    Ok(())
+}
+
+/// A message is refused, and the conversation ends with that reply.
+fn expect_refusal(
+    rt: &(impl Alloc<A = Global> + Abort),
+    desk: &mut FirstDesk,
+    text: &str,
+    status: &str,
+    name: &str,
+) -> Result<(), Fail> {
+    let refusal = last_refusal_of(rt, status, name)?;
+    expect_end(rt, desk, text, refusal.as_str(), Ended::Refused);
     Ok(())
 }
 
@@ -354,45 +345,19 @@ fn messages_without_an_end_are_refused_and_nothing_behind_them_is_read(
         endless.push('a')?;
     }
     let head = "431 Request Header Fields Too Large";
+    let text = format!(in rt.alloc(); "{many}\r\n{PUSH_AND_READ}")?;
+    expect_refusal(&rt, &mut desk, text.as_str(), head, "HeadTooLarge")?;
+    expect_refusal(&rt, &mut desk, endless.as_str(), head, "HeadTooLarge")?;
     let bad = "400 Bad Request";
-    for (text, status, name) in [
-        (
-            format!(in rt.alloc(); "{start}Content-Length: 16777217\r\n\r\n")?,
-            "413 Content Too Large",
-            "BodyTooLarge",
-        ),
-        (
-            format!(in rt.alloc(); "{many}\r\n{PUSH_AND_READ}")?,
-            head,
-            "HeadTooLarge",
-        ),
-        (endless, head, "HeadTooLarge"),
-        (
-            format!(in rt.alloc(); "GET\r\n\r\n{PUSH_AND_READ}")?,
-            bad,
-            "BadHead",
-        ),
-        (
-            format!(in rt.alloc();
-                "{start}Content-Length: 1\r\nContent-Length: 1\r\n\r\n{PUSH_AND_READ}"
-            )?,
-            bad,
-            "BadLength",
-        ),
-        (
-            format!(in rt.alloc(); "{start}Content-Length: +3\r\n\r\n{PUSH_AND_READ}")?,
-            bad,
-            "BadLength",
-        ),
+    let text = format!(in rt.alloc(); "GET\r\n\r\n{PUSH_AND_READ}")?;
+    expect_refusal(&rt, &mut desk, text.as_str(), bad, "BadHead")?;
+    for (len, status, name) in [
+        ("16777217", "413 Content Too Large", "BodyTooLarge"),
+        ("1\r\nContent-Length: 1", bad, "BadLength"),
+        ("+3", bad, "BadLength"),
     ] {
-        let refusal = last_refusal_of(&rt, status, name)?;
-        expect(
-            &rt,
-            &mut desk,
-            text.as_str(),
-            refusal.as_str(),
-            Ended::Refused,
-        );
+        let text = format!(in rt.alloc(); "{start}Content-Length: {len}\r\n\r\n{PUSH_AND_READ}")?;
+        expect_refusal(&rt, &mut desk, text.as_str(), status, name)?;
     }
     assert_eq!(rt; entries_of(&rt, &mut desk)?, 0);
     Ok(())
@@ -406,18 +371,10 @@ fn a_failing_writer_has_a_part_of_the_replies(rt: HostRuntime) -> Result<(), Fai
             let mut writer = OneByOne::new(rt.alloc(), call);
             writer.takes_none = takes_none;
             let mut reader = PUSH_AND_READ.as_bytes();
-            let ended = converse(
-                rt.alloc(),
-                &mut reader,
-                &mut writer,
-                &mut desk,
-                &mut Reads::new(),
-            );
+            let ended = talk(rt.alloc(), &mut reader, &mut writer, &mut desk);
             assert!(rt; ended == Err(ServeFault::Write), "{call}");
-            assert!(rt;
-                writer.taken.as_slice() == BOTH_REPLIES.as_bytes().split_at(call - 1).0,
-                "{call}"
-            );
+            let wanted = BOTH_REPLIES.as_bytes().split_at(call - 1).0;
+            assert!(rt; writer.taken.as_slice() == wanted, "{call}");
             assert_eq!(rt; entries_of(&rt, &mut desk)?, 1);
         }
     }
@@ -440,10 +397,8 @@ fn a_failing_reader_leaves_all_replies_written(rt: HostRuntime) -> Result<(), Fa
         };
         assert!(rt; ended == Err(ServeFault::Read), "{call}");
         assert_eq!(rt; reads.used(), call as u64);
-        assert!(rt;
-            writer.as_slice() == BOTH_REPLIES.as_bytes().split_at(written).0,
-            "{call}"
-        );
+        let wanted = BOTH_REPLIES.as_bytes().split_at(written).0;
+        assert!(rt; writer.as_slice() == wanted, "{call}");
         assert_eq!(rt; entries_of(&rt, &mut desk)?, entries);
     }
     Ok(())
@@ -481,13 +436,7 @@ fn a_long_body_comes_in_pieces(rt: HostRuntime) -> Result<(), Fail> {
         let mut desk = FirstDesk::new(rt.alloc());
         let mut writer = Vec::new(rt.alloc());
         let mut reader = Pieces::new(push.as_str(), most);
-        let ended = converse(
-            rt.alloc(),
-            &mut reader,
-            &mut writer,
-            &mut desk,
-            &mut Reads::new(),
-        );
+        let ended = talk(rt.alloc(), &mut reader, &mut writer, &mut desk);
         assert!(rt; ended == Ok(Ended::Clean), "{most}");
         assert!(rt; writer.as_slice() == DONE.as_bytes(), "{most}");
     }

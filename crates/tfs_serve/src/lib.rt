@@ -1,4 +1,5 @@
-//! Conversations over a connection. So far there is a desk that answers calls and keeps its journal in memory.
+//! Conversations over a connection: requests in, replies out, and a desk that answers the calls. So far the one desk is
+//! that which keeps its journal in memory.
 #![tactic(auto)]
 
 mod conversation;
@@ -22,5 +23,7 @@ pub use reads::{MAX_READS, Reads};
 
 #[cfg(test)]
 mod conversation_tests;
+#[cfg(test)]
+mod lock_tests;
 #[cfg(test)]
 mod tests;

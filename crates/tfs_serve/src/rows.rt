@@ -11,6 +11,7 @@ ghost use Rattle.tfs_serve.specs.Rows.{has_row, standing_at, IsPlaceOf, AreRowsO
 use crate::row::Row;
 use std::alloc::AllocError;
 use std::sync::Arc;
+use tfs_lock::LockInfo;
 use tfs_rules::{Act, Name, Record, Verdict};
 use tfs_state::Doc;
 
@@ -45,6 +46,16 @@ pub(crate) fn state_at<'r>(rows: &'r [Row], name: &Name) -> Option<&'r Arc<Doc>>
 {
     match place_of(rows, name) {
         Some(place) => rows[place].workspace.state(),
+        None => None,
+    }
+}
+
+/// The information of the lock that is held on the workspace of a name.
+pub(crate) fn holder_at<'r>(rows: &'r [Row], name: &Name) -> Option<&'r Arc<LockInfo>>
+    ensures { option_map (λ info. arc_value info.now) result ≡ (standing_at name.now rows.now).holder }
+{
+    match place_of(rows, name) {
+        Some(place) => rows[place].workspace.holder(),
         None => None,
     }
 }

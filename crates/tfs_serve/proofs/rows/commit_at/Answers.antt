@@ -5,7 +5,7 @@ use Rattle.tfs_rules.specs.Verdict.{verdict_over}
 use Rattle.tfs_journal.specs.Journal.{with_entry}
 use Rattle.tfs_serve.specs.Rows.{IsPlaceOf, has_row, AreRowsOf}
 use Rattle.tfs_serve.specs.declared.row.Row.{Row}
-use Rattle.tfs_serve.proofs.RowLemmas.{standing_at_place, rows_changed, rows_added}
+use Rattle.tfs_serve.proofs.RowLemmas.{standing_at_place, standing_absent, rows_changed, rows_added}
 use Rattle.tfs_serve.proofs.rows.commit_at.Goals as goal
 
 pub commit-requires : goal.commit-requires
@@ -24,3 +24,8 @@ returns-in_ok-push-in-None-clause-ok c = λ j are.
     let none : has_row c.args.name c.args.rows.now.items ≡ false = ap (has_row c.args.name) (sym c.deref.ensures.value) ∙ c.in-None.ensures.absent in
     subst (AreRowsOf (with_entry j (record { name = c.args.name; act = act_value c.args.act }))) (sym c.in_ok-push-in-None.ensures.items)
     (rows_added _ _ _ _ none (λ h e. c.commit-in-None.ensures h (c.empty-workspace.ensures ∙ e)) j are)
+
+pub commit-requires-in-None : goal.commit-requires-in-None
+commit-requires-in-None c =
+    let none : has_row c.args.name c.args.rows.now.items ≡ false = ap (has_row c.args.name) (sym c.deref.ensures.value) ∙ c.in-None.ensures.absent in
+    ap (λ s. verdict_over s (act_value c.args.act)) (c.empty-workspace.ensures ∙ sym (standing_absent c.args.name c.args.rows.now.items none)) ∙ c.requires
