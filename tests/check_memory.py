@@ -1,5 +1,6 @@
-"""Refuses the built program's requests for memory, by a preloaded shim: each request of the stored run in turn, and all
-from each one on. Each run ends by itself, and what it wrote is whole replies that the model allows.
+"""Refuses the built program's requests for memory, by a preloaded shim: each request of a conversation in turn, and all
+from each one on. Each run ends by itself, and what it wrote is whole replies that the model allows. One conversation is the
+stored run, whose outputs are written here by hand; the other one has locks, unlocks and a deletion.
 
 All requests are the program's own, by malloc and realloc; the loader and the C library make none. The first ones are
 for the arguments: refused, the arguments can't be had and count as other arguments."""
@@ -7,10 +8,11 @@ import os
 import subprocess
 import sys
 import tempfile
+from itertools import combinations
 from pathlib import Path
 
-from stdio_model import DONE, refusal_text, reply_text
-from stdio_program import CRATE, PROGRAM, S1, SECONDS, USAGE, checks_in, expect, run_checks
+from stdio_model import DONE, Table, refusal_text, reply_text
+from stdio_program import CRATE, PROGRAM, S1, SECONDS, USAGE, checks_in, expect, request_text, run_checks
 
 FOLDER = tempfile.TemporaryDirectory(prefix="tfstated-")
 SHIM = Path(FOLDER.name) / "refuse_memory.so"
@@ -21,18 +23,26 @@ NO_STATE = refusal_text("NoState")
 FAULT = b"tfstated: NoMemory\n"
 FOREVER = 10**9
 
+A, B = b'{"ID":"A" ,"Who":""}', b'{"ID":"B"}'
+LOCKS = [
+    ("LOCK", "/state/a", A), ("POST", "/state/a?ID=A", S1), ("GET", "/state/a", b""), ("LOCK", "/state/a", B),
+    ("UNLOCK", "/state/a", A), ("DELETE", "/state/a", b""),
+]
+LOCKS_TEXT = b"".join(request_text(*request) for request in LOCKS)
+LOCKS_REPLIES = [DONE, DONE, STATE, reply_text(423, A), DONE, DONE]
+
 
 def build_shim():
     source = Path(__file__).resolve().parent / "refuse_memory.c"
     subprocess.run(["gcc", "-O1", "-Wall", "-shared", "-fPIC", "-o", str(SHIM), str(source)], check=True)
 
 
-def run_refused(first, last, word="stdio"):
+def run_refused(first, last, word="stdio", data=PUSH_AND_GET):
     """Runs the program, whose requests from the first to the last are refused: what it wrote, its status, what it wrote on
     standard error, and the counts of its own requests and of others."""
     reading, writing = os.pipe()
     given = {"LD_PRELOAD": str(SHIM), "REFUSE_FROM": str(first), "REFUSE_TO": str(last), "COUNTS": str(writing)}
-    how = {"input": PUSH_AND_GET, "capture_output": True, "timeout": SECONDS, "check": False}
+    how = {"input": data, "capture_output": True, "timeout": SECONDS, "check": False}
     ran = subprocess.run([PROGRAM, word], env=given, pass_fds=[writing], **how)
     os.close(writing)
     with os.fdopen(reading) as counts:
@@ -40,10 +50,10 @@ def run_refused(first, last, word="stdio"):
     return ran.stdout, ran.returncode, ran.stderr, own, others
 
 
-def ample_counts():
-    """How many requests the stored run makes, and how many of them are for the arguments."""
-    output, status, errors, requests, others = run_refused(0, 0)
-    expect((output, status, errors, others), (DONE + STATE, 0, b"", 0), "no request is refused")
+def ample_counts(data=PUSH_AND_GET, wanted=DONE + STATE):
+    """How many requests a conversation makes, and how many of them are for the arguments."""
+    output, status, errors, requests, others = run_refused(0, 0, data=data)
+    expect((output, status, errors, others), (wanted, 0, b"", 0), "no request is refused")
     output, status, errors, for_arguments, others = run_refused(0, 0, "other")
     expect((output, status, errors, others), (b"", 2, USAGE, 0), "other arguments of the same length")
     return requests, for_arguments
@@ -87,6 +97,48 @@ def check_all_requests_from_each_one_on_are_refused():
     for request in range(1, requests + 1):
         ran = run_refused(request, FOREVER)
         expect_allowed(ran, request, for_arguments, refused_once=False)
+
+
+def replies_without(refused):
+    """The replies to the second conversation, where those of these numbers are OutOfMemory and change nothing."""
+    table = Table()
+    return [NO_MEMORY if number in refused else table.reply(*request) for number, request in enumerate(LOCKS)]
+
+
+def whole_run(refused):
+    """What the second conversation writes, and its status, where it comes to its end."""
+    return b"".join(replies_without(refused)), 0, b""
+
+
+def broken_runs(refused):
+    """The same where it is broken off after some of its replies, and after each that was OutOfMemory."""
+    replies, first = replies_without(refused), max(refused, default=-1) + 1
+    return {(b"".join(replies[:count]), 1, FAULT) for count in range(first, len(LOCKS) + 1)}
+
+
+def check_each_request_of_a_conversation_with_locks_is_refused_in_turn():
+    expect(replies_without([]), LOCKS_REPLIES, "with ample memory")
+    requests, for_arguments = ample_counts(LOCKS_TEXT, b"".join(LOCKS_REPLIES))
+    out_of_memory = {whole_run([number]) for number in range(len(LOCKS))}
+    seen = set()
+    for request in range(for_arguments + 1, requests + 1):
+        *ran, _, others = run_refused(request, request, data=LOCKS_TEXT)
+        expect((tuple(ran) in out_of_memory | broken_runs([]), others), (True, 0), f"request {request}, {ran}")
+        seen.add(tuple(ran))
+    expect(run_refused(requests + 1, FOREVER, data=LOCKS_TEXT)[:3], whole_run([]), "there is no further request")
+    expect(out_of_memory <= seen, True, "each reply is OutOfMemory once")
+    expect({(b"".join(LOCKS_REPLIES[:count]), 1, FAULT) for count in range(len(LOCKS))} <= seen, True, "faults before each")
+
+
+def check_all_requests_from_each_one_on_of_a_conversation_with_locks_are_refused():
+    requests, for_arguments = ample_counts(LOCKS_TEXT, b"".join(LOCKS_REPLIES))
+    allowed = broken_runs([])
+    for size in range(1, len(LOCKS) + 1):
+        for refused in combinations(range(len(LOCKS)), size):
+            allowed |= {whole_run(refused)} | broken_runs(refused)
+    for request in range(for_arguments + 1, requests + 1):
+        *ran, _, others = run_refused(request, FOREVER, data=LOCKS_TEXT)
+        expect((tuple(ran) in allowed, others), (True, 0), f"request {request}, {ran}")
 
 
 if __name__ == "__main__":

@@ -145,12 +145,14 @@ def check_targets_and_methods_are_judged_in_order():
     table = [
         (b"GET /state/", "NoRoute"), (b"GET /", "NoRoute"), (b"GET /state/a/b", "NoRoute"), (b"GET *", "NoRoute"),
         (b"PUT /state/a", "MethodNotAllowed"), (b"get /state/a", "MethodNotAllowed"),
+        (b"OPTIONS /state/a", "MethodNotAllowed"), (b"Lock /state/a", "MethodNotAllowed"), (b"UNLOCK /state/", "NoRoute"),
         (b"PUT /state/a%20b", "MethodNotAllowed"), (b"GET /state/a%20b", "BadName"), (b"GET /state/" + b"n" * 65, "BadName"),
         (b"GET /state/" + b"n" * 64, "NoState"), (b"GET /state/a?b=c", "NoState"), (b"GET /state/..", "NoState"),
     ]
     requests = b"".join(line + b" HTTP/1.1\r\nHost: h\r\n\r\n" for line, _ in table)
     expect(run(requests), (b"".join(refusal_text(name) for _, name in table), CLEAN, b""))
-    expect(refusal_text("MethodNotAllowed"), b"HTTP/1.1 405 Method Not Allowed\r\nAllow: GET, POST\r\n"
+    expect(refusal_text("MethodNotAllowed"), b"HTTP/1.1 405 Method Not Allowed\r\n"
+           b"Allow: DELETE, GET, LOCK, POST, UNLOCK\r\n"
            b'Content-Type: application/json\r\nContent-Length: 28\r\n\r\n{"error":"MethodNotAllowed"}')
 
 

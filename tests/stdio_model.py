@@ -1,25 +1,28 @@
 """A plain model of a conversation over a new table: what `tfstated stdio` writes for a list of bytes, and its status.
 
-It is written from docs/DEFINITIONS.md and docs/FORMATS.md, as far as these are built: GET and POST of a state, without
-identifiers; `Host`, the version, `Connection`, `Transfer-Encoding` and `Content-MD5` aren't looked at. It always looks at
-all of the bytes and never at how they were cut. Want of memory isn't in it.
+It is written from docs/DEFINITIONS.md and docs/FORMATS.md, as far as these are built: GET, POST, DELETE, LOCK and UNLOCK
+of a state; `Host`, the version, `Connection`, `Transfer-Encoding` and `Content-MD5` aren't looked at, nor the resources of
+a state. It always looks at all of the bytes and never at how they were cut. Want of memory isn't in it.
 """
 import json
 import re
+from urllib.parse import unquote_to_bytes
 
 MAX_HEAD, MAX_LINE_FEEDS, MAX_FIELDS = 16384, 66, 64
 MAX_BODY = 16777216
 MAX_NAMES, MAX_ENTRIES, MAX_NESTING = 1024, 65536, 127
+MAX_LOCK_INFO, MAX_IDENTIFIER = 65536, 256
 
 PHRASES = {
     200: "OK", 400: "Bad Request", 404: "Not Found", 405: "Method Not Allowed", 409: "Conflict", 413: "Content Too Large",
-    431: "Request Header Fields Too Large", 507: "Insufficient Storage", 503: "Service Unavailable",
+    423: "Locked", 431: "Request Header Fields Too Large", 507: "Insufficient Storage", 503: "Service Unavailable",
 }
 STATUSES = {
     "HeadTooLarge": 431, "BadHead": 400, "BadLength": 400, "BodyTooLarge": 413, "NoRoute": 404, "MethodNotAllowed": 405,
-    "BadName": 400, "BadState": 400, "LineageDiffers": 409, "SerialTooLow": 409, "SerialReused": 409, "NoState": 404,
-    "TableFull": 507, "JournalFull": 507, "OutOfMemory": 503,
+    "BadName": 400, "BadLockInfo": 400, "BadState": 400, "LockLost": 409, "LineageDiffers": 409, "SerialTooLow": 409,
+    "SerialReused": 409, "NoState": 404, "TableFull": 507, "JournalFull": 507, "OutOfMemory": 503,
 }
+METHODS = ["DELETE", "GET", "LOCK", "POST", "UNLOCK"]
 CLEAN, CUT, REFUSED = 0, 3, 4
 
 TOKEN = rb"[!#$%&'*+\-.^_`|~0-9A-Za-z]+"
@@ -40,7 +43,7 @@ def reply_text(status, body=b"", close=False, allow=None):
 
 def refusal_text(name, close=False):
     """The bytes of a refusal's reply."""
-    allow = "GET, POST" if name == "MethodNotAllowed" else None
+    allow = ", ".join(METHODS) if name == "MethodNotAllowed" else None
     return reply_text(STATUSES[name], b'{"error":"%s"}' % name.encode(), close, allow)
 
 
@@ -53,6 +56,10 @@ class Unfinished(Exception):
 
 class Refused(Exception):
     """The name of a refusal."""
+
+
+class Locked(Exception):
+    """The bytes of the holder of a lock that the act doesn't bear."""
 
 
 def head_of(data):
@@ -124,31 +131,46 @@ def whole_of(text):
     return int(text) if text.isdigit() and len(text) <= 20 else float_of(text)
 
 
+class Members(list):
+    """The members of an object in order, also those that a later one of the same name replaces."""
+
+
 def nesting_of(value):
     """How deep arrays and objects nest."""
-    parts = value.values() if isinstance(value, dict) else value if isinstance(value, list) else None
-    return 0 if parts is None else 1 + max(map(nesting_of, parts), default=0)
+    if not isinstance(value, list):
+        return 0
+    parts = [part for _, part in value] if isinstance(value, Members) else value
+    return 1 + max(map(nesting_of, parts), default=0)
 
 
 def json_of(body):
     """The JSON value of a list of bytes; ValueError where there is none."""
     text = body.decode("utf-8")
-    value = json.loads(text, parse_constant=refuse_constant, parse_float=float_of, parse_int=whole_of)
+    numbers = {"parse_constant": refuse_constant, "parse_float": float_of, "parse_int": whole_of}
+    value = json.loads(text, object_pairs_hook=Members, **numbers)
     json.dumps(value, ensure_ascii=False).encode("utf-8")
     if nesting_of(value) > MAX_NESTING:
         raise ValueError("nesting")
     return value
 
 
-def document_of(body):
-    """Lineage, serial and bytes of the document that the bytes spell."""
+def members_of(body, refusal):
+    """The members of the object that the bytes spell, the last one where a name is given twice."""
     try:
         top = json_of(body)
     except (ValueError, RecursionError):
-        raise Refused("BadState") from None
-    if not isinstance(top, dict) or type(top.get("version")) is not int or top["version"] != 4:
+        raise Refused(refusal) from None
+    if not isinstance(top, Members):
+        raise Refused(refusal)
+    return dict(top)
+
+
+def document_of(body):
+    """Lineage, serial and bytes of the document that the bytes spell."""
+    top = members_of(body, "BadState")
+    version, serial, lineage = top.get("version"), top.get("serial"), top.get("lineage")
+    if type(version) is not int or version != 4:
         raise Refused("BadState")
-    serial, lineage = top.get("serial"), top.get("lineage")
     if type(serial) is not int or serial >= 2**64:
         raise Refused("BadState")
     if not isinstance(lineage, str) or not lineage:
@@ -156,63 +178,147 @@ def document_of(body):
     return lineage, serial, body
 
 
+def bounded(identifier):
+    """The identifier, which has at most 256 bytes."""
+    if len(identifier.encode()) > MAX_IDENTIFIER:
+        raise Refused("BadLockInfo")
+    return identifier
+
+
+def locked_by(body):
+    """The identifier of the lock information that the bytes spell."""
+    if len(body) > MAX_LOCK_INFO:
+        raise Refused("BadLockInfo")
+    identifier = members_of(body, "BadLockInfo").get("ID")
+    if not isinstance(identifier, str) or not identifier:
+        raise Refused("BadLockInfo")
+    return bounded(identifier)
+
+
+def decoded(part):
+    """A name or a value of a query as text."""
+    return unquote_to_bytes(part.replace("+", " ")).decode("utf-8", "replace")
+
+
+def identifier_in(query):
+    """The identifier that a query gives; none where it is missing or empty."""
+    for piece in filter(None, query.split("&")):
+        name, _, value = piece.partition("=")
+        if decoded(name) == "ID":
+            return bounded(decoded(value)) or None
+    return None
+
+
+def act_of(method, query, body):
+    """The act that a request asks for: its identifier or none, and what it carries, which is the information of a lock and
+    the document of a push."""
+    if method == "LOCK":
+        return locked_by(body), body
+    if method == "UNLOCK" and body:
+        return locked_by(body), None
+    identifier = identifier_in(query)
+    return identifier, document_of(body) if method == "POST" else None
+
+
 class Table:
-    """The names with their states, and the number of entries."""
+    """The names that had an accepted act, their holders (identifier and bytes) and their states, and the number of
+    entries."""
 
     def __init__(self):
+        self.names = set()
+        self.holders = {}
         self.states = {}
         self.entries = 0
 
-    def push(self, name, body):
-        """Takes a push, or refuses it."""
-        lineage, serial, _ = document = document_of(body)
-        if name in self.states:
-            old_lineage, old_serial, old_body = self.states[name]
-            if lineage != old_lineage:
-                raise Refused("LineageDiffers")
-            if serial < old_serial:
-                raise Refused("SerialTooLow")
-            if serial == old_serial and body != old_body:
-                raise Refused("SerialReused")
-        elif len(self.states) == MAX_NAMES:
+    def judge_by_lock(self, method, name, identifier, carried):
+        """Refuses an act by the holder of its name."""
+        if name not in self.holders:
+            if method in ("POST", "DELETE") and identifier is not None:
+                raise Refused("LockLost")
+            return
+        held_by, held = self.holders[name]
+        forced = method == "UNLOCK" and identifier is None
+        if not forced and (carried != held if method == "LOCK" else identifier != held_by):
+            raise Locked(held)
+
+    def judge_by_state(self, name, document):
+        """Refuses a push by the state of its name."""
+        if name not in self.states:
+            return
+        lineage, serial, body = document
+        old_lineage, old_serial, old_body = self.states[name]
+        if lineage != old_lineage:
+            raise Refused("LineageDiffers")
+        if serial < old_serial:
+            raise Refused("SerialTooLow")
+        if serial == old_serial and body != old_body:
+            raise Refused("SerialReused")
+
+    def change(self, method, name, query, body):
+        """Takes a change, or refuses it."""
+        identifier, carried = act_of(method, query, body)
+        self.judge_by_lock(method, name, identifier, carried)
+        if method == "POST":
+            self.judge_by_state(name, carried)
+        if name not in self.names and len(self.names) == MAX_NAMES:
             raise Refused("TableFull")
         if self.entries == MAX_ENTRIES:
             raise Refused("JournalFull")
-        self.states[name] = document
+        self.names.add(name)
         self.entries += 1
+        if method == "LOCK":
+            self.holders[name] = identifier, carried
+        elif method == "UNLOCK":
+            self.holders.pop(name, None)
+        elif method == "POST":
+            self.states[name] = carried
+        else:
+            self.states.pop(name, None)
 
     def answer(self, method, target, body):
-        """The bytes of the reply to a request."""
-        path = target.split("?")[0]
+        """The bytes of the reply to a request that isn't refused."""
+        path, _, query = target.partition("?")
         route = re.fullmatch(r"/state/([^/]+)", path)
         if route is None:
             raise Refused("NoRoute")
-        if method not in ("GET", "POST"):
+        if method not in METHODS:
             raise Refused("MethodNotAllowed")
         name = route[1]
         if not NAME.fullmatch(name):
             raise Refused("BadName")
-        if method == "POST":
-            self.push(name, body)
+        if method != "GET":
+            self.change(method, name, query, body)
             return DONE
         if name not in self.states:
             raise Refused("NoState")
         return reply_text(200, self.states[name][2])
 
+    def reply(self, method, target, body):
+        """The bytes of the reply to a request."""
+        try:
+            return self.answer(method, target, body)
+        except Locked as locked:
+            return reply_text(423, locked.args[0])
+        except Refused as refusal:
+            return refusal_text(str(refusal))
 
-def conversation(data):
-    """What is written for these bytes, and the program's status."""
-    table, output = Table(), b""
+
+def replies_to(data):
+    """The replies to these bytes in order, and the program's status."""
+    table, replies = Table(), []
     while data:
         try:
             method, target, body, used = take(data)
         except Unfinished:
-            return output, CUT
+            return replies, CUT
         except Refused as refusal:
-            return output + refusal_text(str(refusal), close=True), REFUSED
+            return [*replies, refusal_text(str(refusal), close=True)], REFUSED
         data = data[used:]
-        try:
-            output += table.answer(method, target, body)
-        except Refused as refusal:
-            output += refusal_text(str(refusal))
-    return output, CLEAN
+        replies.append(table.reply(method, target, body))
+    return replies, CLEAN
+
+
+def conversation(data):
+    """What is written for these bytes, and the program's status."""
+    replies, status = replies_to(data)
+    return b"".join(replies), status

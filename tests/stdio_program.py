@@ -7,6 +7,7 @@ import struct
 import subprocess
 import sys
 import termios
+import threading
 import time
 import traceback
 from pathlib import Path
@@ -92,21 +93,34 @@ class Talk:
         return output, self.process.returncode, errors
 
 
-def run_in_pieces(pieces):
-    """Runs the program on pieces of at most 65,536 bytes, the most of one read. Each is a packet of a socket, so that a
-    read takes just one of them."""
-    near, far = socket.socketpair(socket.AF_UNIX, socket.SOCK_SEQPACKET)
+def request_text(method, target, body=b"", more=""):
+    """The bytes of a request, with more lines of its head if any are given."""
+    length = f"Content-Length: {len(body)}\r\n" if body else ""
+    return f"{method} {target} HTTP/1.1\r\nHost: h\r\n{length}{more}\r\n".encode() + body
+
+
+def send_all(near, pieces):
+    """Sends each piece as a packet, and closes; the program may have ended earlier."""
     with near:
-        with far:
-            talk = Talk(stdin=far)
         try:
             for piece in pieces:
-                expect(len(piece) <= MAX_READ, True, "a larger packet would lose its end")
                 near.send(piece)
-            near.shutdown(socket.SHUT_WR)
         except (BrokenPipeError, ConnectionResetError):
             pass
-        return talk.end()
+
+
+def run_in_pieces(pieces):
+    """Runs the program on pieces of at most 65,536 bytes, the most of one read. Each is a packet of a socket, so that a
+    read takes just one of them. They are sent from a thread, since the program waits where its output isn't read."""
+    expect(max(map(len, pieces)) <= MAX_READ, True, "a larger packet would lose its end")
+    near, far = socket.socketpair(socket.AF_UNIX, socket.SOCK_SEQPACKET)
+    with far:
+        talk = Talk(stdin=far)
+    sender = threading.Thread(target=send_all, args=(near, pieces), daemon=True)
+    sender.start()
+    ended = talk.end()
+    sender.join()
+    return ended
 
 
 def stop(number, frame):
