@@ -22,9 +22,10 @@ NO_STATE = (
     b"HTTP/1.1 404 Not Found\r\nContent-Type: application/json\r\nContent-Length: 19\r\n\r\n"
     b'{"error":"NoState"}'
 )
-# Three that are refused by framing, and one that isn't finished unless more bytes follow.
+# Some that are refused by framing, and one that isn't finished unless more bytes follow.
 BROKEN = [
     b"GET\r\n\r\n", b"\x00\n\n", b"POST / HTTP/1.1\nContent-Length: x\n\n", b"POST / HTTP/1.1\nContent-Length: 9\n\n1",
+    b"POST /state/a HTTP/1.1\nTransfer-Encoding: chunked\n\n0\r\n\r\n",
 ]
 MAX_READS = 1048576
 MAX_BODY = 16777216
@@ -141,6 +142,36 @@ def check_refused_heads_end_the_conversation():
     expect(run(length(b" 00041\t") + S1), (DONE, CLEAN, b""), "zeros and blanks")
 
 
+def check_a_transfer_coding_is_refused_and_ends_the_conversation():
+    lock = b'{"ID":"A"}'
+    locked = b"LOCK /state/a HTTP/1.1\r\nHost: h\r\nContent-Length: %d\r\n\r\n%s" % (len(lock), lock)
+    chunked = b"%s /state/a HTTP/1.1\r\nHost: h\r\n%sTransfer-Encoding: %s\r\n\r\n%s"
+    hidden = b"29\r\n" + S1 + b"\r\n0\r\n\r\n"
+    table = [
+        (chunked % (b"UNLOCK", b"", b"chunked", b"0\r\n\r\n"), "TransferCoding"),
+        (chunked % (b"POST", b"", b"chunked", hidden), "TransferCoding"),
+        (chunked % (b"POST", b"", b"gzip, chunked", hidden), "TransferCoding"),
+        (chunked % (b"POST", b"", b"", b""), "TransferCoding"),
+        (chunked % (b"POST", b"Content-Length: 41\r\n", b"chunked", S1), "BadLength"),
+        (chunked % (b"UNLOCK", b"Content-Length: 0\r\n", b"identity", b""), "BadLength"),
+        (chunked % (b"POST", b"Content-Length: 16777217\r\n", b"chunked", b""), "BadLength"),
+    ]
+    for data, name in table:
+        expect(run(locked + data + push(S1)), (DONE + refusal_text(name, close=True), REFUSED, b""), data[:80])
+    expect(refusal_text("TransferCoding", close=True), b"HTTP/1.1 501 Not Implemented\r\nConnection: close\r\n"
+           b'Content-Type: application/json\r\nContent-Length: 26\r\n\r\n{"error":"TransferCoding"}')
+
+
+def check_the_reply_to_head_has_no_body():
+    head = b"HEAD /state/a HTTP/1.1\r\nHost: h\r\n\r\n"
+    bare = (b"HTTP/1.1 405 Method Not Allowed\r\nAllow: DELETE, GET, LOCK, POST, UNLOCK\r\n"
+            b"Content-Type: application/json\r\nContent-Length: 28\r\n\r\n")
+    expect(len(bare), 127)
+    expect(run(push(S1) + head + GET), (DONE + bare + REPLIES[38:], CLEAN, b""))
+    missing = head.replace(b"/state/a", b"/state/")
+    expect(run(missing + GET)[0], refusal_text("NoRoute")[: -len(b'{"error":"NoRoute"}')] + NO_STATE)
+
+
 def check_targets_and_methods_are_judged_in_order():
     table = [
         (b"GET /state/", "NoRoute"), (b"GET /", "NoRoute"), (b"GET /state/a/b", "NoRoute"), (b"GET *", "NoRoute"),
@@ -199,7 +230,7 @@ def random_message(chance):
         return chance.choice(BROKEN)
     if chance.random() < 0.5:
         end = chance.choice([b"\r\n", b"\n"])
-        line = b"%s /state/%s HTTP/1.%d" % (chance.choice([b"GET", b"GET", b"PUT"]), name.encode(), chance.choice([1, 1, 0]))
+        line = b"%s /state/%s HTTP/1.%d" % (chance.choice([b"GET", b"GET", b"PUT", b"HEAD"]), name.encode(), chance.choice([1, 1, 0]))
         return b"\r\n" * chance.choice([0, 0, 2]) + line + end + b"X-Long: " + b"y" * chance.randrange(600) + end + end
     return push(random_state(chance), name)
 

@@ -1,8 +1,7 @@
 """A plain model of a conversation over a new table: what `tfstated stdio` writes for a list of bytes, and its status.
 
 It is written from docs/DEFINITIONS.md and docs/FORMATS.md, as far as these are built: GET, POST, DELETE, LOCK and UNLOCK
-of a state; `Host`, the version, `Connection`, `Transfer-Encoding` and `Content-MD5` aren't looked at, nor the resources of
-a state. It always looks at all of the bytes and never at how they were cut. Want of memory isn't in it.
+of a state; `Host`, the version, `Connection` and `Content-MD5` aren't looked at, nor the resources of a state. It always looks at all of the bytes and never at how they were cut. Want of memory isn't in it.
 """
 import json
 import re
@@ -15,11 +14,12 @@ MAX_LOCK_INFO, MAX_IDENTIFIER = 65536, 256
 
 PHRASES = {
     200: "OK", 400: "Bad Request", 404: "Not Found", 405: "Method Not Allowed", 409: "Conflict", 413: "Content Too Large",
-    423: "Locked", 431: "Request Header Fields Too Large", 507: "Insufficient Storage", 503: "Service Unavailable",
+    423: "Locked", 431: "Request Header Fields Too Large", 501: "Not Implemented", 503: "Service Unavailable",
+    507: "Insufficient Storage",
 }
 STATUSES = {
-    "HeadTooLarge": 431, "BadHead": 400, "BadLength": 400, "BodyTooLarge": 413, "NoRoute": 404, "MethodNotAllowed": 405,
-    "BadName": 400, "BadLockInfo": 400, "BadState": 400, "LockLost": 409, "LineageDiffers": 409, "SerialTooLow": 409,
+    "HeadTooLarge": 431, "BadHead": 400, "BadLength": 400, "TransferCoding": 501, "BodyTooLarge": 413, "NoRoute": 404,
+    "MethodNotAllowed": 405, "BadName": 400, "BadLockInfo": 400, "BadState": 400, "LockLost": 409, "LineageDiffers": 409, "SerialTooLow": 409,
     "SerialReused": 409, "NoState": 404, "TableFull": 507, "JournalFull": 507, "OutOfMemory": 503,
 }
 METHODS = ["DELETE", "GET", "LOCK", "POST", "UNLOCK"]
@@ -96,8 +96,11 @@ def parts_of(head):
 def length_of(fields):
     """The length of the body."""
     values = [value.strip(b" \t") for name, value in fields if name == b"content-length"]
-    if len(values) > 1 or any(not re.fullmatch(rb"[0-9]+", value) for value in values):
+    coded = any(name == b"transfer-encoding" for name, _ in fields)
+    if len(values) > 1 or values and coded or any(not re.fullmatch(rb"[0-9]+", value) for value in values):
         raise Refused("BadLength")
+    if coded:
+        raise Refused("TransferCoding")
     digits = values[0].lstrip(b"0") if values else b""
     if len(digits) > len(str(MAX_BODY)) or int(digits or b"0") > MAX_BODY:
         raise Refused("BodyTooLarge")
@@ -294,7 +297,12 @@ class Table:
         return reply_text(200, self.states[name][2])
 
     def reply(self, method, target, body):
-        """The bytes of the reply to a request."""
+        """The bytes of the reply to a request; HEAD gets no body."""
+        text = self.whole_reply(method, target, body)
+        return text[: text.index(b"\r\n\r\n") + 4] if method == "HEAD" else text
+
+    def whole_reply(self, method, target, body):
+        """The bytes of the reply to a request, with its body."""
         try:
             return self.answer(method, target, body)
         except Locked as locked:

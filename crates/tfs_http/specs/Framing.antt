@@ -9,7 +9,7 @@ use Rattle.httparse.specs.Ascii.{line_feed}
 use Rattle.httparse.specs.Grammar.{LineEnd, print_end, print_blank, RequestHead, ReadsRequest}
 use Rattle.httparse.specs.Spans.{name_and_value}
 use Rattle.tfs_table.specs.declared.refusal.Refusal.{Refusal}
-use Rattle.tfs_table.specs.declared.refusal.Refusal.TheVariants.{HeadTooLarge, BadHead, BadLength, BodyTooLarge}
+use Rattle.tfs_table.specs.declared.refusal.Refusal.TheVariants.{HeadTooLarge, BadHead, BadLength, TransferCoding, BodyTooLarge}
 use Rattle.tfs_http.specs.Request.{RequestValue}
 use Rattle.tfs_http.specs.declared.taken.Take.{Take}
 use Rattle.tfs_http.specs.declared.taken.Take.TheVariants.{Need, Got, Fault}
@@ -57,15 +57,23 @@ length_of_text text = if nat_lt 0 (length text) && list_all is_ascii_digit text
     then (if nat_le (digits_value 10 text) MAX_BODY_BYTES then Ok (digits_value 10 text) else Err BodyTooLarge)
     else Err BadLength
 
--- The length that the texts of all such fields give: without one there is no body.
-abbrev pub length_of_texts : List (List ℕ) → Result ℕ Refusal
-length_of_texts [] = Ok 0
-length_of_texts (text ∷ []) = length_of_text text
-length_of_texts (text ∷ other ∷ texts) = Err BadLength
+-- The length of the body, from the values of all `Content-Length` and of all `Transfer-Encoding` fields: with neither there
+-- is no body. No transfer coding is read so far. One beside a length, or several lengths, leave open where the message ends
+-- (RFC 9112, section 6.3).
+abbrev pub length_told : List (List ℕ) → List (List ℕ) → Result ℕ Refusal
+length_told [] [] = Ok 0
+length_told [] (coding ∷ codings) = Err TransferCoding
+length_told (text ∷ []) [] = length_of_text text
+length_told (text ∷ other ∷ texts) [] = Err BadLength
+length_told (text ∷ texts) (coding ∷ codings) = Err BadLength
+
+-- The length of the body, from the names and values of all fields.
+abbrev pub length_of_fields : List (List ℕ × List ℕ) → Result ℕ Refusal
+length_of_fields fields = length_told (values_named (codes "content-length") fields) (values_named (codes "transfer-encoding") fields)
 
 -- The length of the body behind a head, or the refusal of the head.
 abbrev pub body_length : RequestHead → Result ℕ Refusal
-body_length h = length_of_texts (values_named (codes "content-length") (map name_and_value h.fields))
+body_length h = length_of_fields (map name_and_value h.fields)
 
 -- The head is read: its method and target, and how long its body is.
 pub record ReadsHead (head method target : List ℕ) (len : ℕ) : Type 0 where
@@ -76,7 +84,7 @@ pub record ReadsHead (head method target : List ℕ) (len : ℕ) : Type 0 where
   pub is_target : h.target ≡ target
   pub body : body_length h ≡ Ok len
 
--- The head is refused: it has too many lines, or isn't one of the grammar, or has no length for its body.
+-- The head is refused: it has too many lines, or isn't one of the grammar, or tells no length of its body.
 abbrev pub IsHeadRefused : List ℕ → Refusal → Type 0
 IsHeadRefused head HeadTooLarge = MAX_HEAD_LINES < line_feeds head
 IsHeadRefused head BadHead = (line_feeds head ≤ MAX_HEAD_LINES) × ((h : RequestHead) → ¬ (IsHeadOf head h))

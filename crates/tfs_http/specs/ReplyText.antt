@@ -24,6 +24,7 @@ phrases =
     ∷ (423, codes "Locked")
     ∷ (431, codes "Request Header Fields Too Large")
     ∷ (500, codes "Internal Server Error")
+    ∷ (501, codes "Not Implemented")
     ∷ (503, codes "Service Unavailable")
     ∷ (507, codes "Insufficient Storage")
     ∷ []

@@ -5,40 +5,69 @@ ghost use Rattle.std.specs.List.{list_all};
 ghost use Rattle.std.specs.Char.{to_ascii_lowercase, is_ascii_digit};
 ghost use Rattle.std.specs.Str.{bytes_eq};
 ghost use Rattle.httparse.specs.Spans.{IsHeaderWithin, header_bytes};
-ghost use Rattle.tfs_http.specs.Framing.{length_of_text, length_of_texts, values_named};
+ghost use Rattle.tfs_http.specs.Framing.{length_of_text, length_of_fields, values_named};
+ghost use Rattle.tfs_http.specs.Fields.{TellsValues};
 
 use crate::limits::MAX_BODY_BYTES;
 use httparse::spans::HeaderSpan;
 use std::str;
 use tfs_table::Refusal;
 
+/// The values of the fields of one name.
+#[derive(Clone, Copy)]
+enum Values<'h> {
+    /// There is no such field.
+    Absent,
+    /// There is one, with this value.
+    One(&'h [u8]),
+    /// There are several.
+    Several,
+}
+
 /// The length that a head's fields give its body. The spans of the fields lie in the head.
 pub(crate) fn body_length(head: &[u8], fields: &[HeaderSpan]) -> Result<usize, Refusal>
     requires { All (IsHeaderWithin (length head.now)) fields.now }
-    ensures { result ≡ length_of_texts (values_named (codes "content-length")
-        (map (header_bytes head.now) fields.now)) }
+    ensures { result ≡ length_of_fields (map (header_bytes head.now) fields.now) }
+{
+    let lengths = values_named(head, fields, b"content-length");
+    let codings = values_named(head, fields, b"transfer-encoding");
+    match (lengths, codings) {
+        (Values::Absent, Values::Absent) => Ok(0),
+        (Values::Absent, _) => Err(Refusal::TransferCoding),
+        (Values::One(text), Values::Absent) => length_of_text(text),
+        _ => Err(Refusal::BadLength),
+    }
+}
+
+/// The values of the fields of a name, which is given in lower case.
+fn values_named<'h>(head: &'h [u8], fields: &[HeaderSpan], name: &[u8]) -> Values<'h>
+    requires within { All (IsHeaderWithin (length head.now)) fields.now }
+    requires lower_case { map to_ascii_lowercase name.now ≡ name.now }
+    ensures { TellsValues result (values_named name.now (map (header_bytes head.now) fields.now)) }
 {
     let mut found: Option<&[u8]> = None;
     let mut rest = fields;
     while let Some((field, others)) = rest.split_first() {
-        if is_content_length(field.name.of(head)) {
+        if is_named(field.name.of(head), name) {
             if found.is_some() {
-                return Err(Refusal::BadLength);
+                return Values::Several;
             }
             found = Some(field.value.of(head));
         }
         rest = others;
     }
     match found {
-        Some(text) => length_of_text(text),
-        None => Ok(0),
+        Some(value) => Values::One(value),
+        None => Values::Absent,
     }
 }
 
-fn is_content_length(name: &[u8]) -> bool
-    ensures { result ≡ bytes_eq (map to_ascii_lowercase name.now) (codes "content-length") }
+/// Whether the name of a field is this one, which is given in lower case.
+fn is_named(text: &[u8], name: &[u8]) -> bool
+    requires { map to_ascii_lowercase name.now ≡ name.now }
+    ensures { result ≡ bytes_eq (map to_ascii_lowercase text.now) name.now }
 {
-    name.eq_ignore_ascii_case(b"content-length")
+    text.eq_ignore_ascii_case(name)
 }
 
 /// The length that the text of a `Content-Length` gives.

@@ -136,6 +136,7 @@ fn phrase(status: u16) -> &'static str
         423 => "Locked",
         431 => "Request Header Fields Too Large",
         500 => "Internal Server Error",
+        501 => "Not Implemented",
         503 => "Service Unavailable",
         507 => "Insufficient Storage",
         _ => "",

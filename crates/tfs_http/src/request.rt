@@ -76,7 +76,7 @@ impl Request {
     {
         Form {
             close: false,
-            bare: false,
+            bare: self.method() == b"HEAD".as_slice(),
         }
     }
 }

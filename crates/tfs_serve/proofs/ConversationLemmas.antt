@@ -19,7 +19,7 @@ use Rattle.tfs_table.specs.Refusal.{refusal_value}
 use Rattle.tfs_table.specs.Reply.{ReplyValue, refused}
 use Rattle.tfs_http.specs.Request.{RequestValue}
 use Rattle.tfs_http.specs.Form.{form_of}
-use Rattle.tfs_http.specs.Framing.{length_of_text, length_of_texts, values_named, ReadsMessage, BeginsWith, AreWanted, IsUnfinished, framing_refusal}
+use Rattle.tfs_http.specs.Framing.{length_of_text, length_told, values_named, ReadsMessage, BeginsWith, AreWanted, IsUnfinished, framing_refusal}
 use Rattle.tfs_http.specs.Routing.{HasCall, HasChange}
 use Rattle.tfs_http.specs.ReplyText.{reply_text}
 use Rattle.tfs_http.specs.declared.limits.TheConstants.{MAX_BODY_BYTES}
@@ -47,14 +47,20 @@ text_fits text n e = by_digits (nat_lt 0 (length text) && list_all is_ascii_digi
     by_digits true f = by_size (nat_le (digits_value 10 text) MAX_BODY_BYTES) refl f
     by_digits false f = cc
 
-texts_fit : (texts : List (List ℕ)) (n : ℕ) → length_of_texts texts ≡ Ok n → n ≤ MAX_BODY_BYTES
-texts_fit [] n e = let same : 0 ≡ n = cc in omega arith
-texts_fit (text ∷ []) n e = text_fits text n e
-texts_fit (text ∷ other ∷ texts) n e = cc
+-- A length that is told is of a body that fits.
+told_fits : (lengths codings : List (List ℕ)) (n : ℕ) → length_told lengths codings ≡ Ok n → n ≤ MAX_BODY_BYTES
+told_fits [] [] n e = let same : 0 ≡ n = cc in omega arith
+told_fits [] (coding ∷ codings) n e = cc
+told_fits (text ∷ []) [] n e = text_fits text n e
+told_fits (text ∷ other ∷ texts) [] n e = cc
+told_fits (text ∷ []) (coding ∷ codings) n e = cc
+told_fits (text ∷ other ∷ texts) (coding ∷ codings) n e = cc
 
 -- A message's body has at most 16 MiB.
 pub body_fits : (bytes : List ℕ) (r : RequestValue) (used : ℕ) → BeginsWith bytes r used → length r.body ≤ MAX_BODY_BYTES
-body_fits bytes r used b = texts_fit (values_named (codes "content-length") (map name_and_value b.reads.reads.h.fields)) (length r.body) b.reads.reads.body
+body_fits bytes r used b =
+    let fields = map name_and_value b.reads.reads.h.fields in
+    told_fits (values_named (codes "content-length") fields) (values_named (codes "transfer-encoding") fields) (length r.body) b.reads.reads.body
 
 -- The call of a request carries its body.
 pub call_fits : (r : RequestValue) (call : Call) → HasCall r call → length r.body ≤ MAX_BODY_BYTES → HasFittingBody call

@@ -4,7 +4,7 @@ use Rattle.std.specs.Prelude.{ℕ, List, codes}
 use Rattle.std.specs.Arc.{arc_value}
 use Rattle.tfs_lock.specs.LockInfo.{LockText}
 use Rattle.tfs_table.specs.declared.refusal.Refusal.{Refusal}
-use Rattle.tfs_table.specs.declared.refusal.Refusal.TheVariants.{HeadTooLarge, BadHead, BadLength, BodyTooLarge, NoRoute, MethodNotAllowed, BadName, BadLockInfo, BadState, JournalStopped, Locked, LockLost, LineageDiffers, SerialTooLow, SerialReused, NoState, TableFull, JournalFull, OutOfMemory, JournalFault}
+use Rattle.tfs_table.specs.declared.refusal.Refusal.TheVariants.{HeadTooLarge, BadHead, BadLength, TransferCoding, BodyTooLarge, NoRoute, MethodNotAllowed, BadName, BadLockInfo, BadState, JournalStopped, Locked, LockLost, LineageDiffers, SerialTooLow, SerialReused, NoState, TableFull, JournalFull, OutOfMemory, JournalFault}
 
 -- A refusal as a plain value: `Locked` with the holder's information, where the program's has a pointer to it, and every
 -- other refusal as it is.
@@ -29,6 +29,7 @@ row_of (locked info) = row 15 (codes "Locked") 423
 row_of (plain HeadTooLarge) = row 1 (codes "HeadTooLarge") 431
 row_of (plain BadHead) = row 2 (codes "BadHead") 400
 row_of (plain BadLength) = row 4 (codes "BadLength") 400
+row_of (plain TransferCoding) = row 5 (codes "TransferCoding") 501
 row_of (plain BodyTooLarge) = row 6 (codes "BodyTooLarge") 413
 row_of (plain NoRoute) = row 7 (codes "NoRoute") 404
 row_of (plain (MethodNotAllowed methods)) = row 8 (codes "MethodNotAllowed") 405

@@ -25,6 +25,8 @@ pub enum Refusal {
     BadHead,
     #[error("the length of the body cannot be told")]
     BadLength,
+    #[error("the body has a transfer coding")]
+    TransferCoding,
     #[error("the body is too large")]
     BodyTooLarge,
     #[error("there is no such path")]
@@ -96,6 +98,7 @@ impl Refusal {
             Refusal::HeadTooLarge => (1, "HeadTooLarge", 431),
             Refusal::BadHead => (2, "BadHead", 400),
             Refusal::BadLength => (4, "BadLength", 400),
+            Refusal::TransferCoding => (5, "TransferCoding", 501),
             Refusal::BodyTooLarge => (6, "BodyTooLarge", 413),
             Refusal::NoRoute => (7, "NoRoute", 404),
             Refusal::MethodNotAllowed(_) => (8, "MethodNotAllowed", 405),

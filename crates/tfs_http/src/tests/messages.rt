@@ -132,6 +132,26 @@ fn messages_that_are_refused(rt: HostRuntime) -> Result<(), Fail> {
             "BodyTooLarge",
         ),
         (
+            "UNLOCK /state/a HTTP/1.1\r\nTransfer-Encoding: chunked\r\n\r\n0\r\n\r\n",
+            "TransferCoding",
+        ),
+        (
+            "POST / HTTP/1.1\r\ntransfer-ENCODING: gzip, chunked\r\n\r\n",
+            "TransferCoding",
+        ),
+        (
+            "POST / HTTP/1.1\r\nTransfer-Encoding:\r\nTransfer-Encoding: chunked\r\n\r\n",
+            "TransferCoding",
+        ),
+        (
+            "POST / HTTP/1.1\r\nContent-Length: 3\r\nTransfer-Encoding: chunked\r\n\r\nabc",
+            "BadLength",
+        ),
+        (
+            "POST / HTTP/1.1\r\nTransfer-Encoding: chunked\r\nContent-Length: 16777217\r\n\r\n",
+            "BadLength",
+        ),
+        (
             "POST / HTTP/1.1\r\nContent-Length: 1000000000000000000000000000000000000000\r\n\r\n",
             "BodyTooLarge",
         ),
@@ -149,6 +169,26 @@ fn head_with(alloc: Global, fields: usize) -> Result<String, Fail> {
     }
     text.push_str("\r\n")?;
     Ok(text)
+}
+
+#[test]
+fn the_reply_to_head_is_bare(rt: HostRuntime) -> Result<(), Fail> {
+    for (text, bare) in [
+        ("HEAD /state/a HTTP/1.1\r\n\r\n", true),
+        ("head /state/a HTTP/1.1\r\n\r\n", false),
+        ("HEADS /state/a HTTP/1.1\r\n\r\n", false),
+    ] {
+        match take(rt.alloc(), text.as_bytes())? {
+            Take::Got(request, _) => {
+                assert!(rt;
+                    request.form().bare == bare && !request.form().close,
+                    "{text}"
+                );
+            }
+            _ => panic!(rt; "there is a message in {text}"),
+        }
+    }
+    Ok(())
 }
 
 #[test]

@@ -104,6 +104,11 @@ fn each_status_has_its_phrase(rt: HostRuntime) -> Result<(), Fail> {
         ),
         (Refusal::BadHead, "400 Bad Request", "BadHead"),
         (
+            Refusal::TransferCoding,
+            "501 Not Implemented",
+            "TransferCoding",
+        ),
+        (
             Refusal::BodyTooLarge,
             "413 Content Too Large",
             "BodyTooLarge",
