@@ -4,7 +4,7 @@ use crate::ends::{Count, Pieces, Still};
 use std::alloc::Global;
 use std::io;
 use std::time::Instant;
-use tfs_serve::first::FirstDesk;
+use tfs_serve::memory_desk::MemoryDesk;
 use tfs_serve::{Desk, Ended, Reads, ServeFault, converse};
 
 /// What answers.
@@ -56,7 +56,7 @@ pub(crate) fn run(alloc: Global, desk: Desks, data: &[u8], piece: usize) -> Foun
             run_over(alloc, &mut still, data, piece)
         }
         Desks::First => {
-            let mut first = FirstDesk::new(alloc);
+            let mut first = MemoryDesk::new(alloc);
             run_over(alloc, &mut first, data, piece)
         }
     }

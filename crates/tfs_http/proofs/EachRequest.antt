@@ -8,7 +8,6 @@ use Rattle.std.proofs.lemmas.Str.{IsUtf8-from_is_utf8, is_utf8-from_IsUtf8}
 use Rattle.matchit.specs.Seek.{has_slash, same_text}
 use Rattle.matchit.proofs.LookupLemmas.{append-cancel}
 use Rattle.tfs_rules.specs.Name.{IsName, is_name_byte}
-use Rattle.tfs_rules.specs.declared.name.TheConstants.{MAX_NAME_BYTES}
 use Rattle.tfs_table.specs.declared.call.Call.{Call}
 use Rattle.tfs_table.specs.declared.call.Call.TheVariants.{Read, Change}
 use Rattle.tfs_table.specs.declared.call.Raw.TheVariants.{Lock, Unlock, Push, Delete}
@@ -41,13 +40,13 @@ path_decided path = by (starts_with nat_eq path (codes "/state/")) refl
 
 -- A text is a name or none.
 name_decided : (text : List ℕ) → IsName text ⊎ ¬ (IsName text)
-name_decided text = by (nat_le 1 (length text)) refl (nat_le (length text) MAX_NAME_BYTES) refl (list_all is_name_byte text) refl
+name_decided text = by (nat_le 1 (length text)) refl (nat_le (length text) 64) refl (list_all is_name_byte text) refl
   where
-    by : (u : Bool) → nat_le 1 (length text) ≡ u → (v : Bool) → nat_le (length text) MAX_NAME_BYTES ≡ v → (w : Bool) → list_all is_name_byte text ≡ w → IsName text ⊎ ¬ (IsName text)
+    by : (u : Bool) → nat_le 1 (length text) ≡ u → (v : Bool) → nat_le (length text) 64 ≡ v → (w : Bool) → list_all is_name_byte text ≡ w → IsName text ⊎ ¬ (IsName text)
     by false a v b w c = inr (λ n. let short = leb-false 1 (length text) a in let filled = n.filled in omega (arith, short, filled))
-    by true a false b w c = inr (λ n. let long = leb-false (length text) MAX_NAME_BYTES b in let short = n.short in omega (arith, long, short))
+    by true a false b w c = inr (λ n. let long = leb-false (length text) 64 b in let short = n.short in omega (arith, long, short))
     by true a true b false c = inr (λ n. cc (n.clean, c))
-    by true a true b true c = inl (record { filled = leb-true 1 (length text) a; short = leb-true (length text) MAX_NAME_BYTES b; clean = c })
+    by true a true b true c = inl (record { filled = leb-true 1 (length text) a; short = leb-true (length text) 64 b; clean = c })
 
 -- A text is this one or another.
 text_decided : (text other : List ℕ) → (text ≡ other) ⊎ ¬ (text ≡ other)

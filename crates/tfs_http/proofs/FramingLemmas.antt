@@ -8,7 +8,6 @@ use Rattle.tfs_http.specs.Request.{RequestValue}
 use Rattle.tfs_http.specs.Framing.{HasHead, HasNoHead, IsHeadOf, line_feeds, body_length, ReadsHead, IsHeadRefused, ReadsMessage, framing_refusal, IsUnfinished, BeginsWith, AreWanted, Frames}
 use Rattle.tfs_http.specs.declared.taken.Take.{Take}
 use Rattle.tfs_http.specs.declared.taken.Take.TheVariants.{Need, Got, Fault}
-use Rattle.tfs_http.specs.declared.limits.TheConstants.{MAX_HEAD_BYTES, MAX_HEAD_LINES}
 use Rattle.tfs_http.proofs.HeadLemmas.{cuts, same_cut, blank_unique, head_starts}
 
 -- A head stays the head whatever bytes follow.
@@ -52,9 +51,9 @@ reads_once head method other target last m n r s =
 
 -- How a head is refused, by its three reasons.
 abbrev Reasons : List ℕ → Refusal → Type 0
-Reasons head refusal = ((MAX_HEAD_LINES < line_feeds head) × (refusal ≡ HeadTooLarge))
-    ⊎ (((line_feeds head ≤ MAX_HEAD_LINES) × ((h : RequestHead) → ¬ (IsHeadOf head h)) × (refusal ≡ BadHead))
-    ⊎ ((line_feeds head ≤ MAX_HEAD_LINES) × (h : RequestHead) × IsHeadOf head h × (body_length h ≡ Err refusal)))
+Reasons head refusal = ((66 < line_feeds head) × (refusal ≡ HeadTooLarge))
+    ⊎ (((line_feeds head ≤ 66) × ((h : RequestHead) → ¬ (IsHeadOf head h)) × (refusal ≡ BadHead))
+    ⊎ ((line_feeds head ≤ 66) × (h : RequestHead) × IsHeadOf head h × (body_length h ≡ Err refusal)))
 
 reasons : (head : List ℕ) (refusal : Refusal) → IsHeadRefused head refusal → Reasons head refusal
 reasons head HeadTooLarge p = inl (p, refl)
@@ -104,7 +103,7 @@ pub head_of_message : (bytes frame rest : List ℕ) (r : RequestValue) → bytes
 head_of_message bytes frame rest r e m = subst (λ (t : List ℕ). HasHead t m.skipped m.head (r.body ++ rest)) (sym e) (head_more frame rest m.skipped m.head r.body m.has_head)
 
 -- Without a head that ends in time the bytes are unfinished.
-pub unfinished_without_head : (bytes : List ℕ) → HasNoHead bytes → length bytes < MAX_HEAD_BYTES → IsUnfinished bytes
+pub unfinished_without_head : (bytes : List ℕ) → HasNoHead bytes → length bytes < 16384 → IsUnfinished bytes
 unfinished_without_head bytes none few = record {
   no_message = λ frame rest r e m. none m.skipped m.head (r.body ++ rest) (head_of_message bytes frame rest r e m);
   no_refusal = λ refusal p. elim p [
@@ -113,7 +112,7 @@ unfinished_without_head bytes none few = record {
   ];
 }
 
-pub wanted_without_head : (bytes : List ℕ) → HasNoHead bytes → length bytes < MAX_HEAD_BYTES → AreWanted bytes (length bytes + 1)
+pub wanted_without_head : (bytes : List ℕ) → HasNoHead bytes → length bytes < 16384 → AreWanted bytes (length bytes + 1)
 wanted_without_head bytes none few = record {
   more = omega arith;
   until = λ others short.
@@ -251,7 +250,7 @@ message_more bytes more r n b = record {
   reads = b.reads;
 }
 
-no_head_more : (bytes more : List ℕ) → MAX_HEAD_BYTES ≤ length bytes → HasNoHead bytes → HasNoHead (bytes ++ more)
+no_head_more : (bytes more : List ℕ) → 16384 ≤ length bytes → HasNoHead bytes → HasNoHead (bytes ++ more)
 no_head_more bytes more many none skipped head rest has =
     let whole : bytes ++ more ≡ (print_blank skipped ++ head) ++ rest = has.parts ∙ sym (append_assoc (print_blank skipped) head rest) in
     let size = has.size in

@@ -4,7 +4,6 @@ use Rattle.std.proofs.Math.Seq.{take-append_seam, drop-append_seam}
 use Rattle.httparse.specs.Ascii.{line_feed, carriage_return}
 use Rattle.httparse.specs.Grammar.{LineEnd, crlf, lf, print_end, print_blank}
 use Rattle.tfs_http.specs.Framing.{StartsWithEmptyLine, EndsWithEmptyLine, IsMessageHead, HasHead, HasNoHead}
-use Rattle.tfs_http.specs.declared.limits.TheConstants.{MAX_HEAD_BYTES}
 
 -- The front was passed over: no line feed in it has an empty line behind it.
 pub record PassedOver (bytes front rest : List ℕ) : Type 0 where
@@ -187,7 +186,7 @@ pub head_starts : (head rest : List ℕ) → ¬ (StartsWithEmptyLine head) → I
 head_starts head rest none is_head starts = none (starts_in_front head rest (head_size head is_head.ends) starts)
 
 -- The head of a window is one of the bytes.
-head_in_window : (bytes text head tail : List ℕ) (skipped : List LineEnd) (k n : ℕ) → k ≤ MAX_HEAD_BYTES
+head_in_window : (bytes text head tail : List ℕ) (skipped : List LineEnd) (k n : ℕ) → k ≤ 16384
     → take k bytes ≡ print_blank skipped ++ text → ¬ (StartsWithEmptyLine text) → text ≡ head ++ tail → length head ≡ n → IsMessageHead head
     → HasHead bytes skipped (take n text) (drop (length (take k bytes) - length text + n) bytes)
 head_in_window bytes text head tail skipped k n small window none split size is_head =
@@ -211,10 +210,10 @@ head_in_window bytes text head tail skipped k n small window none split size is_
     })
 
 -- Where no head is in the window there is none in the bytes.
-no_head_in_window : (bytes text : List ℕ) (skipped : List LineEnd) → take (min (length bytes) MAX_HEAD_BYTES) bytes ≡ print_blank skipped ++ text
+no_head_in_window : (bytes text : List ℕ) (skipped : List LineEnd) → take (min (length bytes) 16384) bytes ≡ print_blank skipped ++ text
     → ¬ (StartsWithEmptyLine text) → ((part rest : List ℕ) → text ≡ part ++ rest → ¬ (EndsWithEmptyLine part)) → HasNoHead bytes
 no_head_in_window bytes text skipped window none absent others head rest has =
-    let k = min (length bytes) MAX_HEAD_BYTES in
+    let k = min (length bytes) 16384 in
     let whole : take k bytes ++ drop k bytes ≡ (print_blank others ++ head) ++ rest =
     take-append-drop k bytes ∙ has.parts ∙ sym (append_assoc (print_blank others) head rest) in
     let sizes = ap length has.parts ∙ length-append (print_blank others) (head ++ rest) in
@@ -226,19 +225,19 @@ no_head_in_window bytes text skipped window none absent others head rest has =
           found [] (sym (append-nil (take k bytes)) ∙ ap (λ t. take k bytes ++ t) (sym nothing) ∙ sym w.1 ∙ sym (append-nil (print_blank others ++ head)) ∙ append_assoc (print_blank others) head [])
     ]
   where
-    found : (z : List ℕ) → take (min (length bytes) MAX_HEAD_BYTES) bytes ≡ print_blank others ++ (head ++ z) → ⊥
+    found : (z : List ℕ) → take (min (length bytes) 16384) bytes ≡ print_blank others ++ (head ++ z) → ⊥
     found z e =
         let same = blank_unique skipped others text (head ++ z) (sym window ∙ e) none (head_starts head z has.starts has.is_head) in
         absent head z same.1 has.is_head.ends
 
 -- The same as the code has it, with names for the window and the parts.
-pub head_of_window : (bytes window text head tail front back : List ℕ) (skipped : List LineEnd) (k n : ℕ) → k ≡ min (length bytes) MAX_HEAD_BYTES
+pub head_of_window : (bytes window text head tail front back : List ℕ) (skipped : List LineEnd) (k n : ℕ) → k ≡ min (length bytes) 16384
     → window ≡ take k bytes → window ≡ print_blank skipped ++ text → ¬ (StartsWithEmptyLine text) → text ≡ head ++ tail → length head ≡ n → IsMessageHead head
     → front ≡ take n text → back ≡ drop (length window - length text + n) bytes → HasHead bytes skipped front back
 head_of_window bytes window text head tail front back skipped k n small is_window blank none split size is_head is_front is_back =
     rw (is_front, is_back, is_window) (head_in_window bytes text head tail skipped k n (omega arith) (sym is_window ∙ blank) none split size is_head)
 
-pub no_head_of_window : (bytes window text : List ℕ) (skipped : List LineEnd) (k : ℕ) → k ≡ min (length bytes) MAX_HEAD_BYTES
+pub no_head_of_window : (bytes window text : List ℕ) (skipped : List LineEnd) (k : ℕ) → k ≡ min (length bytes) 16384
     → window ≡ take k bytes → window ≡ print_blank skipped ++ text → ¬ (StartsWithEmptyLine text)
     → ((part rest : List ℕ) → text ≡ part ++ rest → ¬ (EndsWithEmptyLine part)) → HasNoHead bytes
 no_head_of_window bytes window text skipped k small is_window blank none absent =

@@ -12,7 +12,6 @@ use Rattle.tfs_table.specs.declared.refusal.Refusal.TheVariants.{BodyTooLarge}
 use Rattle.httparse.specs.declared.spans.HeaderSpan.{HeaderSpan}
 use Rattle.httparse.specs.Spans.{span_bytes, header_bytes, IsHeaderWithin}
 use Rattle.tfs_http.specs.Framing.{length_of_text, values_named}
-use Rattle.tfs_http.specs.declared.limits.TheConstants.{MAX_BODY_BYTES}
 
 and_true : (x y : Bool) → (x && y) ≡ true → (x ≡ true) × (y ≡ true)
 and_true true y e = (refl, e)
@@ -46,9 +45,9 @@ pub length_beyond : (text digits : List ℕ) → digits ≡ text → (nat_lt 0 (
 length_beyond text digits same test none =
     let numeral = numeral_from_test text test in
     let plain : without_leading_plus digits ≡ text = ap without_leading_plus same ∙ numeral.2 in
-    let large : ¬ (digits_value 10 text ≤ MAX_BODY_BYTES) = λ small.
+    let large : ¬ (digits_value 10 text ≤ 16777216) = λ small.
     none (rw plain (numeral.0, omega arith)) in
-    rw (test, false_from_ne_true (nat_le (digits_value 10 text) MAX_BODY_BYTES) (λ t. large (leb-true (digits_value 10 text) MAX_BODY_BYTES t))) refl
+    rw (test, false_from_ne_true (nat_le (digits_value 10 text) 16777216) (λ t. large (leb-true (digits_value 10 text) 16777216 t))) refl
 
 -- One field at a time: a field of the name gives its value, and another gives none.
 pub value_found : (name head found value : List ℕ) (rest others : List HeaderSpan) (field : HeaderSpan) → rest ≡ field ∷ others

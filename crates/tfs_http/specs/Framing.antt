@@ -14,7 +14,6 @@ use Rattle.tfs_http.specs.Request.{RequestValue}
 use Rattle.tfs_http.specs.declared.taken.Take.{Take}
 use Rattle.tfs_http.specs.declared.taken.Take.TheVariants.{Need, Got, Fault}
 use Rattle.tfs_http.specs.declared.taken.Framed.{Framed}
-use Rattle.tfs_http.specs.declared.limits.TheConstants.{MAX_HEAD_BYTES, MAX_HEAD_LINES, MAX_FIELDS, MAX_BODY_BYTES}
 
 -- An empty line comes first: CR LF, or LF alone.
 abbrev pub StartsWithEmptyLine : List ℕ → Type 0
@@ -34,7 +33,7 @@ pub record HasHead (bytes : List ℕ) (skipped : List LineEnd) (head rest : List
   pub parts : bytes ≡ print_blank skipped ++ (head ++ rest)
   pub starts : ¬ (StartsWithEmptyLine head)
   pub is_head : IsMessageHead head
-  pub size : length (print_blank skipped) + length head ≤ MAX_HEAD_BYTES
+  pub size : length (print_blank skipped) + length head ≤ 16384
 
 abbrev pub HasNoHead : List ℕ → Type 0
 HasNoHead bytes = (skipped : List LineEnd) (head rest : List ℕ) → ¬ (HasHead bytes skipped head rest)
@@ -45,7 +44,7 @@ line_feeds bytes = count_by (λ byte. byte == line_feed) bytes
 -- The head is one of `httparse`'s grammar.
 pub record IsHeadOf (head : List ℕ) (h : RequestHead) : Type 0 where
   pub reads : ReadsRequest head h []
-  pub fields : length h.fields ≤ MAX_FIELDS
+  pub fields : length h.fields ≤ 64
 
 -- The values of the fields of a name, which is compared without regard to case (RFC 9110, section 5.1).
 abbrev pub values_named : List ℕ → List (List ℕ × List ℕ) → List (List ℕ)
@@ -54,7 +53,7 @@ values_named name fields = map (λ f. f.1) (filter (λ f. bytes_eq (map to_ascii
 -- The length that the text of a `Content-Length` gives (RFC 9110, section 8.6), or its refusal.
 abbrev pub length_of_text : List ℕ → Result ℕ Refusal
 length_of_text text = if nat_lt 0 (length text) && list_all is_ascii_digit text
-    then (if nat_le (digits_value 10 text) MAX_BODY_BYTES then Ok (digits_value 10 text) else Err BodyTooLarge)
+    then (if nat_le (digits_value 10 text) 16777216 then Ok (digits_value 10 text) else Err BodyTooLarge)
     else Err BadLength
 
 -- The length of the body, from the values of all `Content-Length` and of all `Transfer-Encoding` fields: with neither there
@@ -77,7 +76,7 @@ body_length h = length_of_fields (map name_and_value h.fields)
 
 -- The head is read: its method and target, and how long its body is.
 pub record ReadsHead (head method target : List ℕ) (len : ℕ) : Type 0 where
-  pub lines : line_feeds head ≤ MAX_HEAD_LINES
+  pub lines : line_feeds head ≤ 66
   pub h : RequestHead
   pub is_head_of : IsHeadOf head h
   pub is_method : h.method ≡ method
@@ -86,9 +85,9 @@ pub record ReadsHead (head method target : List ℕ) (len : ℕ) : Type 0 where
 
 -- The head is refused: it has too many lines, or isn't one of the grammar, or tells no length of its body.
 abbrev pub IsHeadRefused : List ℕ → Refusal → Type 0
-IsHeadRefused head HeadTooLarge = MAX_HEAD_LINES < line_feeds head
-IsHeadRefused head BadHead = (line_feeds head ≤ MAX_HEAD_LINES) × ((h : RequestHead) → ¬ (IsHeadOf head h))
-IsHeadRefused head refusal = (line_feeds head ≤ MAX_HEAD_LINES) × (h : RequestHead) × IsHeadOf head h × (body_length h ≡ Err refusal)
+IsHeadRefused head HeadTooLarge = 66 < line_feeds head
+IsHeadRefused head BadHead = (line_feeds head ≤ 66) × ((h : RequestHead) → ¬ (IsHeadOf head h))
+IsHeadRefused head refusal = (line_feeds head ≤ 66) × (h : RequestHead) × IsHeadOf head h × (body_length h ≡ Err refusal)
 
 -- The bytes are a message, all of them: empty lines, a head, and a body of the length that the head gives.
 pub record ReadsMessage (frame : List ℕ) (r : RequestValue) : Type 0 where
@@ -107,7 +106,7 @@ pub record HasRefusedHead (bytes : List ℕ) (refusal : Refusal) : Type 0 where
 
 -- The refusal of bytes: no head ends in time, or the head is refused.
 abbrev pub framing_refusal : List ℕ → Refusal → Type 0
-framing_refusal bytes refusal = ((MAX_HEAD_BYTES ≤ length bytes) × HasNoHead bytes × (refusal ≡ HeadTooLarge)) ⊎ HasRefusedHead bytes refusal
+framing_refusal bytes refusal = ((16384 ≤ length bytes) × HasNoHead bytes × (refusal ≡ HeadTooLarge)) ⊎ HasRefusedHead bytes refusal
 
 -- The bytes neither begin with a message nor have a refusal.
 pub record IsUnfinished (bytes : List ℕ) : Type 0 where

@@ -8,12 +8,10 @@ use Rattle.serde_json.specs.Data.{Data}
 use Rattle.serde_json.specs.Read.{read}
 use Rattle.serde_json.specs.Find.{as_object}
 use Rattle.tfs_lock.specs.Id.{IsIdText}
-use Rattle.tfs_lock.specs.LockInfo.{LockText}
+use Rattle.tfs_lock.specs.LockInfo.{LockInformation}
 use Rattle.tfs_lock.specs.LockText.{json_value, id_of, GivesId, SpellsLockInfo, id_fault, first_value_fault, first_lock_fault}
 use Rattle.tfs_lock.specs.declared.fault.LockFault.{LockFault}
 use Rattle.tfs_lock.specs.declared.fault.LockFault.TheVariants.{NotJson, NotObject, TooLong}
-use Rattle.tfs_lock.specs.declared.id.TheConstants.{MAX_ID_BYTES}
-use Rattle.tfs_lock.specs.declared.lock_info.TheConstants.{MAX_LOCK_BYTES}
 
 -- Of bytes that are UTF-8, what is read counts.
 pub json_value_text : (bytes : List ℕ) → IsUtf8 bytes → json_value bytes ≡ read bytes
@@ -37,7 +35,7 @@ id_without_fault : (text : Option (List ℕ)) → id_fault text ≡ None → (id
 id_without_fault None e = cc
 id_without_fault (Some []) e = cc
 id_without_fault (Some (x ∷ xs)) e =
-    (x ∷ xs, refl, record { filled = omega arith; short = (within_limit MAX_ID_BYTES (length (x ∷ xs)) None e).0 })
+    (x ∷ xs, refl, record { filled = omega arith; short = (within_limit 256 (length (x ∷ xs)) None e).0 })
 
 -- A value without a fault gives an identifier.
 given_without_fault : (value : Data) → first_value_fault value ≡ None → (id : List ℕ) × GivesId value id
@@ -49,10 +47,10 @@ given_without_fault value e =
     ] refl e
 
 -- Bytes without a fault spell lock information.
-pub spelled_without_fault : (bytes : List ℕ) → first_lock_fault bytes ≡ None → (info : LockText) × SpellsLockInfo bytes info
+pub spelled_without_fault : (bytes : List ℕ) → first_lock_fault bytes ≡ None → (info : LockInformation) × SpellsLockInfo bytes info
 spelled_without_fault bytes e =
-    let within = within_limit MAX_LOCK_BYTES (length bytes) (option_map_or first_value_fault (json_value bytes) (Some NotJson)) e in
-    elim (json_value bytes) as (λ o. json_value bytes ≡ o → option_map_or first_value_fault o (Some NotJson) ≡ None → (info : LockText) × SpellsLockInfo bytes info) [
+    let within = within_limit 65536 (length bytes) (option_map_or first_value_fault (json_value bytes) (Some NotJson)) e in
+    elim (json_value bytes) as (λ o. json_value bytes ≡ o → option_map_or first_value_fault o (Some NotJson) ≡ None → (info : LockInformation) × SpellsLockInfo bytes info) [
       | None ↦ λ _ f. cc
       | Some value ↦ λ json f. let found = given_without_fault value f in
           (record { bytes = bytes; id = found.0 }, record { size = within.0; kept = refl; given = (value, json, found.1) })

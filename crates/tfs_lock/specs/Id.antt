@@ -1,8 +1,7 @@
 -- The identifier of a lock.
 use Rattle.std.specs.Prelude.{ℕ, ◌≤◌, List, length}
-use Rattle.tfs_lock.specs.declared.id.TheConstants.{MAX_ID_BYTES}
 
 -- The UTF-8 of an identifier: 1 to 256 bytes.
 pub record IsIdText (text : List ℕ) : Type 0 where
   pub filled : 1 ≤ length text
-  pub short : length text ≤ MAX_ID_BYTES
+  pub short : length text ≤ 256

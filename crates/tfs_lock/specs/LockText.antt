@@ -7,11 +7,9 @@ use Rattle.serde_json.specs.Data.{Data}
 use Rattle.serde_json.specs.Read.{read}
 use Rattle.serde_json.specs.Find.{get, as_object, as_str}
 use Rattle.tfs_lock.specs.Id.{IsIdText}
-use Rattle.tfs_lock.specs.LockInfo.{LockText}
+use Rattle.tfs_lock.specs.LockInfo.{LockInformation}
 use Rattle.tfs_lock.specs.declared.fault.LockFault.{LockFault}
 use Rattle.tfs_lock.specs.declared.fault.LockFault.TheVariants.{NotJson, NotObject, NoId, TooLong}
-use Rattle.tfs_lock.specs.declared.id.TheConstants.{MAX_ID_BYTES}
-use Rattle.tfs_lock.specs.declared.lock_info.TheConstants.{MAX_LOCK_BYTES}
 
 -- The value that the bytes spell as JSON text, which is UTF-8 (RFC 8259, section 8.1). What JSON is, how deep it may
 -- nest and which of two members of one name counts is `serde_json`'s answer.
@@ -29,8 +27,8 @@ pub record GivesId (value : Data) (id : List ℕ) : Type 0 where
   pub valid : IsIdText id
 
 -- The bytes are the text of the lock information.
-pub record SpellsLockInfo (bytes : List ℕ) (info : LockText) : Type 0 where
-  pub size : length bytes ≤ MAX_LOCK_BYTES
+pub record SpellsLockInfo (bytes : List ℕ) (info : LockInformation) : Type 0 where
+  pub size : length bytes ≤ 65536
   pub kept : info.bytes ≡ bytes
   pub given : (value : Data) × (json_value bytes ≡ Some value) × GivesId value info.id
 
@@ -38,7 +36,7 @@ pub record SpellsLockInfo (bytes : List ℕ) (info : LockText) : Type 0 where
 abbrev pub id_fault : Option (List ℕ) → Option LockFault
 id_fault None = Some NoId
 id_fault (Some []) = Some NoId
-id_fault (Some (byte ∷ bytes)) = if nat_lt MAX_ID_BYTES (length (byte ∷ bytes)) then Some TooLong else None
+id_fault (Some (byte ∷ bytes)) = if nat_lt 256 (length (byte ∷ bytes)) then Some TooLong else None
 
 -- The first fault of a value: whether it is an object is looked at before its `ID`.
 abbrev pub first_value_fault : Data → Option LockFault
@@ -46,10 +44,10 @@ first_value_fault value = if is_none (as_object value) then Some NotObject else 
 
 -- The first fault of the bytes, or none: their number is looked at before what they spell.
 abbrev pub first_lock_fault : List ℕ → Option LockFault
-first_lock_fault bytes = if nat_lt MAX_LOCK_BYTES (length bytes) then Some TooLong
+first_lock_fault bytes = if nat_lt 65536 (length bytes) then Some TooLong
     else option_map_or first_value_fault (json_value bytes) (Some NotJson)
 
 -- The lock information of the bytes, where they spell some: `SpellsLockInfo` as a function.
-abbrev pub lock_info_of : List ℕ → Option LockText
+abbrev pub lock_info_of : List ℕ → Option LockInformation
 lock_info_of bytes = if is_none (first_lock_fault bytes)
     then option_map (λ id. record { bytes = bytes; id = id }) (option_and_then id_of (json_value bytes)) else None

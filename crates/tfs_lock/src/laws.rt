@@ -1,19 +1,19 @@
 //! Laws of lock texts, which hold whoever reads them.
 
 ghost use Rattle.std.specs.Prelude.{◌≡◌, ℕ, List, Some, None};
-ghost use Rattle.tfs_lock.specs.LockInfo.{LockText};
+ghost use Rattle.tfs_lock.specs.LockInfo.{LockInformation};
 ghost use Rattle.tfs_lock.specs.LockText.{SpellsLockInfo, first_lock_fault, lock_info_of};
 ghost use Rattle.tfs_lock.specs.declared.fault.LockFault.{LockFault};
 
 /// Bytes spell one piece of lock information, or have a first fault, and never both.
 pub fn bytes_spell_lock_info_or_have_a_fault()
-    ensures spelled { (bytes : List ℕ) (info : LockText) → SpellsLockInfo bytes info
+    ensures spelled { (bytes : List ℕ) (info : LockInformation) → SpellsLockInfo bytes info
         → first_lock_fault bytes ≡ None }
     ensures faultless { (bytes : List ℕ) → first_lock_fault bytes ≡ None
-        → (info : LockText) × SpellsLockInfo bytes info }
-    ensures once { (bytes : List ℕ) (a b : LockText) → SpellsLockInfo bytes a
+        → (info : LockInformation) × SpellsLockInfo bytes info }
+    ensures once { (bytes : List ℕ) (a b : LockInformation) → SpellsLockInfo bytes a
         → SpellsLockInfo bytes b → a ≡ b }
-    ensures computed { (bytes : List ℕ) (info : LockText) → SpellsLockInfo bytes info
+    ensures computed { (bytes : List ℕ) (info : LockInformation) → SpellsLockInfo bytes info
         → lock_info_of bytes ≡ Some info }
     ensures none_else { (bytes : List ℕ) (fault : LockFault) → first_lock_fault bytes ≡ Some fault
         → lock_info_of bytes ≡ None }

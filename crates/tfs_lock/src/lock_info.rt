@@ -24,10 +24,10 @@ pub struct LockInfo {
 }
 
 impl Model for LockInfo {
-    ghost use Rattle.tfs_lock.specs.LockInfo.{LockText};
+    ghost use Rattle.tfs_lock.specs.LockInfo.{LockInformation};
     ghost use Rattle.tfs_lock.specs.LockText.{SpellsLockInfo};
 
-    ghost Value = { LockText };
+    ghost Value = { LockInformation };
 
     ghost view = { λ info. record { bytes = info.bytes.items; id = info.id } };
 

@@ -1,7 +1,7 @@
 -- An accepted history keeps the history laws.
 use Rattle.std.proofs.Common.{◌≡◌, ℕ, List, [], ◌∷◌, ◌++◌, append_assoc, Option, Some, refl, sym, ◌∙◌, ap, subst, arith}
 use Rattle.tfs_state.specs.Document.{Document}
-use Rattle.tfs_lock.specs.LockInfo.{LockText}
+use Rattle.tfs_lock.specs.LockInfo.{LockInformation}
 use Rattle.tfs_rules.specs.Act.{ActValue, lock, unlock, push, delete, IsDelete, IsUnlock, IsWriteWith}
 use Rattle.tfs_rules.specs.History.{History, Without, Standing, standing_of}
 use Rattle.tfs_rules.specs.HistoryLaws.{Follows, IsPushOrder, KeepsPushOrder, KeepsLockExclusion, WritesBearTheLock, UnlocksBearTheLock, IdentifiersNameALock, KeepsHistoryLaws}
@@ -72,17 +72,17 @@ pushes_in_order h accepted first second first_id second_id between follows clean
     later_push first second found.0 second_id found.1 found.2
 
 -- The lock is held with this information.
-abbrev IsHeld : LockText → Standing → Type 0
+abbrev IsHeld : LockInformation → Standing → Type 0
 IsHeld held s = s.holder ≡ Some held
 
-held_kept : (held : LockText) → KeptUnless (IsHeld held) IsUnlock
+held_kept : (held : LockInformation) → KeptUnless (IsHeld held) IsUnlock
 held_kept held s (lock info) is _ accept = ap (λ x. Some x) (sym (lock_held held info (rw is at accept)))
 held_kept held s (unlock id) is kept accept = absurd (kept tt)
 held_kept held s (push id d) is _ accept = is
 held_kept held s (delete id) is _ accept = is
 
 -- Where a lock was taken, and no unlock came, its information is held when an act is accepted.
-held_at : (h : History) (held : LockText) (act : ActValue) (between : History) → IsAccepted h → Follows h (lock held) between act → Without IsUnlock between
+held_at : (h : History) (held : LockInformation) (act : ActValue) (between : History) → IsAccepted h → Follows h (lock held) between act → Without IsUnlock between
     → (s : Standing) × (s.holder ≡ Some held) × (verdict_over s act ≡ Accept)
 held_at h held act between accepted follows clean =
     at_second (IsHeld held) IsUnlock (held_kept held) h (lock held) act between accepted follows clean (λ s. refl)
@@ -92,7 +92,7 @@ locks_exclude h accepted first second between follows clean =
     let found = held_at h first (lock second) between accepted follows clean in
     ap (λ i. i.bytes) (lock_held first second (rw found.1 at found.2))
 
-write_bears : (s : Standing) (held : LockText) (write : ActValue) (id : Option (List ℕ)) → s.holder ≡ Some held → verdict_over s write ≡ Accept → IsWriteWith id write → id ≡ Some held.id
+write_bears : (s : Standing) (held : LockInformation) (write : ActValue) (id : Option (List ℕ)) → s.holder ≡ Some held → verdict_over s write ≡ Accept → IsWriteWith id write → id ≡ Some held.id
 write_bears s held (lock info) id is accept bears = absurd bears
 write_bears s held (unlock given) id is accept bears = absurd bears
 write_bears s held (push given d) id is accept bears = sym bears ∙ write_held held given (push_verdict s.state d) (rw is at accept)
@@ -110,7 +110,7 @@ unlocks_bear h accepted held id between follows clean =
 
 -- A write with an identifier that is accepted over a history has a holder of that identifier.
 named_holder : (s : Standing) (write : ActValue) (id : List ℕ) → verdict_over s write ≡ Accept → IsWriteWith (Some id) write
-    → (held : LockText) × (s.holder ≡ Some held) × (held.id ≡ id)
+    → (held : LockInformation) × (s.holder ≡ Some held) × (held.id ≡ id)
 named_holder s (lock info) id accept bears = absurd bears
 named_holder s (unlock given) id accept bears = absurd bears
 named_holder s (push given d) id accept bears = write_named s.holder id (push_verdict s.state d) (rw bears at accept)

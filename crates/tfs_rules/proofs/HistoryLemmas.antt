@@ -2,7 +2,7 @@
 use Rattle.std.proofs.Common.{◌≡◌, ◌⊎◌, [], ◌∷◌, ◌++◌, fold, Option, Some, None, refl, sym, ◌∙◌, ap, inl, inr}
 use Rattle.std.proofs.lemmas.List.Sums.{fold-append}
 use Rattle.tfs_state.specs.Document.{Document}
-use Rattle.tfs_lock.specs.LockInfo.{LockText}
+use Rattle.tfs_lock.specs.LockInfo.{LockInformation}
 use Rattle.tfs_rules.specs.Act.{ActValue, lock, unlock, push, delete, IsPush, IsDelete, IsLock, IsUnlock}
 use Rattle.tfs_rules.specs.History.{History, Without, IsLastPushed, IsCurrentState, IsLastLock, IsHolder, state_after, state_of, holder_after, holder_of, Standing, standing_of}
 
@@ -70,7 +70,7 @@ current_state_only h None p = elim (state_of h) as (λ s. state_of h ≡ s → N
 current_state_only h (Some d) p = sym (state_pushed h d p)
 
 -- Acts without a lock and an unlock leave the holder.
-holder_kept : (s : Option LockText) (h : History) → Without IsLock h → Without IsUnlock h → fold holder_after s h ≡ s
+holder_kept : (s : Option LockInformation) (h : History) → Without IsLock h → Without IsUnlock h → fold holder_after s h ≡ s
 holder_kept s [] p q = refl
 holder_kept s (lock info ∷ h) p q = absurd (p.0 tt)
 holder_kept s (unlock id ∷ h) p q = absurd (q.0 tt)
@@ -78,10 +78,10 @@ holder_kept s (push id d ∷ h) p q = holder_kept s h p.1 q.1
 holder_kept s (delete id ∷ h) p q = holder_kept s h p.1 q.1
 
 -- A holder that a history leaves over another is that of its last lock, or the other.
-abbrev GivesHolder : Option LockText → History → LockText → Type 0
+abbrev GivesHolder : Option LockInformation → History → LockInformation → Type 0
 GivesHolder s h info = IsLastLock h info ⊎ (Without IsLock h × Without IsUnlock h × (s ≡ Some info))
 
-locked_later : (act : ActValue) (h : History) (info : LockText) → IsLastLock h info → IsLastLock (act ∷ h) info
+locked_later : (act : ActValue) (h : History) (info : LockInformation) → IsLastLock h info → IsLastLock (act ∷ h) info
 locked_later act h info p = record {
   before = act ∷ p.before;
   after = p.after;
@@ -90,7 +90,7 @@ locked_later act h info p = record {
   kept = p.kept;
 }
 
-holder_given : (s : Option LockText) (h : History) (info : LockText) → fold holder_after s h ≡ Some info → GivesHolder s h info
+holder_given : (s : Option LockInformation) (h : History) (info : LockInformation) → fold holder_after s h ≡ Some info → GivesHolder s h info
 holder_given s [] info e = inr (tt, tt, e)
 holder_given s (lock held ∷ h) info e = elim (holder_given (Some held) h info e) [
   | inl l ↦ inl (locked_later (lock held) h info l)
@@ -111,10 +111,10 @@ holder_given s (delete id ∷ h) info e = elim (holder_given s h info e) [
 ]
 
 -- The holder of a history is that of its last lock.
-pub last_lock : (h : History) (info : LockText) → holder_of h ≡ Some info → IsLastLock h info
+pub last_lock : (h : History) (info : LockInformation) → holder_of h ≡ Some info → IsLastLock h info
 last_lock h info e = elim (holder_given None h info e) [ inl p ↦ p | inr q ↦ let none : None ≡ Some info = q.2 in cc ]
 
-holder_locked : (h : History) (info : LockText) → IsLastLock h info → holder_of h ≡ Some info
+holder_locked : (h : History) (info : LockInformation) → IsLastLock h info → holder_of h ≡ Some info
 holder_locked h info p = rw p.split
     (fold-append holder_after None p.before (lock info ∷ p.after) ∙ holder_kept (Some info) p.after p.last p.kept)
 
@@ -124,7 +124,7 @@ holder_found h = elim (holder_of h) as (λ s. holder_of h ≡ s → IsHolder h s
   | Some info ↦ λ e. last_lock h info e
 ] refl
 
-pub holder_only : (h : History) (s : Option LockText) → IsHolder h s → s ≡ holder_of h
+pub holder_only : (h : History) (s : Option LockInformation) → IsHolder h s → s ≡ holder_of h
 holder_only h None p = elim (holder_of h) as (λ s. holder_of h ≡ s → None ≡ s) [
   | None ↦ λ e. refl
   | Some info ↦ λ e. absurd (p info (last_lock h info e))

@@ -4,7 +4,7 @@ use Rattle.std.proofs.lemmas.Bool.{ltb-false, eq-eqb, not-false}
 use Rattle.std.proofs.lemmas.Slice.Eq.{bytes_eq-Decides}
 use Rattle.std.specs.Str.{bytes_eq}
 use Rattle.tfs_state.specs.Document.{Document}
-use Rattle.tfs_lock.specs.LockInfo.{LockText}
+use Rattle.tfs_lock.specs.LockInfo.{LockInformation}
 use Rattle.tfs_rules.specs.Act.{ActValue, lock, unlock, push, delete}
 use Rattle.tfs_rules.specs.History.{Standing}
 use Rattle.tfs_rules.specs.HistoryLaws.{IsPushOrder}
@@ -20,11 +20,11 @@ same_bytes a b otherwise e =
       | false ↦ λ _ accept. cc
     ] refl e
 
-abbrev lock_text : List ℕ → List ℕ → LockText
+abbrev lock_text : List ℕ → List ℕ → LockInformation
 lock_text bytes id = record { bytes = bytes; id = id }
 
 -- A lock that is accepted over a holder is the holder's own.
-pub lock_held : (held info : LockText) → lock_verdict (Some held) info ≡ Accept → held ≡ info
+pub lock_held : (held info : LockInformation) → lock_verdict (Some held) info ≡ Accept → held ≡ info
 lock_held held info e =
     elim (bytes_eq held.bytes info.bytes) as (λ t. bytes_eq held.bytes info.bytes ≡ t → cond (t && bytes_eq held.id info.id) Accept Locked ≡ Accept → held ≡ info) [
       | true ↦ λ same accept.
@@ -34,23 +34,23 @@ lock_held held info e =
       | false ↦ λ _ accept. cc
     ] refl e
 
-pub unlock_held : (held : LockText) (id : Option (List ℕ)) → unlock_verdict (Some held) id ≡ Accept → (id ≡ Some held.id) ⊎ (id ≡ None)
+pub unlock_held : (held : LockInformation) (id : Option (List ℕ)) → unlock_verdict (Some held) id ≡ Accept → (id ≡ Some held.id) ⊎ (id ≡ None)
 unlock_held held None e = inr refl
 unlock_held held (Some id) e = inl (ap (λ x. Some x) (sym (same_bytes held.id id Accept e).0))
 
 -- A write that is accepted over a holder bears its identifier.
-pub write_held : (held : LockText) (id : Option (List ℕ)) (otherwise : Verdict) → write_verdict (Some held) id otherwise ≡ Accept → id ≡ Some held.id
+pub write_held : (held : LockInformation) (id : Option (List ℕ)) (otherwise : Verdict) → write_verdict (Some held) id otherwise ≡ Accept → id ≡ Some held.id
 write_held held None otherwise e = cc
 write_held held (Some id) otherwise e = ap (λ x. Some x) (sym (same_bytes held.id id otherwise e).0)
 
 -- A write that is accepted with an identifier has a holder with that identifier.
-pub write_named : (holder : Option LockText) (id : List ℕ) (otherwise : Verdict) → write_verdict holder (Some id) otherwise ≡ Accept
-    → (held : LockText) × (holder ≡ Some held) × (held.id ≡ id)
+pub write_named : (holder : Option LockInformation) (id : List ℕ) (otherwise : Verdict) → write_verdict holder (Some id) otherwise ≡ Accept
+    → (held : LockInformation) × (holder ≡ Some held) × (held.id ≡ id)
 write_named None id otherwise e = cc
 write_named (Some held) id otherwise e = (held, refl, (same_bytes held.id id otherwise e).0)
 
 -- A write that is accepted is accepted by the lock aside, too.
-pub write_goes_on : (holder : Option LockText) (id : Option (List ℕ)) (otherwise : Verdict) → write_verdict holder id otherwise ≡ Accept → otherwise ≡ Accept
+pub write_goes_on : (holder : Option LockInformation) (id : Option (List ℕ)) (otherwise : Verdict) → write_verdict holder id otherwise ≡ Accept → otherwise ≡ Accept
 write_goes_on None None otherwise e = e
 write_goes_on None (Some id) otherwise e = cc
 write_goes_on (Some held) None otherwise e = cc
@@ -86,7 +86,7 @@ push_not_locked (Some stored) pushed e =
     (neither_locked (nat_lt pushed.serial stored.serial) SerialTooLow _ (λ r. cc)
     (neither_locked (pushed.serial == stored.serial && not (bytes_eq stored.bytes pushed.bytes)) SerialReused Accept (λ r. cc) (λ r. cc))) e
 
-write_locked : (holder : Option LockText) (id : Option (List ℕ)) (otherwise : Verdict) → ¬ (otherwise ≡ Locked) → write_verdict holder id otherwise ≡ Locked → IsSome holder
+write_locked : (holder : Option LockInformation) (id : Option (List ℕ)) (otherwise : Verdict) → ¬ (otherwise ≡ Locked) → write_verdict holder id otherwise ≡ Locked → IsSome holder
 write_locked None None otherwise p e = absurd (p e)
 write_locked None (Some id) otherwise p e = cc
 write_locked (Some held) id otherwise p e = refl
@@ -95,12 +95,12 @@ write_locked (Some held) id otherwise p e = refl
 pub holder_of_locked : (s : Standing) (act : ActValue) → verdict_over s act ≡ Locked → IsSome s.holder
 holder_of_locked s (lock info) e = by_holder s.holder e
   where
-    by_holder : (holder : Option LockText) → lock_verdict holder info ≡ Locked → IsSome holder
+    by_holder : (holder : Option LockInformation) → lock_verdict holder info ≡ Locked → IsSome holder
     by_holder None f = cc
     by_holder (Some held) f = refl
 holder_of_locked s (unlock id) e = by_holder s.holder id e
   where
-    by_holder : (holder : Option LockText) (given : Option (List ℕ)) → unlock_verdict holder given ≡ Locked → IsSome holder
+    by_holder : (holder : Option LockInformation) (given : Option (List ℕ)) → unlock_verdict holder given ≡ Locked → IsSome holder
     by_holder None None f = cc
     by_holder None (Some given) f = cc
     by_holder (Some held) given f = refl

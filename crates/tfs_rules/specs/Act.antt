@@ -2,14 +2,14 @@
 use Rattle.std.specs.Prelude.{◌≡◌, ℕ, List, Option}
 use Rattle.std.specs.Arc.{arc_value}
 use Rattle.tfs_state.specs.Document.{Document}
-use Rattle.tfs_lock.specs.LockInfo.{LockText}
+use Rattle.tfs_lock.specs.LockInfo.{LockInformation}
 use Rattle.tfs_rules.specs.declared.act.Act.{Act}
 use Rattle.tfs_rules.specs.declared.act.Act.TheVariants.{Lock, Unlock, Push, Delete}
 
 -- A lock makes its information the holder, an unlock leaves no holder, a push makes its document the state, and a delete
 -- leaves no state. All but a lock bear the identifier of a lock, or none.
 pub data ActValue : Type 0 where
-  lock : LockText → ActValue
+  lock : LockInformation → ActValue
   unlock : Option (List ℕ) → ActValue
   push : Option (List ℕ) → Document → ActValue
   delete : Option (List ℕ) → ActValue

@@ -1,7 +1,7 @@
 -- What an accepted history keeps, said by positions and without the verdict.
 use Rattle.std.specs.Prelude.{◌≡◌, ◌≤◌, ◌⊎◌, ℕ, List, ◌∷◌, ◌++◌, Option, Some, None}
 use Rattle.tfs_state.specs.Document.{Document}
-use Rattle.tfs_lock.specs.LockInfo.{LockText}
+use Rattle.tfs_lock.specs.LockInfo.{LockInformation}
 use Rattle.tfs_rules.specs.Act.{ActValue, lock, unlock, push, IsDelete, IsUnlock, IsWriteWith}
 use Rattle.tfs_rules.specs.History.{History, Without}
 
@@ -22,23 +22,23 @@ KeepsPushOrder h = (first second : Document) (first_id second_id : Option (List 
 
 -- Lock exclusion: two locks with no unlock between have the same bytes.
 abbrev pub KeepsLockExclusion : History → Type 0
-KeepsLockExclusion h = (first second : LockText) (between : History)
+KeepsLockExclusion h = (first second : LockInformation) (between : History)
     → Follows h (lock first) between (lock second) → Without IsUnlock between → first.bytes ≡ second.bytes
 
 -- Writes bear the lock: a push or a delete after a lock, with no unlock between, bears the lock's identifier.
 abbrev pub WritesBearTheLock : History → Type 0
-WritesBearTheLock h = (held : LockText) (write : ActValue) (id : Option (List ℕ)) (between : History)
+WritesBearTheLock h = (held : LockInformation) (write : ActValue) (id : Option (List ℕ)) (between : History)
     → Follows h (lock held) between write → Without IsUnlock between → IsWriteWith id write → id ≡ Some held.id
 
 -- Unlocks bear the lock: an unlock after a lock, with no unlock between, bears the lock's identifier or none.
 abbrev pub UnlocksBearTheLock : History → Type 0
-UnlocksBearTheLock h = (held : LockText) (id : Option (List ℕ)) (between : History)
+UnlocksBearTheLock h = (held : LockInformation) (id : Option (List ℕ)) (between : History)
     → Follows h (lock held) between (unlock id) → Without IsUnlock between → (id ≡ Some held.id) ⊎ (id ≡ None)
 
 -- The acts have a lock with this identifier, which no unlock follows.
 pub record HasStandingLock (acts : History) (id : List ℕ) : Type 0 where
   pub before : History
-  pub held : LockText
+  pub held : LockInformation
   pub after : History
   pub split : acts ≡ before ++ lock held ∷ after
   pub named : held.id ≡ id

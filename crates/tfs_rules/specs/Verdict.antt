@@ -3,7 +3,7 @@
 use Rattle.std.specs.Prelude.{◌≡◌, ◌==◌, ◌&&◌, ◌∷◌, ◌++◌, ℕ, List, not, nat_lt, if◌then◌else◌, Option, Some, None}
 use Rattle.std.specs.Str.{bytes_eq}
 use Rattle.tfs_state.specs.Document.{Document}
-use Rattle.tfs_lock.specs.LockInfo.{LockText}
+use Rattle.tfs_lock.specs.LockInfo.{LockInformation}
 use Rattle.tfs_rules.specs.Act.{ActValue, lock, unlock, push, delete}
 use Rattle.tfs_rules.specs.History.{History, Standing, standing_of}
 use Rattle.tfs_rules.specs.declared.verdict.Verdict.{Verdict}
@@ -11,18 +11,18 @@ use Rattle.tfs_rules.specs.declared.verdict.Verdict.TheVariants.{Accept, Locked,
 
 -- The verdict on a lock, over the holder: the holder's own lock is taken again. (Lock information that was read from the
 -- same bytes has the same identifier, so of such the bytes alone decide.)
-abbrev pub lock_verdict : Option LockText → LockText → Verdict
+abbrev pub lock_verdict : Option LockInformation → LockInformation → Verdict
 lock_verdict None info = Accept
 lock_verdict (Some held) info = if bytes_eq held.bytes info.bytes && bytes_eq held.id info.id then Accept else Locked
 
 -- The verdict on an unlock: one without identifier is always taken.
-abbrev pub unlock_verdict : Option LockText → Option (List ℕ) → Verdict
+abbrev pub unlock_verdict : Option LockInformation → Option (List ℕ) → Verdict
 unlock_verdict holder None = Accept
 unlock_verdict None (Some id) = Accept
 unlock_verdict (Some held) (Some id) = if bytes_eq held.id id then Accept else Locked
 
 -- The verdict on a write, a push or a delete: `otherwise`, where its identifier or the want of one agrees with the holder.
-abbrev pub write_verdict : Option LockText → Option (List ℕ) → Verdict → Verdict
+abbrev pub write_verdict : Option LockInformation → Option (List ℕ) → Verdict → Verdict
 write_verdict None None otherwise = otherwise
 write_verdict None (Some id) otherwise = LockLost
 write_verdict (Some held) None otherwise = Locked

@@ -3,7 +3,7 @@
 ghost use Rattle.std.specs.Prelude.{◌≡◌, if◌then◌else◌, Option, Some, IsSome};
 ghost use Rattle.std.specs.Str.{bytes_eq};
 ghost use Rattle.tfs_state.specs.Document.{Document};
-ghost use Rattle.tfs_lock.specs.LockInfo.{LockText};
+ghost use Rattle.tfs_lock.specs.LockInfo.{LockInformation};
 ghost use Rattle.tfs_rules.specs.Act.{ActValue};
 ghost use Rattle.tfs_rules.specs.History.{History, Standing, IsCurrentState, state_of, IsHolder, holder_of};
 ghost use Rattle.tfs_rules.specs.HistoryLaws.{KeepsHistoryLaws};
@@ -21,7 +21,7 @@ pub fn the_current_state_is_that_of_the_last_push()
 /// The holder that a history leaves act by act is the one that its last lock left, and there is no other.
 pub fn the_holder_is_that_of_the_last_lock()
     ensures found { (h : History) → IsHolder h (holder_of h) }
-    ensures only { (h : History) (holder : Option LockText) → IsHolder h holder
+    ensures only { (h : History) (holder : Option LockInformation) → IsHolder h holder
         → holder ≡ holder_of h }
 {}
 
@@ -33,7 +33,7 @@ pub fn accepted_histories_keep_the_history_laws()
 
 /// Of lock information that was read, the bytes alone decide whether a lock is the holder's own.
 pub fn a_lock_is_the_holders_own_where_its_bytes_are()
-    ensures { (held info : LockText) → SpellsLockInfo held.bytes held → SpellsLockInfo info.bytes info
+    ensures { (held info : LockInformation) → SpellsLockInfo held.bytes held → SpellsLockInfo info.bytes info
         → lock_verdict (Some held) info
         ≡ (if bytes_eq held.bytes info.bytes then Accept else Locked) }
 {}

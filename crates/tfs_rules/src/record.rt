@@ -52,11 +52,11 @@ impl Record {
         match act {
             Act::Lock(info) => lock_verdict(&self.holder, info),
             Act::Unlock(id) => unlock_verdict(&self.holder, id),
-            Act::Push(id, pushed) => match write_refusal(&self.holder, id) {
+            Act::Push(id, pushed) => match refusing_verdict(&self.holder, id) {
                 Some(refusal) => refusal,
                 None => push_verdict(&self.state, pushed),
             },
-            Act::Delete(id) => match write_refusal(&self.holder, id) {
+            Act::Delete(id) => match refusing_verdict(&self.holder, id) {
                 Some(refusal) => refusal,
                 None => Verdict::Accept,
             },
@@ -121,7 +121,7 @@ fn unlock_verdict(holder: &Option<Arc<LockInfo>>, id: &Option<Id>) -> Verdict
 }
 
 /// The verdict on a write by the lock; none where the write goes on.
-fn write_refusal(holder: &Option<Arc<LockInfo>>, id: &Option<Id>) -> Option<Verdict>
+fn refusing_verdict(holder: &Option<Arc<LockInfo>>, id: &Option<Id>) -> Option<Verdict>
     ensures { (otherwise : Verdict)
         → unwrap_or result otherwise ≡ write_verdict (option_map arc_value holder.now) id.now otherwise }
 {

@@ -22,12 +22,9 @@ use Rattle.tfs_http.specs.Form.{form_of}
 use Rattle.tfs_http.specs.Framing.{length_of_text, length_told, values_named, ReadsMessage, BeginsWith, AreWanted, IsUnfinished, framing_refusal}
 use Rattle.tfs_http.specs.Routing.{HasCall, HasChange}
 use Rattle.tfs_http.specs.ReplyText.{reply_text}
-use Rattle.tfs_http.specs.declared.limits.TheConstants.{MAX_BODY_BYTES}
-use Rattle.tfs_serve.specs.Desk.{HasFittingBody}
+use Rattle.tfs_table.specs.Draft.{CarriesFittingState}
 use Rattle.tfs_serve.specs.Conversation.{AnswersRequest, Exchange, Serves, Ends, IsReadThrough, ComesAt, closing_form}
 use Rattle.tfs_serve.specs.Turns.{WritesPart, Went, HasEnded, HasBroken, work_left}
-use Rattle.tfs_serve.specs.declared.input.TheConstants.{PIECE_BYTES}
-use Rattle.tfs_serve.specs.declared.reads.TheConstants.{MAX_READS}
 use Rattle.tfs_serve.specs.declared.fault.ServeFault.{ServeFault}
 use Rattle.tfs_serve.specs.declared.fault.ServeFault.TheVariants.{Read as ReadFault, Write, TooManyReads, NoMemory}
 use Rattle.tfs_serve.specs.declared.ended.Ended.{Ended}
@@ -36,19 +33,19 @@ use Rattle.tfs_serve.proofs.IoLemmas.{appends_more, consumes_more, appends_nothi
 
 -- ---- bodies fit
 
-text_fits : (text : List ℕ) (n : ℕ) → length_of_text text ≡ Ok n → n ≤ MAX_BODY_BYTES
+text_fits : (text : List ℕ) (n : ℕ) → length_of_text text ≡ Ok n → n ≤ 16777216
 text_fits text n e = by_digits (nat_lt 0 (length text) && list_all is_ascii_digit text) e
   where
-    by_size : (b : Bool) → nat_le (digits_value 10 text) MAX_BODY_BYTES ≡ b → cond b (Ok (digits_value 10 text)) (Err BodyTooLarge) ≡ Ok n → n ≤ MAX_BODY_BYTES
-    by_size true t f = let same : digits_value 10 text ≡ n = cc in let small = leb-true (digits_value 10 text) MAX_BODY_BYTES t in omega arith
+    by_size : (b : Bool) → nat_le (digits_value 10 text) 16777216 ≡ b → cond b (Ok (digits_value 10 text)) (Err BodyTooLarge) ≡ Ok n → n ≤ 16777216
+    by_size true t f = let same : digits_value 10 text ≡ n = cc in let small = leb-true (digits_value 10 text) 16777216 t in omega arith
     by_size false t f = cc
 
-    by_digits : (b : Bool) → cond b (cond (nat_le (digits_value 10 text) MAX_BODY_BYTES) (Ok (digits_value 10 text)) (Err BodyTooLarge)) (Err BadLength) ≡ Ok n → n ≤ MAX_BODY_BYTES
-    by_digits true f = by_size (nat_le (digits_value 10 text) MAX_BODY_BYTES) refl f
+    by_digits : (b : Bool) → cond b (cond (nat_le (digits_value 10 text) 16777216) (Ok (digits_value 10 text)) (Err BodyTooLarge)) (Err BadLength) ≡ Ok n → n ≤ 16777216
+    by_digits true f = by_size (nat_le (digits_value 10 text) 16777216) refl f
     by_digits false f = cc
 
 -- A length that is told is of a body that fits.
-told_fits : (lengths codings : List (List ℕ)) (n : ℕ) → length_told lengths codings ≡ Ok n → n ≤ MAX_BODY_BYTES
+told_fits : (lengths codings : List (List ℕ)) (n : ℕ) → length_told lengths codings ≡ Ok n → n ≤ 16777216
 told_fits [] [] n e = let same : 0 ≡ n = cc in omega arith
 told_fits [] (coding ∷ codings) n e = cc
 told_fits (text ∷ []) [] n e = text_fits text n e
@@ -57,24 +54,24 @@ told_fits (text ∷ []) (coding ∷ codings) n e = cc
 told_fits (text ∷ other ∷ texts) (coding ∷ codings) n e = cc
 
 -- A message's body has at most 16 MiB.
-pub body_fits : (bytes : List ℕ) (r : RequestValue) (used : ℕ) → BeginsWith bytes r used → length r.body ≤ MAX_BODY_BYTES
+pub body_fits : (bytes : List ℕ) (r : RequestValue) (used : ℕ) → BeginsWith bytes r used → length r.body ≤ 16777216
 body_fits bytes r used b =
     let fields = map name_and_value b.reads.reads.h.fields in
     told_fits (values_named (codes "content-length") fields) (values_named (codes "transfer-encoding") fields) (length r.body) b.reads.reads.body
 
 -- The call of a request carries its body.
-pub call_fits : (r : RequestValue) (call : Call) → HasCall r call → length r.body ≤ MAX_BODY_BYTES → HasFittingBody call
+pub call_fits : (r : RequestValue) (call : Call) → HasCall r call → length r.body ≤ 16777216 → CarriesFittingState call
 call_fits r (Read name) has fits = tt
 call_fits r (Change name (Push id body)) has fits =
     let change : HasChange r (Push id body) = has.2 in
-    subst (λ (t : List ℕ). length t ≤ MAX_BODY_BYTES) (sym change.2) fits
+    subst (λ (t : List ℕ). length t ≤ 16777216) (sym change.2) fits
 call_fits r (Change name (Delete id)) has fits = tt
 call_fits r (Change name (Lock body)) has fits = tt
 call_fits r (Change name (Unlock body id)) has fits = tt
 
 -- ---- where faults come
 
-comes_between : (fault : ServeFault) (used : ℕ) → (fault ≡ TooManyReads → used ≡ MAX_READS) → ComesAt fault used [] []
+comes_between : (fault : ServeFault) (used : ℕ) → (fault ≡ TooManyReads → used ≡ 1048576) → ComesAt fault used [] []
 comes_between ReadFault used many = (refl, refl)
 comes_between Write used many = tt
 comes_between TooManyReads used many = (refl, refl, many refl)
@@ -255,7 +252,7 @@ module _ {S : Type 0} (step : S → Call → Reply → S → Type 0) where
 
   -- A fault between messages, after more was read.
   pub broken_reading : (old : S) (from reader writer : Option (List ℕ)) (input more : List ℕ) (fault : ServeFault) (used : ℕ) → Consumes from reader more
-      → (fault ≡ TooManyReads → used ≡ MAX_READS) → HasBroken step old old from reader writer writer input fault used
+      → (fault ≡ TooManyReads → used ≡ 1048576) → HasBroken step old old from reader writer writer input fault used
   broken_reading old from reader writer input more fault used consumed many = record {
     more = more;
     text = [];
@@ -341,12 +338,12 @@ less_answering reads used input left r b is =
     let same : length left ≡ length b.rest = ap (λ (t : List ℕ). length t) rest in
     let long : length input ≡ length b.frame + length b.rest = ap (λ (t : List ℕ). length t) b.parts ∙ length-append b.frame b.rest in
     let some : 0 < length b.frame = frame_is_no_empty_text b.frame r b.reads in
-    by_sums ((MAX_READS - reads) * (PIECE_BYTES + 1)) (length left) (length input) (omega arith)
+    by_sums ((1048576 - reads) * (65536 + 1)) (length left) (length input) (omega arith)
   where
     by_sums : (a m n : ℕ) → m < n → a + m < a + n
     by_sums a m n l = omega arith
 
 -- A read counts for more than a piece.
-pub less_reading : (before after : ℕ) (input left : List ℕ) → before < after → after ≤ MAX_READS → length left + PIECE_BYTES * before ≤ length input + PIECE_BYTES * after
+pub less_reading : (before after : ℕ) (input left : List ℕ) → before < after → after ≤ 1048576 → length left + 65536 * before ≤ length input + 65536 * after
     → work_left after left < work_left before input
 less_reading before after input left one most pace = omega arith

@@ -1,5 +1,5 @@
 pub mod RowLemmas
-pub mod FirstLemmas
+pub mod MemoryDeskLemmas
 pub mod IoLemmas
 pub mod ConversationLemmas
 pub mod OutputLemmas

@@ -17,7 +17,6 @@ use Rattle.tfs_serve.specs.declared.ended.Ended.{Ended}
 use Rattle.tfs_serve.specs.declared.ended.Ended.TheVariants.{Clean, Cut, Asked, Refused}
 use Rattle.tfs_serve.specs.declared.fault.ServeFault.{ServeFault}
 use Rattle.tfs_serve.specs.declared.fault.ServeFault.TheVariants.{Read, Write, TooManyReads, NoMemory}
-use Rattle.tfs_serve.specs.declared.reads.TheConstants.{MAX_READS}
 
 -- The reply to a request, over the steps of a desk: its refusal by routing, or want of memory in routing, and the desk stays;
 -- else the desk's own answer to its call.
@@ -76,7 +75,7 @@ pub record Converses {S : Type 0} (step : S → Call → Reply → S → Type 0)
 -- after all of them; the writer's and want of memory also while a reply is written.
 abbrev pub ComesAt : ServeFault → ℕ → List ℕ → List ℕ → Type 0
 ComesAt Read used last lost = (last ≡ []) × (lost ≡ [])
-ComesAt TooManyReads used last lost = (last ≡ []) × (lost ≡ []) × (used ≡ MAX_READS)
+ComesAt TooManyReads used last lost = (last ≡ []) × (lost ≡ []) × (used ≡ 1048576)
 ComesAt Write used last lost = Unit {0}
 ComesAt NoMemory used last lost = Unit {0}
 

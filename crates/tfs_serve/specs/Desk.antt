@@ -2,16 +2,9 @@
 use Rattle.std.specs.Prelude.{false}
 use Rattle.tfs_journal.specs.Journal.{Journal}
 use Rattle.tfs_table.specs.declared.call.Call.{Call}
-use Rattle.tfs_table.specs.declared.call.Call.TheVariants.{Read, Change}
-use Rattle.tfs_table.specs.Draft.{HasFittingState}
 use Rattle.tfs_table.specs.declared.reply.Reply.{Reply}
 use Rattle.tfs_table.specs.Reply.{reply_value}
 use Rattle.tfs_table.specs.Transition.{TableModel, AnswersInMemory}
-
--- The state that a call carries is of at most 16 MiB, as the bodies of requests are.
-abbrev pub HasFittingBody : Call → Type 0
-HasFittingBody (Read name) = Unit {0}
-HasFittingBody (Change name raw) = HasFittingState raw
 
 -- A table that isn't stopped.
 abbrev pub model_of : Journal → TableModel

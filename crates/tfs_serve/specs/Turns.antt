@@ -7,8 +7,6 @@ use Rattle.tfs_serve.specs.Conversation.{HasServed, IsReadThrough, Converses, Br
 use Rattle.tfs_serve.specs.declared.ended.Ended.{Ended}
 use Rattle.tfs_serve.specs.declared.fault.ServeFault.{ServeFault}
 use Rattle.tfs_serve.specs.declared.fault.ServeFault.TheVariants.{Write, NoMemory}
-use Rattle.tfs_serve.specs.declared.input.TheConstants.{PIECE_BYTES}
-use Rattle.tfs_serve.specs.declared.reads.TheConstants.{MAX_READS}
 
 -- A fault came while the text was written, and a part of it was.
 pub record WritesPart (into writer : Option (List ℕ)) (text : List ℕ) (fault : ServeFault) : Type 0 where
@@ -45,4 +43,4 @@ pub record HasBroken {S : Type 0} (step : S → Call → Reply → S → Type 0)
 
 -- A bound on the turns to come: each reads, or uses a byte at least.
 abbrev pub work_left : ℕ → List ℕ → ℕ
-work_left reads input = (MAX_READS - reads) * (PIECE_BYTES + 1) + length input
+work_left reads input = (1048576 - reads) * (65536 + 1) + length input

@@ -5,7 +5,6 @@ ghost use Rattle.std.specs.Io.KnownBytes.{Appends, Consumes};
 ghost use Rattle.tfs_table.specs.Reply.{ReplyValue, reply_value};
 ghost use Rattle.tfs_http.specs.Form.{form_of};
 ghost use Rattle.tfs_http.specs.ReplyText.{reply_text};
-ghost use Rattle.tfs_http.specs.declared.limits.TheConstants.{MAX_BODY_BYTES};
 ghost use Rattle.tfs_serve.specs.Conversation.{AnswersRequest, Converses, BreaksOff, IsReadThrough};
 ghost use Rattle.tfs_serve.specs.Turns.{WritesPart, Went, HasEnded, HasBroken, work_left};
 ghost use Rattle.tfs_serve.specs.declared.ended.Ended.TheVariants.{Clean, Cut};
@@ -148,7 +147,7 @@ fn reply_to<W: Write, D: Desk>(
     desk: &mut D,
     request: Request,
 ) -> Result<(), ServeFault>
-    requires { length request.body ≤ MAX_BODY_BYTES }
+    requires { length request.body ≤ 16777216 }
     ensures ok { OnOk result ((reply : ReplyValue) × AnswersRequest D.step desk.old request reply desk.new
         × Appends (W.contents writer.old) (W.contents writer.new) (reply_text reply (form_of request))) }
     ensures err { IfErr result (λ fault. (reply : ReplyValue) × AnswersRequest D.step desk.old request reply desk.new
@@ -164,7 +163,7 @@ fn reply_to<W: Write, D: Desk>(
 
 /// The reply to a request: its refusal by routing, or the desk's.
 fn answer<D: Desk>(alloc: Global, routes: &Routes, desk: &mut D, request: Request) -> Reply
-    requires { length request.body ≤ MAX_BODY_BYTES }
+    requires { length request.body ≤ 16777216 }
     ensures { AnswersRequest D.step desk.old request (reply_value result) desk.new }
 {
     match call_of(alloc, routes, request) {

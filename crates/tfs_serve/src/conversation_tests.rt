@@ -1,7 +1,7 @@
 //! Conversations with replies worked out by hand: cut in all ways, cut short, and broken off by either side.
 
 use super::*;
-use crate::first::FirstDesk;
+use crate::memory_desk::MemoryDesk;
 use std::alloc::Global;
 use std::io;
 use std::process::Abort;
@@ -110,7 +110,7 @@ impl io::Write for OneByOne {
 /// How many entries the desk has: a further push tells the position that it gets.
 pub(crate) fn entries_of(
     rt: &(impl Alloc<A = Global> + Abort),
-    desk: &mut FirstDesk,
+    desk: &mut MemoryDesk,
 ) -> Result<u64, Fail> {
     let Some(name) = Name::read(String::from_str(rt.alloc(), "count")?) else {
         panic!(rt; "the text is a name");
@@ -127,7 +127,7 @@ fn talk<R: io::Read, W: io::Write>(
     alloc: Global,
     reader: &mut R,
     writer: &mut W,
-    desk: &mut FirstDesk,
+    desk: &mut MemoryDesk,
 ) -> Result<Ended, ServeFault> {
     converse(alloc, reader, writer, desk, &mut Reads::new())
 }
@@ -135,7 +135,7 @@ fn talk<R: io::Read, W: io::Write>(
 /// The input in one piece is answered with this output and this end.
 fn expect_end(
     rt: &(impl Alloc<A = Global> + Abort),
-    desk: &mut FirstDesk,
+    desk: &mut MemoryDesk,
     input: &str,
     output: &str,
     end: Ended,
@@ -150,7 +150,7 @@ fn expect_end(
 /// The input in one piece is answered with this output, and the conversation is Clean.
 pub(crate) fn expect(
     rt: &(impl Alloc<A = Global> + Abort),
-    desk: &mut FirstDesk,
+    desk: &mut MemoryDesk,
     input: &str,
     output: &str,
 ) {
@@ -190,7 +190,7 @@ pub(crate) const DONE: &str = "HTTP/1.1 200 OK\r\nContent-Length: 0\r\n\r\n";
 #[test]
 fn a_push_and_a_read_are_answered_however_they_are_cut(rt: HostRuntime) -> Result<(), Fail> {
     for cut in 0..PUSH_AND_READ.len() {
-        let mut desk = FirstDesk::new(rt.alloc());
+        let mut desk = MemoryDesk::new(rt.alloc());
         let mut reader = Pieces::new(PUSH_AND_READ, usize::MAX);
         reader.before_cut = cut;
         let mut writer = Vec::new(rt.alloc());
@@ -199,7 +199,7 @@ fn a_push_and_a_read_are_answered_however_they_are_cut(rt: HostRuntime) -> Resul
         assert!(rt; writer.as_slice() == BOTH_REPLIES.as_bytes(), "{cut}");
     }
     for most in [1, 2, 3, 7, 64] {
-        let mut desk = FirstDesk::new(rt.alloc());
+        let mut desk = MemoryDesk::new(rt.alloc());
         let mut reader = Pieces::new(PUSH_AND_READ, most);
         let mut writer = OneByOne::new(rt.alloc(), 0);
         let ended = talk(rt.alloc(), &mut reader, &mut writer, &mut desk);
@@ -216,7 +216,7 @@ fn a_push_and_a_read_are_answered_however_they_are_cut(rt: HostRuntime) -> Resul
 #[test]
 fn the_input_is_read_to_its_end(rt: HostRuntime) -> Result<(), Fail> {
     for cut in [0, 1, 53, 95, 96, 129] {
-        let mut desk = FirstDesk::new(rt.alloc());
+        let mut desk = MemoryDesk::new(rt.alloc());
         let mut reader = Pieces::new(PUSH_AND_READ, usize::MAX);
         reader.before_cut = cut;
         let mut writer = Vec::new(rt.alloc());
@@ -224,7 +224,7 @@ fn the_input_is_read_to_its_end(rt: HostRuntime) -> Result<(), Fail> {
         assert!(rt; ended == Ok(Ended::Clean), "{cut}");
         assert!(rt; reader.told_end, "{cut}");
     }
-    let mut desk = FirstDesk::new(rt.alloc());
+    let mut desk = MemoryDesk::new(rt.alloc());
     let mut reader = Pieces::new("GET /state/a HT", 1);
     let mut writer = Vec::new(rt.alloc());
     let ended = talk(rt.alloc(), &mut reader, &mut writer, &mut desk);
@@ -238,7 +238,7 @@ fn an_input_that_is_cut_short_has_the_replies_to_its_whole_messages(
     rt: HostRuntime,
 ) -> Result<(), Fail> {
     for len in 0..PUSH_AND_READ.len() + 1 {
-        let mut desk = FirstDesk::new(rt.alloc());
+        let mut desk = MemoryDesk::new(rt.alloc());
         let mut reader = PUSH_AND_READ.as_bytes().split_at(len).0;
         let mut writer = Vec::new(rt.alloc());
         let ended = talk(rt.alloc(), &mut reader, &mut writer, &mut desk);
@@ -258,7 +258,7 @@ fn an_input_that_is_cut_short_has_the_replies_to_its_whole_messages(
 
 #[test]
 fn replies_tell_what_the_desk_says(rt: HostRuntime) -> Result<(), Fail> {
-    let mut desk = FirstDesk::new(rt.alloc());
+    let mut desk = MemoryDesk::new(rt.alloc());
     let read = "GET /state/a HTTP/1.1\r\nHost: h\r\n\r\n";
     let none =
         "HTTP/1.1 404 Not Found\r\nContent-Type: application/json\r\nContent-Length: 19\r\n\r\n{\"error\":\"NoState\"}";
@@ -279,7 +279,7 @@ fn replies_tell_what_the_desk_says(rt: HostRuntime) -> Result<(), Fail> {
 
 #[test]
 fn serials_and_lineages_are_compared(rt: HostRuntime) -> Result<(), Fail> {
-    let mut desk = FirstDesk::new(rt.alloc());
+    let mut desk = MemoryDesk::new(rt.alloc());
     let other = push_of(&rt, "{\"version\":4,\"serial\":9,\"lineage\":\"L2\"}")?;
     let differs = refusal_of(&rt, "409 Conflict", "LineageDiffers")?;
     let first = push_of(&rt, S1)?;
@@ -298,7 +298,7 @@ fn serials_and_lineages_are_compared(rt: HostRuntime) -> Result<(), Fail> {
 
 #[test]
 fn texts_that_are_no_states_are_refused(rt: HostRuntime) -> Result<(), Fail> {
-    let mut desk = FirstDesk::new(rt.alloc());
+    let mut desk = MemoryDesk::new(rt.alloc());
     let bad = refusal_of(&rt, "400 Bad Request", "BadState")?;
     for text in [
         "{\"version\":4,\"serial\":18446744073709551616,\"lineage\":\"L1\"}",
@@ -320,7 +320,7 @@ fn texts_that_are_no_states_are_refused(rt: HostRuntime) -> Result<(), Fail> {
 /// A message is refused, and the conversation ends with that reply.
 fn expect_refusal(
     rt: &(impl Alloc<A = Global> + Abort),
-    desk: &mut FirstDesk,
+    desk: &mut MemoryDesk,
     text: &str,
     status: &str,
     name: &str,
@@ -334,7 +334,7 @@ fn expect_refusal(
 fn messages_without_an_end_are_refused_and_nothing_behind_them_is_read(
     rt: HostRuntime,
 ) -> Result<(), Fail> {
-    let mut desk = FirstDesk::new(rt.alloc());
+    let mut desk = MemoryDesk::new(rt.alloc());
     let start = "POST /state/a HTTP/1.1\r\nHost: h\r\n";
     let mut many = String::from_str(rt.alloc(), start)?;
     for _ in 0..64 {
@@ -367,7 +367,7 @@ fn messages_without_an_end_are_refused_and_nothing_behind_them_is_read(
 fn a_failing_writer_has_a_part_of_the_replies(rt: HostRuntime) -> Result<(), Fail> {
     for takes_none in [false, true] {
         for call in 1..BOTH_REPLIES.len() + 1 {
-            let mut desk = FirstDesk::new(rt.alloc());
+            let mut desk = MemoryDesk::new(rt.alloc());
             let mut writer = OneByOne::new(rt.alloc(), call);
             writer.takes_none = takes_none;
             let mut reader = PUSH_AND_READ.as_bytes();
@@ -384,7 +384,7 @@ fn a_failing_writer_has_a_part_of_the_replies(rt: HostRuntime) -> Result<(), Fai
 #[test]
 fn a_failing_reader_leaves_all_replies_written(rt: HostRuntime) -> Result<(), Fail> {
     for call in 1..PUSH_AND_READ.len() + 2 {
-        let mut desk = FirstDesk::new(rt.alloc());
+        let mut desk = MemoryDesk::new(rt.alloc());
         let mut writer = Vec::new(rt.alloc());
         let mut reader = Pieces::new(PUSH_AND_READ, 1);
         reader.fails_at = call;
@@ -413,7 +413,7 @@ fn no_read_is_made_beyond_the_last(rt: HostRuntime) -> Result<(), Fail> {
     for _ in 0..1_048_576 {
         text.push(' ')?;
     }
-    let mut desk = FirstDesk::new(rt.alloc());
+    let mut desk = MemoryDesk::new(rt.alloc());
     let mut writer = Vec::new(rt.alloc());
     let mut reader = Pieces::new(text.as_str(), 1);
     let mut reads = Reads::new();
@@ -433,7 +433,7 @@ fn a_long_body_comes_in_pieces(rt: HostRuntime) -> Result<(), Fail> {
     }
     let push = push_of(&rt, body.as_str())?;
     for most in [64, 65_536, usize::MAX] {
-        let mut desk = FirstDesk::new(rt.alloc());
+        let mut desk = MemoryDesk::new(rt.alloc());
         let mut writer = Vec::new(rt.alloc());
         let mut reader = Pieces::new(push.as_str(), most);
         let ended = talk(rt.alloc(), &mut reader, &mut writer, &mut desk);

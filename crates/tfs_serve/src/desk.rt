@@ -6,13 +6,13 @@ use tfs_table::{Call, Reply};
 pub trait Desk {
     ghost use Rattle.tfs_table.specs.declared.call.Call.{Call};
     ghost use Rattle.tfs_table.specs.declared.reply.Reply.{Reply};
-    ghost use Rattle.tfs_serve.specs.Desk.{HasFittingBody};
+    ghost use Rattle.tfs_table.specs.Draft.{CarriesFittingState};
 
     // From the first value a call may get the reply and leave the second value.
     ghost step: { Self → Call → Reply → Self → Type 0 };
 
     /// Answers a call, whose body has at most 16 MiB.
     fn answer(&mut self, call: Call) -> Reply
-        requires { HasFittingBody call }
+        requires { CarriesFittingState call }
         ensures { step self.old call result self.new };
 }

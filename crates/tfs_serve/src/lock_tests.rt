@@ -2,7 +2,7 @@
 
 use super::*;
 use crate::conversation_tests::{DONE, S1, expect, push_of, refusal_of};
-use crate::first::FirstDesk;
+use crate::memory_desk::MemoryDesk;
 use std::alloc::Global;
 use std::process::Abort;
 use std::test::Fail;
@@ -20,7 +20,7 @@ const HELD_BY_A: &str =
 /// A request is answered with this reply, and the conversation ends with the input.
 fn ask(
     rt: &(impl Alloc<A = Global> + Abort),
-    desk: &mut FirstDesk,
+    desk: &mut MemoryDesk,
     method: &str,
     target: &str,
     body: &str,
@@ -36,7 +36,7 @@ fn ask(
 
 #[test]
 fn a_deleted_state_is_forgotten(rt: HostRuntime) -> Result<(), Fail> {
-    let mut desk = FirstDesk::new(rt.alloc());
+    let mut desk = MemoryDesk::new(rt.alloc());
     let push = push_of(&rt, S1)?;
     expect(&rt, &mut desk, push.as_str(), DONE);
     let differs = refusal_of(&rt, "409 Conflict", "LineageDiffers")?;
@@ -51,7 +51,7 @@ fn a_deleted_state_is_forgotten(rt: HostRuntime) -> Result<(), Fail> {
 
 #[test]
 fn a_lock_is_held_until_it_is_given_back(rt: HostRuntime) -> Result<(), Fail> {
-    let mut desk = FirstDesk::new(rt.alloc());
+    let mut desk = MemoryDesk::new(rt.alloc());
     for (method, body, reply) in [
         ("LOCK", A, DONE),
         ("LOCK", B, HELD_BY_A),
@@ -68,7 +68,7 @@ fn a_lock_is_held_until_it_is_given_back(rt: HostRuntime) -> Result<(), Fail> {
 
 #[test]
 fn a_write_bears_the_lock_that_is_held(rt: HostRuntime) -> Result<(), Fail> {
-    let mut desk = FirstDesk::new(rt.alloc());
+    let mut desk = MemoryDesk::new(rt.alloc());
     for (method, target, body, reply) in [
         ("LOCK", "/state/a", A, DONE),
         ("POST", "/state/a", S1, HELD_BY_A),
@@ -88,7 +88,7 @@ fn a_write_bears_the_lock_that_is_held(rt: HostRuntime) -> Result<(), Fail> {
 
 #[test]
 fn a_lock_that_was_given_back_is_lost(rt: HostRuntime) -> Result<(), Fail> {
-    let mut desk = FirstDesk::new(rt.alloc());
+    let mut desk = MemoryDesk::new(rt.alloc());
     let lost = refusal_of(&rt, "409 Conflict", "LockLost")?;
     ask(&rt, &mut desk, "LOCK", "/state/a", A, DONE)?;
     ask(&rt, &mut desk, "UNLOCK", "/state/a", "", DONE)?;
@@ -98,7 +98,7 @@ fn a_lock_that_was_given_back_is_lost(rt: HostRuntime) -> Result<(), Fail> {
 
 #[test]
 fn lock_information_that_cannot_be_read_is_refused(rt: HostRuntime) -> Result<(), Fail> {
-    let mut desk = FirstDesk::new(rt.alloc());
+    let mut desk = MemoryDesk::new(rt.alloc());
     let bad = refusal_of(&rt, "400 Bad Request", "BadLockInfo")?;
     let mut id = String::new(rt.alloc());
     for _ in 0..256 {
@@ -128,7 +128,7 @@ fn lock_information_that_cannot_be_read_is_refused(rt: HostRuntime) -> Result<()
 
 #[test]
 fn identifiers_are_compared_as_they_are_spelled_out(rt: HostRuntime) -> Result<(), Fail> {
-    let mut desk = FirstDesk::new(rt.alloc());
+    let mut desk = MemoryDesk::new(rt.alloc());
     let info = "{\"ID\":\"\\u0061 b\\u00e9\"}";
     let held =
         "HTTP/1.1 423 Locked\r\nContent-Type: application/json\r\nContent-Length: 23\r\n\r\n{\"ID\":\"\\u0061 b\\u00e9\"}";

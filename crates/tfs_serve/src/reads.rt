@@ -1,7 +1,6 @@
 //! The count of a conversation's reads.
 
 ghost use Rattle.std.specs.Prelude.{◌≡◌, ◌+◌, ◌≤◌, true, false};
-ghost use Rattle.tfs_serve.specs.declared.reads.TheConstants.{MAX_READS};
 
 use std::marker::Model;
 
@@ -16,13 +15,12 @@ pub struct Reads {
 
 impl Model for Reads {
     ghost use Rattle.std.specs.Prelude.{ℕ, ◌≤◌};
-    ghost use Rattle.tfs_serve.specs.declared.reads.TheConstants.{MAX_READS};
 
     ghost Value = { ℕ };
 
     ghost view = { λ r. r.used };
 
-    ghost invariant = { λ r. r.used ≤ MAX_READS };
+    ghost invariant = { λ r. r.used ≤ 1048576 };
 }
 
 impl Reads {
@@ -36,15 +34,15 @@ impl Reads {
     /// How many reads were made.
     pub fn used(&self) -> u64
         ensures value { result ≡ self.now }
-        ensures limit { result ≤ MAX_READS }
+        ensures limit { result ≤ 1048576 }
     {
         self.used
     }
 
     /// Counts one more read; false where there were as many as there may be.
     pub(crate) fn count(&mut self) -> bool
-        ensures counted { result ≡ true → (self.new ≡ self.old + 1) × (self.new ≤ MAX_READS) }
-        ensures full { result ≡ false → (self.new ≡ self.old) × (self.old ≡ MAX_READS) }
+        ensures counted { result ≡ true → (self.new ≡ self.old + 1) × (self.new ≤ 1048576) }
+        ensures full { result ≡ false → (self.new ≡ self.old) × (self.old ≡ 1048576) }
     {
         if self.used == MAX_READS {
             return false;

@@ -2,7 +2,7 @@
 
 use super::*;
 use crate::conversation_tests::S1;
-use crate::first::FirstDesk;
+use crate::memory_desk::MemoryDesk;
 use std::alloc::Global;
 use std::process::Abort;
 use std::test::Fail;
@@ -21,7 +21,7 @@ fn name_of(rt: &(impl Alloc<A = Global> + Abort), text: &str) -> Result<Name, Fa
 
 fn push(
     rt: &(impl Alloc<A = Global> + Abort),
-    desk: &mut FirstDesk,
+    desk: &mut MemoryDesk,
     name: &str,
     text: &str,
 ) -> Result<Reply, Fail> {
@@ -47,7 +47,7 @@ fn expect_refused(rt: &impl Abort, reply: Reply, refusal: Refusal) {
 
 fn expect_state(
     rt: &(impl Alloc<A = Global> + Abort),
-    desk: &mut FirstDesk,
+    desk: &mut MemoryDesk,
     name: &str,
     text: &str,
 ) -> Result<(), Fail> {
@@ -61,7 +61,7 @@ fn expect_state(
 
 #[test]
 fn what_was_pushed_is_read(rt: HostRuntime) -> Result<(), Fail> {
-    let mut desk = FirstDesk::new(rt.alloc());
+    let mut desk = MemoryDesk::new(rt.alloc());
     let name = name_of(&rt, "a")?;
     expect_refused(&rt, desk.answer(Call::Read(name)), Refusal::NoState);
     expect_done(&rt, push(&rt, &mut desk, "a", S1)?, 1);
@@ -74,7 +74,7 @@ fn what_was_pushed_is_read(rt: HostRuntime) -> Result<(), Fail> {
 
 #[test]
 fn names_have_states_of_their_own(rt: HostRuntime) -> Result<(), Fail> {
-    let mut desk = FirstDesk::new(rt.alloc());
+    let mut desk = MemoryDesk::new(rt.alloc());
     expect_done(&rt, push(&rt, &mut desk, "a", S2)?, 1);
     expect_done(&rt, push(&rt, &mut desk, "b", S1)?, 2);
     expect_refused(&rt, push(&rt, &mut desk, "a", S1)?, Refusal::SerialTooLow);
@@ -91,7 +91,7 @@ fn names_have_states_of_their_own(rt: HostRuntime) -> Result<(), Fail> {
 
 #[test]
 fn a_new_name_is_refused_where_there_are_1024(rt: HostRuntime) -> Result<(), Fail> {
-    let mut desk = FirstDesk::new(rt.alloc());
+    let mut desk = MemoryDesk::new(rt.alloc());
     for i in 0..MAX_NAMES as u64 {
         let name = format!(in rt.alloc(); "n{i}")?;
         expect_done(&rt, push(&rt, &mut desk, name.as_str(), S1)?, i + 1);
@@ -103,7 +103,7 @@ fn a_new_name_is_refused_where_there_are_1024(rt: HostRuntime) -> Result<(), Fai
 
 #[test]
 fn another_entry_is_refused_where_there_are_65536(rt: HostRuntime) -> Result<(), Fail> {
-    let mut desk = FirstDesk::new(rt.alloc());
+    let mut desk = MemoryDesk::new(rt.alloc());
     for i in 0..MAX_ENTRIES as u64 {
         expect_done(&rt, push(&rt, &mut desk, "a", S1)?, i + 1);
     }
@@ -123,7 +123,7 @@ fn a_refused_growth_is_told_and_changes_nothing(rt: HostRuntime) -> Result<(), F
         panic!(rt; "the text is a name");
     };
     assert!(rt; bytes.len() <= MAX_STATE_BYTES);
-    let mut desk = FirstDesk::new(rt.alloc());
+    let mut desk = MemoryDesk::new(rt.alloc());
     match desk.answer(Call::Change(name, Raw::Push(None, Bytes::new(bytes)))) {
         Reply::Done(position) => assert_eq!(rt; position, 1),
         Reply::Refused(refusal) => assert_eq!(rt; refusal.name(), "OutOfMemory"),

@@ -9,7 +9,6 @@ use Rattle.serde_json.specs.Read.{read}
 use Rattle.tfs_state.specs.Document.{Document}
 use Rattle.tfs_state.specs.StateText.{json_value, version_of, serial_of, lineage_of, Describes, SpellsDocument, first_member_fault, first_state_fault}
 use Rattle.tfs_state.specs.declared.fault.StateFault.TheVariants.{NotJson, Version, Serial, Lineage}
-use Rattle.tfs_state.specs.declared.doc.TheConstants.{MAX_STATE_BYTES}
 
 -- Of bytes that are UTF-8, what is read counts.
 pub json_value_text : (bytes : List ℕ) → IsUtf8 bytes → json_value bytes ≡ read bytes
@@ -46,7 +45,7 @@ described_without_fault bytes value e =
     (record { bytes = bytes; serial = found.0; lineage = found.1 }, refl, record { version = found.2; serial = found.3; lineage = found.4 })
 
 -- Bytes without a fault spell a document.
-pub spelled_without_fault : (bytes : List ℕ) → length bytes ≤ MAX_STATE_BYTES → first_state_fault bytes ≡ None → (d : Document) × SpellsDocument bytes d
+pub spelled_without_fault : (bytes : List ℕ) → length bytes ≤ 16777216 → first_state_fault bytes ≡ None → (d : Document) × SpellsDocument bytes d
 spelled_without_fault bytes size e =
     elim (json_value bytes) as (λ o. json_value bytes ≡ o → option_map_or first_member_fault o (Some NotJson) ≡ None → (d : Document) × SpellsDocument bytes d) [
       | None ↦ λ _ f. cc

@@ -8,7 +8,6 @@ use Rattle.serde_json.specs.Find.{get, as_number, as_str, as_u64}
 use Rattle.tfs_state.specs.Document.{Document}
 use Rattle.tfs_state.specs.declared.fault.StateFault.{StateFault}
 use Rattle.tfs_state.specs.declared.fault.StateFault.TheVariants.{NotJson, Version, Serial, Lineage}
-use Rattle.tfs_state.specs.declared.doc.TheConstants.{MAX_STATE_BYTES}
 
 -- The value that the bytes spell as JSON text, which is UTF-8 (RFC 8259, section 8.1). What JSON is, how deep it may
 -- nest and which of two members of one name counts is `serde_json`'s answer.
@@ -41,7 +40,7 @@ pub record Describes (value : Data) (d : Document) : Type 0 where
 
 -- The bytes are the text of the document.
 pub record SpellsDocument (bytes : List ℕ) (d : Document) : Type 0 where
-  pub size : length bytes ≤ MAX_STATE_BYTES
+  pub size : length bytes ≤ 16777216
   pub kept : d.bytes ≡ bytes
   pub described : (value : Data) × (json_value bytes ≡ Some value) × Describes value d
 

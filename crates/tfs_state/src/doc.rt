@@ -37,7 +37,7 @@ impl Doc {
     /// Reads a state's text, of at most 16 MiB. A refusal is the first fault of the text, in the order of
     /// [`StateFault`], but for `NoMemory`, which comes wherever a request for memory is refused.
     pub fn read(alloc: Global, bytes: Vec<u8>) -> Result<Doc, StateFault>
-        requires { length bytes.items ≤ MAX_STATE_BYTES }
+        requires { length bytes.items ≤ 16777216 }
         ensures ok { IfOk result (SpellsDocument bytes.items) }
         ensures err { IfErr result (λ fault. fault ≢ NoMemory
             → first_state_fault bytes.items ≡ Some fault) }

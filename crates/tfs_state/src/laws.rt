@@ -4,13 +4,12 @@ ghost use Rattle.std.specs.Prelude.{◌≡◌, ℕ, ◌≤◌, List, Some, None,
 ghost use Rattle.tfs_state.specs.Document.{Document};
 ghost use Rattle.tfs_state.specs.StateText.{SpellsDocument, first_state_fault, document_of};
 ghost use Rattle.tfs_state.specs.declared.fault.StateFault.{StateFault};
-ghost use Rattle.tfs_state.specs.declared.doc.TheConstants.{MAX_STATE_BYTES};
 
 /// Bytes of at most 16 MiB spell one document, or have a first fault, and never both.
 pub fn bytes_spell_a_document_or_have_a_fault()
     ensures spelled { (bytes : List ℕ) (d : Document) → SpellsDocument bytes d
         → first_state_fault bytes ≡ None }
-    ensures faultless { (bytes : List ℕ) → length bytes ≤ MAX_STATE_BYTES
+    ensures faultless { (bytes : List ℕ) → length bytes ≤ 16777216
         → first_state_fault bytes ≡ None → (d : Document) × SpellsDocument bytes d }
     ensures once { (bytes : List ℕ) (d e : Document) → SpellsDocument bytes d
         → SpellsDocument bytes e → d ≡ e }

@@ -2,10 +2,10 @@
 -- requests, and `ID` with a write.)
 use Rattle.std.specs.Prelude.{ℕ, ◌≤◌, List, [], ◌∷◌, length, Bool, false, nat_lt, if◌then◌else◌, Option, Some, None, option_map}
 use Rattle.tfs_state.specs.StateText.{document_of}
-use Rattle.tfs_state.specs.declared.doc.TheConstants.{MAX_STATE_BYTES}
 use Rattle.tfs_lock.specs.LockText.{lock_info_of}
-use Rattle.tfs_lock.specs.declared.id.TheConstants.{MAX_ID_BYTES}
 use Rattle.tfs_rules.specs.Act.{ActValue, lock, unlock, push, delete}
+use Rattle.tfs_table.specs.declared.call.Call.{Call}
+use Rattle.tfs_table.specs.declared.call.Call.TheVariants.{Read, Change}
 use Rattle.tfs_table.specs.declared.call.Raw.{Raw}
 use Rattle.tfs_table.specs.declared.call.Raw.TheVariants.{Lock, Unlock, Push, Delete}
 use Rattle.tfs_table.specs.declared.refusal.Refusal.{Refusal}
@@ -20,7 +20,7 @@ id_given (Some (byte ∷ bytes)) = Some (byte ∷ bytes)
 -- The text is longer than identifiers are.
 abbrev pub is_too_long : Option (List ℕ) → Bool
 is_too_long None = false
-is_too_long (Some text) = nat_lt MAX_ID_BYTES (length text)
+is_too_long (Some text) = nat_lt 256 (length text)
 
 -- The act that a raw change asks for; none where a text is too long, or a body isn't what it is to spell.
 abbrev pub act_of : Raw → Option ActValue
@@ -41,5 +41,10 @@ draft_refusal (Delete text) = BadLockInfo
 abbrev pub HasFittingState : Raw → Type 0
 HasFittingState (Lock body) = Unit {0}
 HasFittingState (Unlock body text) = Unit {0}
-HasFittingState (Push text body) = length body ≤ MAX_STATE_BYTES
+HasFittingState (Push text body) = length body ≤ 16777216
 HasFittingState (Delete text) = Unit {0}
+
+-- The same of a call: the change that it asks for, if it does, has such a state.
+abbrev pub CarriesFittingState : Call → Type 0
+CarriesFittingState (Read name) = Unit {0}
+CarriesFittingState (Change name raw) = HasFittingState raw

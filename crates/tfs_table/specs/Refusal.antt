@@ -2,14 +2,14 @@
 -- 6585).
 use Rattle.std.specs.Prelude.{ℕ, List, codes}
 use Rattle.std.specs.Arc.{arc_value}
-use Rattle.tfs_lock.specs.LockInfo.{LockText}
+use Rattle.tfs_lock.specs.LockInfo.{LockInformation}
 use Rattle.tfs_table.specs.declared.refusal.Refusal.{Refusal}
 use Rattle.tfs_table.specs.declared.refusal.Refusal.TheVariants.{HeadTooLarge, BadHead, BadLength, TransferCoding, BodyTooLarge, NoRoute, MethodNotAllowed, BadName, BadLockInfo, BadState, JournalStopped, Locked, LockLost, LineageDiffers, SerialTooLow, SerialReused, NoState, TableFull, JournalFull, OutOfMemory, JournalFault}
 
 -- A refusal as a plain value: `Locked` with the holder's information, where the program's has a pointer to it, and every
 -- other refusal as it is.
 pub data RefusalValue : Type 0 where
-  locked : LockText → RefusalValue
+  locked : LockInformation → RefusalValue
   plain : Refusal → RefusalValue
 
 abbrev pub refusal_value : Refusal → RefusalValue

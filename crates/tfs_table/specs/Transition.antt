@@ -4,7 +4,7 @@ use Rattle.std.specs.Prelude.{◌≡◌, ◌+◌, ◌⊎◌, ℕ, Bool, true, no
 use Rattle.std.specs.List.{list_any}
 use Rattle.std.specs.Option.{option_map_or, option_or}
 use Rattle.std.specs.Str.{bytes_eq}
-use Rattle.tfs_lock.specs.LockInfo.{LockText}
+use Rattle.tfs_lock.specs.LockInfo.{LockInformation}
 use Rattle.tfs_rules.specs.Act.{ActValue}
 use Rattle.tfs_rules.specs.History.{History, state_of, holder_of}
 use Rattle.tfs_rules.specs.Verdict.{verdict_of}
@@ -17,7 +17,6 @@ use Rattle.tfs_table.specs.Reply.{ReplyValue, done, state, refused}
 use Rattle.tfs_table.specs.declared.call.Call.{Call}
 use Rattle.tfs_table.specs.declared.call.Call.TheVariants.{Read, Change}
 use Rattle.tfs_table.specs.declared.refusal.Refusal.TheVariants.{JournalStopped, LockLost, LineageDiffers, SerialTooLow, SerialReused, NoState, TableFull, JournalFull, OutOfMemory, JournalFault}
-use Rattle.tfs_table.specs.declared.TheConstants.{MAX_NAMES, MAX_ENTRIES}
 
 -- What a table is to its callers.
 pub record TableModel : Type 0 where
@@ -26,7 +25,7 @@ pub record TableModel : Type 0 where
 
 -- The refusal that a verdict asks for, over the holder, which is told with `Locked`; none for `Accept`. (No act is `Locked`
 -- where there is no holder.)
-abbrev pub refusal_of : Option LockText → Verdict → Option RefusalValue
+abbrev pub refusal_of : Option LockInformation → Verdict → Option RefusalValue
 refusal_of holder verdict.Accept = None
 refusal_of holder verdict.Locked = Some (option_map_or locked holder (plain LockLost))
 refusal_of holder verdict.LockLost = Some (plain LockLost)
@@ -40,8 +39,8 @@ verdict_refusal h act = refusal_of (holder_of h) (verdict_of h act)
 
 -- The refusal by the table's limits: a new name where there are 1,024, or another entry where there are 65,536.
 abbrev pub limit_refusal : Journal → List ℕ → Option RefusalValue
-limit_refusal j name = if nat_le MAX_NAMES (length (names_of j)) && not (list_any (bytes_eq name) (names_of j)) then Some (plain TableFull)
-    else (if nat_le MAX_ENTRIES (length j.entries) then Some (plain JournalFull) else None)
+limit_refusal j name = if nat_le 1024 (length (names_of j)) && not (list_any (bytes_eq name) (names_of j)) then Some (plain TableFull)
+    else (if nat_le 65536 (length j.entries) then Some (plain JournalFull) else None)
 
 -- The refusal of an act, or none where it is accepted: a stopped table takes none; then the verdict, then the limits.
 abbrev pub act_refusal : TableModel → List ℕ → ActValue → Option RefusalValue

@@ -3,7 +3,6 @@
 ghost use Rattle.std.specs.Prelude.{◌≡◌, ◌≤◌, ◌⊎◌, length, true, false, Some, None, IfOk, IfErr};
 ghost use Rattle.std.specs.Arc.{arc_value};
 ghost use Rattle.tfs_state.specs.StateText.{document_of};
-ghost use Rattle.tfs_state.specs.declared.doc.TheConstants.{MAX_STATE_BYTES};
 ghost use Rattle.tfs_lock.specs.LockText.{lock_info_of};
 ghost use Rattle.tfs_rules.specs.Act.{act_value};
 ghost use Rattle.tfs_table.specs.Draft.{act_of, draft_refusal, id_given, is_too_long, HasFittingState};
@@ -97,7 +96,7 @@ fn read_unlock(alloc: Global, body: Bytes, text: Option<Text>) -> Result<Act, Re
 }
 
 fn read_push(alloc: Global, text: Option<Text>, body: Bytes) -> Result<Act, Refusal>
-    requires { length body ≤ MAX_STATE_BYTES }
+    requires { length body ≤ 16777216 }
     ensures ok { IfOk result (λ act. act_of (Push text body) ≡ Some (act_value act)) }
     ensures err { IfErr result (λ refusal. (refusal ≡ OutOfMemory)
         ⊎ ((refusal ≡ draft_refusal (Push text body)) × (act_of (Push text body) ≡ None))) }
@@ -146,7 +145,7 @@ fn read_info(alloc: Global, bytes: Vec<u8>) -> Result<LockInfo, Refusal>
 }
 
 fn read_doc(alloc: Global, bytes: Vec<u8>) -> Result<Arc<Doc>, Refusal>
-    requires { length bytes.items ≤ MAX_STATE_BYTES }
+    requires { length bytes.items ≤ 16777216 }
     ensures ok { IfOk result (λ doc. document_of bytes.items ≡ Some (arc_value doc)) }
     ensures err { IfErr result (λ refusal. (refusal ≡ OutOfMemory)
         ⊎ ((refusal ≡ BadState) × (document_of bytes.items ≡ None))) }

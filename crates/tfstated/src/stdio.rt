@@ -5,7 +5,7 @@ ghost use Rattle.tfstated.specs.Status.{status_of};
 
 use std::io;
 use std::process::ExitCode;
-use tfs_serve::first::FirstDesk;
+use tfs_serve::memory_desk::MemoryDesk;
 use tfs_serve::{Ended, Reads, ServeFault, converse};
 
 /// Answers standard input on standard output from a new table, whose journal is discarded. Gives the program's status.
@@ -13,7 +13,7 @@ pub(crate) fn run(rt: &(impl AllocGlobal + Input + Print + Eprint)) -> ExitCode 
     let alloc = rt.alloc();
     let mut reader = rt.reader();
     let mut writer = io::writer(rt);
-    let mut desk = FirstDesk::new(alloc);
+    let mut desk = MemoryDesk::new(alloc);
     let mut reads = Reads::new();
     match converse(alloc, &mut reader, &mut writer, &mut desk, &mut reads) {
         Ok(ended) => ExitCode::from(status_of(ended)),
