@@ -2,8 +2,7 @@
 use Rattle.std.specs.Prelude.{ℕ, ◌==◌, nat_lt, List, [], ◌∷◌, ◌++◌, length, find, codes, decimal, if◌then◌else◌}
 use Rattle.std.specs.Option.{option_map_or}
 use Rattle.tfs_table.specs.Reply.{ReplyValue, done, state, refused}
-use Rattle.tfs_table.specs.Refusal.{locked, plain, row_of}
-use Rattle.tfs_table.specs.declared.refusal.Refusal.TheVariants.{MethodNotAllowed}
+use Rattle.tfs_table.specs.Refusal.{RefusalValue, locked, method_not_allowed, row_of}
 use Rattle.tfs_table.specs.declared.refusal.Methods.{Methods}
 use Rattle.tfs_table.specs.declared.refusal.Methods.TheVariants.{State}
 use Rattle.tfs_http.specs.declared.form.Form.{Form}
@@ -49,7 +48,7 @@ methods_text State = codes "DELETE, GET, LOCK, POST, UNLOCK"
 
 -- The methods that the route takes (RFC 9110, section 10.2.1), where the request's is another.
 abbrev pub allow_line : ReplyValue → List ℕ
-allow_line (refused (plain (MethodNotAllowed methods))) = line (codes "Allow: " ++ methods_text methods)
+allow_line (refused (method_not_allowed methods)) = line (codes "Allow: " ++ methods_text methods)
 allow_line _ = []
 
 -- The conversation ends after the reply (RFC 9112, section 9.6).
@@ -64,12 +63,20 @@ type_line body = if nat_lt 0 (length body) then line (codes "Content-Type: appli
 abbrev pub length_line : List ℕ → List ℕ
 length_line body = line (codes "Content-Length: " ++ decimal (length body))
 
--- A state's bytes; the holder's information, byte for byte as it came, where a lock refuses; else the name of a refusal.
+-- JSON with the name of a refusal.
+abbrev pub name_body : RefusalValue → List ℕ
+name_body refusal = codes "{\"error\":\"" ++ (row_of refusal).name ++ codes "\"}"
+
+-- The body of a refusal: the holder's information, byte for byte as it came, where a lock refuses; else the refusal's name.
+abbrev pub refusal_body : RefusalValue → List ℕ
+refusal_body (locked info) = info.bytes
+refusal_body refusal = name_body refusal
+
+-- The body of a reply: of a state its bytes.
 abbrev pub body_of : ReplyValue → List ℕ
 body_of (done position) = []
 body_of (state d) = d.bytes
-body_of (refused (locked info)) = info.bytes
-body_of (refused (plain refusal)) = codes "{\"error\":\"" ++ (row_of (plain refusal)).name ++ codes "\"}"
+body_of (refused refusal) = refusal_body refusal
 
 -- The status line, the fields and the empty line, of a status, its line of methods, a form and a body.
 abbrev pub head_text : ℕ → List ℕ → Form → List ℕ → List ℕ

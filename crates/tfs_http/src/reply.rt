@@ -1,9 +1,9 @@
 //! The texts of replies (RFC 9112, section 4).
 
 ghost use Rattle.std.specs.Prelude.{◌≡◌, ◌++◌, [], string_bytes, OnOk, OnErr, IfOk, if◌then◌else◌};
-ghost use Rattle.tfs_table.specs.Refusal.{refusal_value, plain};
+ghost use Rattle.tfs_table.specs.Refusal.{refusal_value};
 ghost use Rattle.tfs_table.specs.Reply.{reply_value, refused};
-ghost use Rattle.tfs_http.specs.ReplyText.{phrase_of, allow_line, close_line, type_line, head_text, reply_text};
+ghost use Rattle.tfs_http.specs.ReplyText.{phrase_of, status_of, allow_line, close_line, type_line, head_text, name_body, reply_text};
 
 use crate::form::Form;
 use std::alloc::{AllocError, Global};
@@ -39,12 +39,10 @@ fn write_refusal(
     ensures ok { OnOk result (out.new.items ≡ out.old.items ++ reply_text (refused (refusal_value refusal.now)) form) }
     ensures err { OnErr result (out.new.items ≡ out.old.items) }
 {
-    match refusal {
-        Refusal::Locked(info) => {
-            write_parts(alloc, refusal.status(), "", form, info.bytes(), out)
-        }
-        _ => write_name(alloc, refusal, form, out),
+    if let Refusal::Locked(info) = refusal {
+        return write_parts(alloc, refusal.status(), "", form, info.bytes(), out);
     }
+    write_name(alloc, refusal, form, out)
 }
 
 /// Adds the text of a refusal whose body is JSON with its name.
@@ -54,7 +52,8 @@ fn write_name(
     form: Form,
     out: &mut Vec<u8>,
 ) -> Result<(), AllocError>
-    ensures ok { OnOk result (out.new.items ≡ out.old.items ++ reply_text (refused (plain refusal.now)) form) }
+    ensures ok { OnOk result (let body = name_body (refusal_value refusal.now) in let reply = refused (refusal_value refusal.now) in
+        out.new.items ≡ out.old.items ++ (head_text (status_of reply) (allow_line reply) form body ++ (if form.bare then [] else body))) }
     ensures err { OnErr result (out.new.items ≡ out.old.items) }
 {
     let name = refusal.name();
@@ -145,12 +144,12 @@ fn phrase(status: u16) -> &'static str
 
 /// The line that lists the methods of the refused request's route.
 fn allow_line(refusal: &Refusal) -> &'static str
-    ensures { result.now ≡ allow_line (refused (plain refusal.now)) }
+    ensures { result.now ≡ allow_line (refused (refusal_value refusal.now)) }
 {
-    match refusal {
-        Refusal::MethodNotAllowed(Methods::State) => "Allow: DELETE, GET, LOCK, POST, UNLOCK\r\n",
-        _ => "",
+    if let Refusal::MethodNotAllowed(Methods::State) = refusal {
+        return "Allow: DELETE, GET, LOCK, POST, UNLOCK\r\n";
     }
+    ""
 }
 
 /// The line that ends the conversation.

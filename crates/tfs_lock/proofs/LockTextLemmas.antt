@@ -1,27 +1,15 @@
 -- Laws of specs/LockText.antt.
 use Rattle.std.proofs.Common.{◌≡◌, ℕ, ◌≤◌, List, [], ◌∷◌, length, true, false, cond, is_none, nat_lt, Option, Some, None, refl, arith}
 use Rattle.std.specs.Option.{option_map_or}
-use Rattle.std.specs.Str.{IsUtf8, is_utf8}
 use Rattle.std.proofs.lemmas.Bool.{ltb-false}
-use Rattle.std.proofs.lemmas.Str.{IsUtf8-from_is_utf8, is_utf8-from_IsUtf8}
 use Rattle.serde_json.specs.Data.{Data}
-use Rattle.serde_json.specs.Read.{read}
+use Rattle.tfs_json.specs.Json.{json_value}
 use Rattle.serde_json.specs.Find.{as_object}
 use Rattle.tfs_lock.specs.Id.{IsIdText}
 use Rattle.tfs_lock.specs.LockInfo.{LockInformation}
-use Rattle.tfs_lock.specs.LockText.{json_value, id_of, GivesId, SpellsLockInfo, id_fault, first_value_fault, first_lock_fault}
+use Rattle.tfs_lock.specs.LockText.{id_of, GivesId, SpellsLockInfo, id_fault, first_value_fault, first_lock_fault}
 use Rattle.tfs_lock.specs.declared.fault.LockFault.{LockFault}
 use Rattle.tfs_lock.specs.declared.fault.LockFault.TheVariants.{NotJson, NotObject, TooLong}
-
--- Of bytes that are UTF-8, what is read counts.
-pub json_value_text : (bytes : List ℕ) → IsUtf8 bytes → json_value bytes ≡ read bytes
-json_value_text bytes utf8 = rw (is_utf8-from_IsUtf8 bytes utf8) refl
-
--- There is no value where UTF-8 would read as none.
-pub json_value_none : (bytes : List ℕ) → (IsUtf8 bytes → read bytes ≡ None) → json_value bytes ≡ None
-json_value_none bytes unread =
-    elim (is_utf8 bytes) as (λ b. is_utf8 bytes ≡ b → cond b (read bytes) None ≡ None)
-    [ true ↦ λ e. unread (IsUtf8-from_is_utf8 bytes e) | false ↦ λ e. refl ] refl
 
 -- Where neither a count above its limit nor the rest is a fault, the count is within its limit.
 within_limit : (limit count : ℕ) (rest : Option LockFault) → cond (nat_lt limit count) (Some TooLong) rest ≡ None

@@ -1,24 +1,18 @@
 -- The lock text: which bytes spell lock information, and the first fault of those that spell none. (Terraform, state
 -- locking and the http backend: the body of a lock request is a JSON object whose `ID` names the lock.)
 use Rattle.std.specs.Prelude.{◌≡◌, ℕ, ◌≤◌, List, [], ◌∷◌, length, codes, if◌then◌else◌, nat_lt, is_none, IsSome, Option, Some, None, option_and_then, option_map}
-use Rattle.std.specs.Str.{is_utf8}
 use Rattle.std.specs.Option.{option_map_or}
 use Rattle.serde_json.specs.Data.{Data}
-use Rattle.serde_json.specs.Read.{read}
-use Rattle.serde_json.specs.Find.{get, as_object, as_str}
+use Rattle.serde_json.specs.Find.{as_object}
+use Rattle.tfs_json.specs.Json.{json_value, text_at}
 use Rattle.tfs_lock.specs.Id.{IsIdText}
 use Rattle.tfs_lock.specs.LockInfo.{LockInformation}
 use Rattle.tfs_lock.specs.declared.fault.LockFault.{LockFault}
 use Rattle.tfs_lock.specs.declared.fault.LockFault.TheVariants.{NotJson, NotObject, NoId, TooLong}
 
--- The value that the bytes spell as JSON text, which is UTF-8 (RFC 8259, section 8.1). What JSON is, how deep it may
--- nest and which of two members of one name counts is `serde_json`'s answer.
-abbrev pub json_value : List ℕ → Option Data
-json_value bytes = if is_utf8 bytes then read bytes else None
-
 -- The text at the member `ID`, escapes decoded.
 abbrev pub id_of : Data → Option (List ℕ)
-id_of value = option_and_then as_str (get (codes "ID") value)
+id_of = text_at (codes "ID")
 
 -- The value is an object that gives the identifier.
 pub record GivesId (value : Data) (id : List ℕ) : Type 0 where

@@ -13,6 +13,8 @@ pub fn bytes_spell_lock_info_or_have_a_fault()
         → (info : LockInformation) × SpellsLockInfo bytes info }
     ensures once { (bytes : List ℕ) (a b : LockInformation) → SpellsLockInfo bytes a
         → SpellsLockInfo bytes b → a ≡ b }
+    ensures given { (bytes : List ℕ) (info : LockInformation) → lock_info_of bytes ≡ Some info
+        → SpellsLockInfo bytes info }
     ensures computed { (bytes : List ℕ) (info : LockInformation) → SpellsLockInfo bytes info
         → lock_info_of bytes ≡ Some info }
     ensures none_else { (bytes : List ℕ) (fault : LockFault) → first_lock_fault bytes ≡ Some fault

@@ -4,7 +4,6 @@
 
 mod fault;
 mod id;
-mod json;
 mod laws;
 mod lock_info;
 

@@ -1,16 +1,16 @@
 //! Lock information.
 
-ghost use Rattle.std.specs.Prelude.{◌≡◌, ◌≢◌, Some, IfOk, IfErr, length};
+ghost use Rattle.std.specs.Prelude.{◌≡◌, ◌≢◌, ◌<◌, Some, Err, IfOk, IfErr, length};
 ghost use Rattle.serde_json.specs.View.{view};
 ghost use Rattle.tfs_lock.specs.LockText.{GivesId, SpellsLockInfo, first_lock_fault, first_value_fault};
-ghost use Rattle.tfs_lock.specs.declared.fault.LockFault.TheVariants.{NoMemory};
+ghost use Rattle.tfs_lock.specs.declared.fault.LockFault.TheVariants.{NoMemory, TooLong};
 
 use crate::fault::LockFault;
 use crate::id::{Id, MAX_ID_BYTES};
-use crate::json;
 use serde_json::Value;
 use std::alloc::Global;
 use std::marker::Model;
+use tfs_json::{JsonFault, read_value, text_at};
 
 /// The most bytes that a lock text may have: 64 KiB.
 pub const MAX_LOCK_BYTES: usize = 65_536;
@@ -37,16 +37,21 @@ impl Model for LockInfo {
 
 impl LockInfo {
     /// Reads a lock text. A refusal is the first fault of the text: more than 65,536 bytes, then those in the order of
-    /// [`LockFault`]; but for `NoMemory`, which comes wherever a request for memory is refused.
+    /// [`LockFault`]; but for `NoMemory`, which comes wherever a request for memory is refused. None is made for a longer text.
     pub fn read(alloc: Global, bytes: Vec<u8>) -> Result<LockInfo, LockFault>
         ensures ok { IfOk result (SpellsLockInfo bytes.items) }
         ensures err { IfErr result (λ fault. fault ≢ NoMemory
             → first_lock_fault bytes.items ≡ Some fault) }
+        ensures long { 65536 < length bytes.items → result ≡ Err TooLong }
     {
         if bytes.len() > MAX_LOCK_BYTES {
             return Err(LockFault::TooLong);
         }
-        let value = json::read_json(alloc, bytes.as_slice())?;
+        let value = match read_value(alloc, bytes.as_slice()) {
+            Ok(value) => value,
+            Err(JsonFault::NotJson) => return Err(LockFault::NotJson),
+            Err(JsonFault::NoMemory) => return Err(LockFault::NoMemory),
+        };
         let id = read_id(alloc, &value)?;
         Ok(LockInfo { bytes, id })
     }
@@ -76,7 +81,7 @@ fn read_id(alloc: Global, value: &Value) -> Result<Id, LockFault>
     if !value.is_object() {
         return Err(LockFault::NotObject);
     }
-    let text = json::id(value).unwrap_or("");
+    let text = text_at(value, "ID").unwrap_or("");
     if text.is_empty() {
         return Err(LockFault::NoId);
     }

@@ -6,8 +6,7 @@ use Rattle.tfs_journal.specs.Journal.{Journal}
 use Rattle.tfs_table.specs.declared.call.Call.{Call}
 use Rattle.tfs_table.specs.declared.reply.Reply.{Reply}
 use Rattle.tfs_table.specs.declared.refusal.Refusal.{Refusal}
-use Rattle.tfs_table.specs.declared.refusal.Refusal.TheVariants.{OutOfMemory}
-use Rattle.tfs_table.specs.Refusal.{plain, refusal_value}
+use Rattle.tfs_table.specs.Refusal.{out_of_memory, refusal_value}
 use Rattle.tfs_table.specs.Reply.{ReplyValue, refused, reply_value}
 use Rattle.tfs_table.specs.Transition.{TableModel}
 use Rattle.tfs_http.specs.Request.{RequestValue}
@@ -28,14 +27,14 @@ use Rattle.tfs_serve.proofs.ConversationLemmas.{frame_is_no_empty_text, no_refus
 
 -- A desk in memory that had memory gives the model's answer.
 memory_step : (j k l : Journal) (call : Call) (given also : Reply) → AnswersCall j call given k → AnswersCall j call also l
-    → ¬ (reply_value given ≡ refused (plain OutOfMemory)) → ¬ (reply_value also ≡ refused (plain OutOfMemory)) → (reply_value given ≡ reply_value also) × (k ≡ l)
+    → ¬ (reply_value given ≡ refused out_of_memory) → ¬ (reply_value also ≡ refused out_of_memory) → (reply_value given ≡ reply_value also) × (k ≡ l)
 memory_step j k l call given also (inl a) (inl b) had has = (a.0 ∙ sym b.0, ap (λ (m : TableModel). m.journal) (a.1 ∙ sym b.1))
 memory_step j k l call given also (inr a) b had has = absurd (had a.0)
 memory_step j k l call given also (inl a) (inr b) had has = absurd (has b.0)
 
 module _ (routed : (r : RequestValue) (x y : Result Call Refusal) → RoutesTo r x → RoutesTo r y → x ≡ y) where
   answers_once : (j k l : Journal) (r : RequestValue) (reply also : ReplyValue) → AnswersRequest AnswersCall j r reply k → AnswersRequest AnswersCall j r also l
-      → ¬ (reply ≡ refused (plain OutOfMemory)) → ¬ (also ≡ refused (plain OutOfMemory)) → (reply ≡ also) × (k ≡ l)
+      → ¬ (reply ≡ refused out_of_memory) → ¬ (also ≡ refused out_of_memory) → (reply ≡ also) × (k ≡ l)
   answers_once j k l r reply also (inr (inl a)) b had has = absurd (had a.0)
   answers_once j k l r reply also a (inr (inl b)) had has = absurd (has b.0)
   answers_once j k l r reply also (inl a) (inl b) had has =

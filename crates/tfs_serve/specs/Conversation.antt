@@ -4,8 +4,7 @@ use Rattle.std.specs.Io.KnownBytes.{IsAtEnd}
 use Rattle.tfs_table.specs.declared.call.Call.{Call}
 use Rattle.tfs_table.specs.declared.reply.Reply.{Reply}
 use Rattle.tfs_table.specs.declared.refusal.Refusal.{Refusal}
-use Rattle.tfs_table.specs.declared.refusal.Refusal.TheVariants.{OutOfMemory}
-use Rattle.tfs_table.specs.Refusal.{plain, refusal_value}
+use Rattle.tfs_table.specs.Refusal.{out_of_memory, refusal_value}
 use Rattle.tfs_table.specs.Reply.{ReplyValue, refused, reply_value}
 use Rattle.tfs_http.specs.declared.form.Form.{Form}
 use Rattle.tfs_http.specs.Request.{RequestValue}
@@ -23,7 +22,7 @@ use Rattle.tfs_serve.specs.declared.fault.ServeFault.TheVariants.{Read, Write, T
 abbrev pub AnswersRequest : {S : Type 0} → (S → Call → Reply → S → Type 0) → S → RequestValue → ReplyValue → S → Type 0
 AnswersRequest step old r reply new =
     ((refusal : Refusal) × routing_refusal r refusal × (reply ≡ refused (refusal_value refusal)) × (new ≡ old))
-    ⊎ (((reply ≡ refused (plain OutOfMemory)) × (new ≡ old))
+    ⊎ (((reply ≡ refused out_of_memory) × (new ≡ old))
     ⊎ ((call : Call) × HasCall r call × (given : Reply) × step old call given new × (reply ≡ reply_value given)))
 
 -- A message's request, with its reply.

@@ -1,36 +1,28 @@
 -- The state text: which bytes spell a state document, and the first fault of those that spell none.
-use Rattle.std.specs.Prelude.{◌≡◌, ℕ, ◌≤◌, List, [], ◌∷◌, length, codes, if◌then◌else◌, not, is_none, nat_eq, Option, Some, None, option_and_then, option_map}
-use Rattle.std.specs.Str.{is_utf8}
+use Rattle.std.specs.Prelude.{◌≡◌, ℕ, ◌≤◌, List, [], ◌∷◌, length, codes, if◌then◌else◌, not, is_none, nat_eq, nat_le, Option, Some, None, option_and_then, option_map}
 use Rattle.std.specs.Option.{option_eq, option_map_or}
 use Rattle.serde_json.specs.Data.{Data}
-use Rattle.serde_json.specs.Read.{read}
-use Rattle.serde_json.specs.Find.{get, as_number, as_str, as_u64}
+use Rattle.tfs_json.specs.Json.{json_value, text_at, whole_number_at}
 use Rattle.tfs_state.specs.Document.{Document}
 use Rattle.tfs_state.specs.declared.fault.StateFault.{StateFault}
 use Rattle.tfs_state.specs.declared.fault.StateFault.TheVariants.{NotJson, Version, Serial, Lineage}
-
--- The value that the bytes spell as JSON text, which is UTF-8 (RFC 8259, section 8.1). What JSON is, how deep it may
--- nest and which of two members of one name counts is `serde_json`'s answer.
-abbrev pub json_value : List ℕ → Option Data
-json_value bytes = if is_utf8 bytes then read bytes else None
-
--- The unsigned 64-bit whole number at a member.
-abbrev pub whole_number_at : List ℕ → Data → Option ℕ
-whole_number_at name value = option_and_then as_u64 (option_and_then as_number (get name value))
 
 -- A text that isn't empty.
 abbrev pub filled_text : List ℕ → Option (List ℕ)
 filled_text [] = None
 filled_text (byte ∷ bytes) = Some (byte ∷ bytes)
 
+-- The version of the format.
 abbrev pub version_of : Data → Option ℕ
 version_of = whole_number_at (codes "version")
 
+-- How often the state was written.
 abbrev pub serial_of : Data → Option ℕ
 serial_of = whole_number_at (codes "serial")
 
+-- The name of the state's history, which isn't empty.
 abbrev pub lineage_of : Data → Option (List ℕ)
-lineage_of value = option_and_then filled_text (option_and_then as_str (get (codes "lineage") value))
+lineage_of value = option_and_then filled_text (text_at (codes "lineage") value)
 
 -- The value is that of a state with the document's serial and lineage.
 pub record Describes (value : Data) (d : Document) : Type 0 where
@@ -57,7 +49,7 @@ first_state_fault bytes = option_map_or first_member_fault (json_value bytes) (S
 
 -- The document of the bytes, where they spell one: `SpellsDocument` as a function.
 abbrev pub document_of : List ℕ → Option Document
-document_of bytes = option_and_then members_of (json_value bytes)
+document_of bytes = if nat_le (length bytes) 16777216 then option_and_then members_of (json_value bytes) else None
   where
     with_lineage : ℕ → Option (List ℕ) → Option Document
     with_lineage serial lineage = option_map (λ text. record { bytes = bytes; serial = serial; lineage = text }) lineage

@@ -5,9 +5,10 @@ ghost use Rattle.tfs_state.specs.StateText.{SpellsDocument, first_state_fault};
 ghost use Rattle.tfs_state.specs.declared.fault.StateFault.TheVariants.{NoMemory};
 
 use crate::fault::StateFault;
-use crate::json;
+use crate::members::{lineage_of, serial_of, version_of};
 use std::alloc::Global;
 use std::marker::Model;
+use tfs_json::{JsonFault, read_value};
 
 /// The most bytes that a state may have: 16 MiB.
 pub const MAX_STATE_BYTES: usize = 16_777_216;
@@ -42,14 +43,18 @@ impl Doc {
         ensures err { IfErr result (λ fault. fault ≢ NoMemory
             → first_state_fault bytes.items ≡ Some fault) }
     {
-        let value = json::read_json(alloc, bytes.as_slice())?;
-        if json::version(&value) != Some(4) {
+        let value = match read_value(alloc, bytes.as_slice()) {
+            Ok(value) => value,
+            Err(JsonFault::NotJson) => return Err(StateFault::NotJson),
+            Err(JsonFault::NoMemory) => return Err(StateFault::NoMemory),
+        };
+        if version_of(&value) != Some(4) {
             return Err(StateFault::Version);
         }
-        let Some(serial) = json::serial(&value) else {
+        let Some(serial) = serial_of(&value) else {
             return Err(StateFault::Serial);
         };
-        let Some(lineage) = json::lineage(&value) else {
+        let Some(lineage) = lineage_of(&value) else {
             return Err(StateFault::Lineage);
         };
         match String::from_str(alloc, lineage) {
@@ -84,9 +89,10 @@ impl Doc {
         self.lineage.as_str()
     }
 
-    /// How many resource instances the document lists: none, as long as resources aren't looked at.
+    /// How many resource instances the document lists. Resources aren't looked at yet: it is 0 whatever the text has, and no
+    /// fact of the document.
     pub fn len(&self) -> usize
-        ensures { result ≡ 0 }
+        ensures none { result ≡ 0 }
     {
         0
     }

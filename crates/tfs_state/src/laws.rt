@@ -13,6 +13,8 @@ pub fn bytes_spell_a_document_or_have_a_fault()
         → first_state_fault bytes ≡ None → (d : Document) × SpellsDocument bytes d }
     ensures once { (bytes : List ℕ) (d e : Document) → SpellsDocument bytes d
         → SpellsDocument bytes e → d ≡ e }
+    ensures given { (bytes : List ℕ) (d : Document) → document_of bytes ≡ Some d
+        → SpellsDocument bytes d }
     ensures computed { (bytes : List ℕ) (d : Document) → SpellsDocument bytes d
         → document_of bytes ≡ Some d }
     ensures none_else { (bytes : List ℕ) (fault : StateFault) → first_state_fault bytes ≡ Some fault

@@ -4,8 +4,8 @@
 
 mod doc;
 mod fault;
-mod json;
 mod laws;
+mod members;
 
 pub use doc::{Doc, MAX_STATE_BYTES};
 pub use fault::StateFault;

@@ -20,19 +20,19 @@ impl Model for Bytes {
 
 impl Bytes {
     pub fn new(bytes: Vec<u8>) -> Bytes
-        ensures { result ≡ bytes.items }
+        ensures value { result ≡ bytes.items }
     {
         Bytes { bytes }
     }
 
     pub fn as_slice(&self) -> &[u8]
-        ensures { result.now ≡ self.now }
+        ensures value { result.now ≡ self.now }
     {
         self.bytes.as_slice()
     }
 
     pub fn into_vec(self) -> Vec<u8>
-        ensures { result.items ≡ self }
+        ensures value { result.items ≡ self }
     {
         self.bytes
     }

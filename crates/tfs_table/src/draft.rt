@@ -1,13 +1,13 @@
 //! Drafts: raw changes whose texts were read.
 
-ghost use Rattle.std.specs.Prelude.{◌≡◌, ◌≤◌, ◌⊎◌, length, true, false, Some, None, IfOk, IfErr};
+ghost use Rattle.std.specs.Prelude.{◌≡◌, ◌≢◌, ◌≤◌, ◌<◌, ◌⊎◌, length, true, false, Some, None, IfOk, IfErr};
 ghost use Rattle.std.specs.Arc.{arc_value};
 ghost use Rattle.tfs_state.specs.StateText.{document_of};
 ghost use Rattle.tfs_lock.specs.LockText.{lock_info_of};
 ghost use Rattle.tfs_rules.specs.Act.{act_value};
-ghost use Rattle.tfs_table.specs.Draft.{act_of, draft_refusal, id_given, is_too_long, HasFittingState};
+ghost use Rattle.tfs_table.specs.Draft.{act_of, draft_refusal, lock_refusal, state_refusal, lock_text_refusal, state_text_refusal, id_given, is_too_long, HasFittingState, TakesNoMemory};
+ghost use Rattle.tfs_table.specs.Refusal.{refusal_value, bad_lock_info, out_of_memory};
 ghost use Rattle.tfs_table.specs.declared.call.Raw.TheVariants.{Lock, Unlock, Push, Delete};
-ghost use Rattle.tfs_table.specs.declared.refusal.Refusal.TheVariants.{BadLockInfo, BadState, OutOfMemory};
 
 use crate::bytes::Bytes;
 use crate::call::Raw;
@@ -36,12 +36,14 @@ impl Model for Draft {
 
 impl Draft {
     /// Reads the texts of a raw change. A refusal is `BadLockInfo` or `BadState`, the first that fits, but for
-    /// `OutOfMemory`, which comes wherever a request for memory is refused.
+    /// `OutOfMemory`, which comes wherever a request for memory is refused. A change that has no body, or is refused before
+    /// its body is looked at, requests none.
     pub fn read(alloc: Global, raw: Raw) -> Result<Draft, Refusal>
         requires { HasFittingState raw }
         ensures ok { IfOk result (λ draft. act_of raw ≡ Some draft) }
-        ensures err { IfErr result (λ refusal. (refusal ≡ OutOfMemory)
-            ⊎ ((refusal ≡ draft_refusal raw) × (act_of raw ≡ None))) }
+        ensures err { IfErr result (λ refusal. (refusal_value refusal ≡ out_of_memory)
+            ⊎ ((refusal_value refusal ≡ draft_refusal raw) × (act_of raw ≡ None))) }
+        ensures memory { TakesNoMemory raw → IfErr result (λ refusal. refusal_value refusal ≢ out_of_memory) }
     {
         let act = match raw {
             Raw::Lock(body) => read_lock(alloc, body)?,
@@ -54,23 +56,25 @@ impl Draft {
 
     /// The act, lent.
     pub fn act(&self) -> &Act
-        ensures { act_value result.now ≡ self.now }
+        ensures value { act_value result.now ≡ self.now }
     {
         &self.act
     }
 
     /// The act, given up.
     pub fn into_act(self) -> Act
-        ensures { act_value result ≡ self }
+        ensures value { act_value result ≡ self }
     {
         self.act
     }
 }
 
+/// A lock by the lock information of the body.
 fn read_lock(alloc: Global, body: Bytes) -> Result<Act, Refusal>
     ensures ok { IfOk result (λ act. act_of (Lock body) ≡ Some (act_value act)) }
-    ensures err { IfErr result (λ refusal. (refusal ≡ OutOfMemory)
-        ⊎ ((refusal ≡ draft_refusal (Lock body)) × (act_of (Lock body) ≡ None))) }
+    ensures err { IfErr result (λ refusal. (refusal_value refusal ≡ out_of_memory)
+        ⊎ ((refusal_value refusal ≡ draft_refusal (Lock body)) × (act_of (Lock body) ≡ None))) }
+    ensures memory { TakesNoMemory (Lock body) → IfErr result (λ refusal. refusal_value refusal ≢ out_of_memory) }
 {
     let info = read_info(alloc, body.into_vec())?;
     match Arc::new(alloc, info) {
@@ -82,8 +86,9 @@ fn read_lock(alloc: Global, body: Bytes) -> Result<Act, Refusal>
 /// An unlock by the lock information of the body or, where the body is empty, by the text.
 fn read_unlock(alloc: Global, body: Bytes, text: Option<Text>) -> Result<Act, Refusal>
     ensures ok { IfOk result (λ act. act_of (Unlock body text) ≡ Some (act_value act)) }
-    ensures err { IfErr result (λ refusal. (refusal ≡ OutOfMemory)
-        ⊎ ((refusal ≡ draft_refusal (Unlock body text)) × (act_of (Unlock body text) ≡ None))) }
+    ensures err { IfErr result (λ refusal. (refusal_value refusal ≡ out_of_memory)
+        ⊎ ((refusal_value refusal ≡ draft_refusal (Unlock body text)) × (act_of (Unlock body text) ≡ None))) }
+    ensures memory { TakesNoMemory (Unlock body text) → IfErr result (λ refusal. refusal_value refusal ≢ out_of_memory) }
 {
     if body.as_slice().is_empty() {
         return Ok(Act::Unlock(read_id(text)?));
@@ -95,20 +100,23 @@ fn read_unlock(alloc: Global, body: Bytes, text: Option<Text>) -> Result<Act, Re
     }
 }
 
+/// A push of the document of the body, with the identifier of the text.
 fn read_push(alloc: Global, text: Option<Text>, body: Bytes) -> Result<Act, Refusal>
     requires { length body ≤ 16777216 }
     ensures ok { IfOk result (λ act. act_of (Push text body) ≡ Some (act_value act)) }
-    ensures err { IfErr result (λ refusal. (refusal ≡ OutOfMemory)
-        ⊎ ((refusal ≡ draft_refusal (Push text body)) × (act_of (Push text body) ≡ None))) }
+    ensures err { IfErr result (λ refusal. (refusal_value refusal ≡ out_of_memory)
+        ⊎ ((refusal_value refusal ≡ draft_refusal (Push text body)) × (act_of (Push text body) ≡ None))) }
+    ensures memory { TakesNoMemory (Push text body) → IfErr result (λ refusal. refusal_value refusal ≢ out_of_memory) }
 {
     let id = read_id(text)?;
     let doc = read_doc(alloc, body.into_vec())?;
     Ok(Act::Push(id, doc))
 }
 
+/// A delete with the identifier of the text.
 fn read_delete(text: Option<Text>) -> Result<Act, Refusal>
     ensures ok { IfOk result (λ act. act_of (Delete text) ≡ Some (act_value act)) }
-    ensures err { IfErr result (λ refusal. (refusal ≡ draft_refusal (Delete text))
+    ensures err { IfErr result (λ refusal. (refusal_value refusal ≡ draft_refusal (Delete text))
         × (act_of (Delete text) ≡ None)) }
 {
     Ok(Act::Delete(read_id(text)?))
@@ -117,7 +125,7 @@ fn read_delete(text: Option<Text>) -> Result<Act, Refusal>
 /// The identifier that a text gives.
 fn read_id(text: Option<Text>) -> Result<Option<Id>, Refusal>
     ensures ok { IfOk result (λ id. (id ≡ id_given text) × (is_too_long text ≡ false)) }
-    ensures err { IfErr result (λ refusal. (refusal ≡ BadLockInfo) × (is_too_long text ≡ true)) }
+    ensures err { IfErr result (λ refusal. (refusal_value refusal ≡ bad_lock_info) × (is_too_long text ≡ true)) }
 {
     let Some(text) = text else {
         return Ok(None);
@@ -131,24 +139,38 @@ fn read_id(text: Option<Text>) -> Result<Option<Id>, Refusal>
     }
 }
 
+/// The lock information that the bytes spell.
 fn read_info(alloc: Global, bytes: Vec<u8>) -> Result<LockInfo, Refusal>
     ensures ok { IfOk result (λ info. lock_info_of bytes.items ≡ Some info) }
-    ensures err { IfErr result (λ refusal. (refusal ≡ OutOfMemory)
-        ⊎ ((refusal ≡ BadLockInfo) × (lock_info_of bytes.items ≡ None))) }
+    ensures err { IfErr result (λ refusal. (refusal_value refusal ≡ out_of_memory)
+        ⊎ ((refusal_value refusal ≡ lock_text_refusal bytes.items) × (lock_info_of bytes.items ≡ None))) }
+    ensures memory { 65536 < length bytes.items → IfErr result (λ refusal. refusal_value refusal ≢ out_of_memory) }
 {
     bytes_spell_lock_info_or_have_a_fault();
     match LockInfo::read(alloc, bytes) {
         Ok(info) => Ok(info),
-        Err(LockFault::NoMemory) => Err(Refusal::OutOfMemory),
-        Err(_) => Err(Refusal::BadLockInfo),
+        Err(fault) => Err(refusal_of_lock_text(fault)),
     }
 }
 
+/// The refusal that a fault of a lock text asks for.
+fn refusal_of_lock_text(fault: LockFault) -> Refusal
+    ensures { refusal_value result ≡ lock_refusal fault }
+{
+    match fault {
+        LockFault::NotJson | LockFault::NotObject | LockFault::NoId | LockFault::TooLong => {
+            Refusal::BadLockInfo
+        }
+        LockFault::NoMemory => Refusal::OutOfMemory,
+    }
+}
+
+/// The document that the bytes spell.
 fn read_doc(alloc: Global, bytes: Vec<u8>) -> Result<Arc<Doc>, Refusal>
     requires { length bytes.items ≤ 16777216 }
     ensures ok { IfOk result (λ doc. document_of bytes.items ≡ Some (arc_value doc)) }
-    ensures err { IfErr result (λ refusal. (refusal ≡ OutOfMemory)
-        ⊎ ((refusal ≡ BadState) × (document_of bytes.items ≡ None))) }
+    ensures err { IfErr result (λ refusal. (refusal_value refusal ≡ out_of_memory)
+        ⊎ ((refusal_value refusal ≡ state_text_refusal bytes.items) × (document_of bytes.items ≡ None))) }
 {
     bytes_spell_a_document_or_have_a_fault();
     match Doc::read(alloc, bytes) {
@@ -156,7 +178,17 @@ fn read_doc(alloc: Global, bytes: Vec<u8>) -> Result<Arc<Doc>, Refusal>
             Ok(doc) => Ok(doc),
             Err(_) => Err(Refusal::OutOfMemory),
         },
-        Err(StateFault::NoMemory) => Err(Refusal::OutOfMemory),
-        Err(_) => Err(Refusal::BadState),
+        Err(fault) => Err(refusal_of_state_text(fault)),
+    }
+}
+
+/// The refusal that a fault of a state text asks for.
+fn refusal_of_state_text(fault: StateFault) -> Refusal
+    ensures { refusal_value result ≡ state_refusal fault }
+{
+    match fault {
+        StateFault::NotJson | StateFault::Version | StateFault::Serial | StateFault::Lineage =>
+            Refusal::BadState,
+        StateFault::NoMemory => Refusal::OutOfMemory,
     }
 }

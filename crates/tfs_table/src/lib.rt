@@ -5,6 +5,7 @@
 mod bytes;
 mod call;
 mod draft;
+mod laws;
 mod refusal;
 mod reply;
 mod text;
@@ -12,6 +13,7 @@ mod text;
 pub use bytes::Bytes;
 pub use call::{Call, Raw};
 pub use draft::Draft;
+pub use laws::a_change_is_answered_as_its_act_is;
 pub use refusal::{Methods, Refusal};
 pub use reply::Reply;
 pub use text::Text;

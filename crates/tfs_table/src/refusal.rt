@@ -69,21 +69,21 @@ impl Refusal {
 
     /// The refusal's number in the list of all refusals.
     pub fn number(&self) -> u8
-        ensures { result ≡ (row_of (refusal_value self.now)).number }
+        ensures number { result ≡ (row_of (refusal_value self.now)).number }
     {
         self.row().0
     }
 
     /// The refusal's name, as replies tell it.
     pub fn name(&self) -> &'static str
-        ensures { result.now ≡ (row_of (refusal_value self.now)).name }
+        ensures name { result.now ≡ (row_of (refusal_value self.now)).name }
     {
         self.row().1
     }
 
     /// The status of a reply that tells the refusal (RFC 9110, section 15; RFC 6585, section 5; RFC 4918, section 11).
     pub fn status(&self) -> u16
-        ensures { result ≡ (row_of (refusal_value self.now)).status }
+        ensures status { result ≡ (row_of (refusal_value self.now)).status }
     {
         self.row().2
     }

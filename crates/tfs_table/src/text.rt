@@ -20,19 +20,19 @@ impl Model for Text {
 
 impl Text {
     pub fn new(text: String) -> Text
-        ensures { result ≡ string_bytes text }
+        ensures value { result ≡ string_bytes text }
     {
         Text { text }
     }
 
     pub fn as_str(&self) -> &str
-        ensures { result.now ≡ self.now }
+        ensures value { result.now ≡ self.now }
     {
         self.text.as_str()
     }
 
     pub fn into_string(self) -> String
-        ensures { string_bytes result ≡ self }
+        ensures value { string_bytes result ≡ self }
     {
         self.text
     }

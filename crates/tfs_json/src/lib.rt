@@ -1,0 +1,13 @@
+//! What the readers of lock information and of states share: the JSON value that bytes spell, and its members one by one.
+#![tactic(auto)]
+
+mod fault;
+mod members;
+mod reading;
+
+pub use fault::JsonFault;
+pub use members::{text_at, whole_number_at};
+pub use reading::read_value;
+
+#[cfg(test)]
+mod tests;
