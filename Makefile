@@ -1,13 +1,42 @@
-# Two commands: `make test` proves and tests everything, `make run` builds the program and runs its main job.
+# What a developer runs. `make` alone lists it.
 
+ifneq ($(filter-out help lint,$(MAKECMDGOALS)),)
 ifeq ($(shell command -v rt 2>/dev/null),)
 $(error the command rt of the Rattle kit is missing: put the kit's folder bin on the PATH)
 endif
+endif
 
-.PHONY: test run
+# Stops a target that needs a crate where CRATE names none.
+crate = $(if $(and $(CRATE),$(wildcard crates/$(CRATE)/src)),,$(error name a crate of crates/, as in: make $@ CRATE=tfs_rules))
+
+.PHONY: help run test check edits blackbox bench lint
+
+help:
+	@echo 'make run                       build the program out of proved crates and run its main job'
+	@echo 'make test                      prove and test everything from nothing; docs/GATE.md says how long it takes'
+	@echo 'make check CRATE=tfs_rules     prove one crate, over what earlier runs proved'
+	@echo 'make edits CRATE=tfs_rules     try the must-fail edits of one crate; one of them with EDIT=name'
+	@echo 'make blackbox                  check the built program from outside; one check with CHECK=locks'
+	@echo 'make bench                     run the benchmarks; one of them with BENCH=planes'
+	@echo 'make lint                      look for faults in Python and shell files, without running them'
+
+run:
+	@python3 tests/main_job.py
 
 test:
 	@python3 tests/gate.py
 
-run:
-	@python3 tests/main_job.py
+check:
+	$(call crate)@cd crates/$(CRATE) && rt check
+
+edits:
+	$(call crate)@$(if $(EDIT),python3 tests/try_edit.py $(CRATE) $(EDIT:.edit=),rt must-fail $(CRATE))
+
+blackbox:
+	@python3 tests/blackbox.py $(CHECK)
+
+bench:
+	@python3 tests/bench.py $(BENCH)
+
+lint:
+	@python3 tests/lint.py

@@ -5,6 +5,7 @@ stored run, whose outputs are written here by hand; the other one has locks, unl
 All requests are the program's own, by malloc and realloc; the loader and the C library make none. The first ones are
 for the arguments: refused, the arguments can't be had and count as other arguments."""
 import os
+import shutil
 import subprocess
 import sys
 import tempfile
@@ -142,5 +143,8 @@ def check_all_requests_from_each_one_on_of_a_conversation_with_locks_are_refused
 
 
 if __name__ == "__main__":
+    if shutil.which("gcc") is None:
+        print("FAILED: gcc is missing, which builds tests/refuse_memory.c\n0 passed, 1 failed")
+        sys.exit(1)
     build_shim()
     sys.exit(run_checks(checks_in(globals())))

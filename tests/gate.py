@@ -1,42 +1,143 @@
-"""Runs everything that is tested: the proof gate, then each black-box check of the built program.
+"""Runs everything that is tested: the lint, then the proof gate `rt ci`, then each black-box check of the built program.
 
-The last line of the output is `N passed, M failed`, over both. The exit status is 1 where anything failed.
-"""
+What it shows has the time since the start before each line, and leaves out the lines that only say that all is well with
+one function; out/gate.log has all of them, and out/gate-times.json what each part took. The last line is
+`N passed, M failed`, over all. The exit status is 1 where anything failed."""
+import datetime
+import json
+import os
 import re
+import resource
 import subprocess
 import sys
-from pathlib import Path
+import threading
+import time
 
-TOP = Path(__file__).resolve().parent.parent
+from gate_times import Watch
+from repository import TOP
+
+OUT = TOP / "out"
+TIMES = OUT / "gate-times.json"
+PROOFS = ["rt", "ci"]
 COUNT = re.compile(r"^(\d+) passed, (\d+) failed$")
+QUIET = re.compile(
+    r"(.*: proved(, may \w+)*|(statements|library|crate) \w+: modules loaded=.*|empty contracts: 0 found;.*"
+    r"|(logic|axioms|linked|by-macro:|==) .*|checked \S+, \d+ of \d+|so far: .*|test \S+ \.\.\. ok|tests: \d+|)"
+)
 
 
-def run(command):
-    """Runs a command, passes its output on, and gives what its last line counts: (passed, failed)."""
-    print("$ " + " ".join(command), flush=True)
-    counted = None
-    with subprocess.Popen(command, cwd=TOP, stdout=subprocess.PIPE, stderr=subprocess.STDOUT, text=True) as process:
-        for line in process.stdout:
-            print(line, end="", flush=True)
-            if line.strip():
-                counted = COUNT.match(line.strip())
-    if counted is None:
+class Screen:
+    """Shows lines with the time since the start, and keeps them in a file where it has one."""
+
+    def __init__(self, log=None):
+        self.began = time.monotonic()
+        self.log = log
+        self.lock = threading.Lock()
+
+    def elapsed(self):
+        return time.monotonic() - self.began
+
+    def show(self, line):
+        minutes, seconds = divmod(int(self.elapsed()), 60)
+        line = f"[{minutes:2}:{seconds:02}] {line}"
+        with self.lock:
+            print(line, flush=True)
+            self.keep(line)
+
+    def hear(self, line):
+        """Takes a line of a command: shows it, or only keeps it where it says that all is well with one function."""
+        if QUIET.fullmatch(line):
+            self.keep(line)
+        else:
+            self.show(line)
+
+    def keep(self, line):
+        if self.log:
+            print(line, file=self.log, flush=True)
+
+
+def processor_time():
+    """The seconds of processor time of all commands that have ended."""
+    used = resource.getrusage(resource.RUSAGE_CHILDREN)
+    return used.ru_utime + used.ru_stime
+
+
+def counted(process, hear):
+    """Hears each line of a command; what its last line counts, (passed, failed), where anything unusual counts as failed."""
+    last = None
+    for line in process.stdout:
+        hear(line.rstrip("\n"))
+        if line.strip():
+            last = COUNT.match(line.strip())
+    process.wait()
+    if last is None:
+        hear("FAILED: the last line has no count")
         return 0, 1
-    passed, failed = int(counted.group(1)), int(counted.group(2))
-    if process.returncode != 0 and failed == 0:
-        failed = 1
-    return passed, failed
+    passed, failed = int(last.group(1)), int(last.group(2))
+    return passed, max(failed, 1) if process.returncode else failed
+
+
+def run(command, screen, watch=None):
+    """Runs a command under the eyes of a watch: what it counts, (passed, failed), and its times."""
+    screen.show("$ " + " ".join(command))
+    began, before = time.monotonic(), processor_time()
+    how = {"cwd": TOP, "stdout": subprocess.PIPE, "stderr": subprocess.STDOUT, "encoding": "utf-8", "errors": "replace"}
+    try:
+        with subprocess.Popen(command, **how) as process:
+            if watch:
+                watch.begin(process.pid)
+            count = counted(process, watch.hear if watch else screen.hear)
+            if watch:
+                watch.end()
+    except OSError as error:
+        screen.show(f"FAILED: {command[0]} can't be run: {error.strerror}")
+        count = 0, 1
+    return count, {"wall": round(time.monotonic() - began, 1), "processor": round(processor_time() - before, 1)}
+
+
+def script(path):
+    """The words that run a script of tests/."""
+    return [sys.executable, str(path.relative_to(TOP))]
+
+
+def checks():
+    """The scripts of the black-box checks."""
+    return sorted((TOP / "tests").glob("check_*.py"))
+
+
+def kit():
+    """The line of the toolchain."""
+    try:
+        return subprocess.run(["rt", "version"], stdout=subprocess.PIPE, text=True, check=False).stdout.strip()
+    except OSError:
+        return "none"
+
+
+def write_times(screen, watch, steps, passed, failed):
+    told = {
+        "date": datetime.date.today().isoformat(), "cores": len(os.sched_getaffinity(0)), "kit": kit(),
+        "passed": passed, "failed": failed, "wall": round(screen.elapsed(), 1), "processor": round(processor_time(), 1),
+        "memory": watch.memory, "crates": watch.times(), "steps": steps,
+    }
+    TIMES.write_text(json.dumps(told, indent=1) + "\n")
+    screen.show(f"{told['processor'] / 60:.1f} minutes of processor time; times: {TIMES.relative_to(TOP)}; all lines: out/gate.log")
 
 
 def main():
-    commands = [["rt", "ci"]]
-    commands += [[sys.executable, str(path)] for path in sorted((TOP / "tests").glob("check_*.py"))]
-    passed = failed = 0
-    for command in commands:
-        more_passed, more_failed = run(command)
-        passed += more_passed
-        failed += more_failed
-    print(f"{passed} passed, {failed} failed", flush=True)
+    OUT.mkdir(exist_ok=True)
+    with open(OUT / "gate.log", "w", encoding="utf-8") as log:
+        screen = Screen(log)
+        watch = Watch(screen)
+        passed = failed = 0
+        steps = {}
+        for command in [script(TOP / "tests" / "lint.py"), PROOFS, *map(script, checks())]:
+            (more_passed, more_failed), times = run(command, screen, watch if command == PROOFS else None)
+            passed, failed = passed + more_passed, failed + more_failed
+            steps[" ".join(command[1:] if command != PROOFS else command)] = times
+        write_times(screen, watch, steps, passed, failed)
+        line = f"{passed} passed, {failed} failed"
+        screen.keep(line)
+        print(line, flush=True)
     return 1 if failed else 0
 
 

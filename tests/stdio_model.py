@@ -1,7 +1,8 @@
 """A plain model of a conversation over a new table: what `tfstated stdio` writes for a list of bytes, and its status.
 
 It is written from docs/DEFINITIONS.md and docs/FORMATS.md, as far as these are built: GET, POST, DELETE, LOCK and UNLOCK
-of a state; `Host`, the version, `Connection` and `Content-MD5` aren't looked at, nor the resources of a state. It always looks at all of the bytes and never at how they were cut. Want of memory isn't in it.
+of a state; `Host`, the version, `Connection` and `Content-MD5` aren't looked at, nor the resources of a state. It always
+looks at all of the bytes and never at how they were cut. It never runs out of memory.
 """
 import json
 import re
