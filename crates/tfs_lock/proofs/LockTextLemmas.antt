@@ -28,7 +28,8 @@ id_without_fault (Some (x ∷ xs)) e =
 -- A value without a fault gives an identifier.
 given_without_fault : (value : Data) → first_value_fault value ≡ None → (id : List ℕ) × GivesId value id
 given_without_fault value e =
-    elim (as_object value) as (λ o. as_object value ≡ o → cond (is_none o) (Some NotObject) (id_fault (id_of value)) ≡ None → (id : List ℕ) × GivesId value id) [
+    elim (as_object value) as (λ o. as_object value ≡ o → cond (is_none o) (Some NotObject) (id_fault (id_of value)) ≡ None
+    → (id : List ℕ) × GivesId value id) [
       | None ↦ λ _ f. cc
       | Some _ ↦ λ object f. let found = id_without_fault (id_of value) f in
           (found.0, record { object = rw object refl; given = found.1; valid = found.2 })
@@ -38,7 +39,8 @@ given_without_fault value e =
 pub spelled_without_fault : (bytes : List ℕ) → first_lock_fault bytes ≡ None → (info : LockInformation) × SpellsLockInfo bytes info
 spelled_without_fault bytes e =
     let within = within_limit 65536 (length bytes) (option_map_or first_value_fault (json_value bytes) (Some NotJson)) e in
-    elim (json_value bytes) as (λ o. json_value bytes ≡ o → option_map_or first_value_fault o (Some NotJson) ≡ None → (info : LockInformation) × SpellsLockInfo bytes info) [
+    elim (json_value bytes) as (λ o. json_value bytes ≡ o → option_map_or first_value_fault o (Some NotJson) ≡ None
+    → (info : LockInformation) × SpellsLockInfo bytes info) [
       | None ↦ λ _ f. cc
       | Some value ↦ λ json f. let found = given_without_fault value f in
           (record { bytes = bytes; id = found.0 }, record { size = within.0; kept = refl; given = (value, json, found.1) })

@@ -48,7 +48,7 @@ fn lock_information_is_read_and_kept(rt: HostRuntime) -> Result<(), Fail> {
     expect(&rt, b"{\"ID\":\"A\"}", Ok("A"))?;
     expect(
         &rt,
-        b"{\"ID\":\"6bf5b4a8-7d0c-11ef\",\"Operation\":\"OperationTypeApply\",\"Info\":\"\",\"Who\":\"ann@host\",\"Version\":\"1.9.0\",\"Created\":\"2024-05-01T10:00:00.5Z\",\"Path\":\"\"}",
+        b"{\"ID\":\"6bf5b4a8-7d0c-11ef\",\"Operation\":\"OperationTypeApply\",\"Info\":\"\",\"Who\":\"ann@host\",\"Version\":\"1.9.0\",\"Path\":\"\"}",
         Ok("6bf5b4a8-7d0c-11ef"),
     )
 }

@@ -12,7 +12,8 @@ pub state_text_refused : (bytes : List ℕ) (fault : StateFault) (given : Refusa
     → (fault ≢ NoMemory → first_state_fault bytes ≡ Some fault)
     → ((first : StateFault) → first_state_fault bytes ≡ Some first → document_of bytes ≡ None)
     → (given ≡ out_of_memory) ⊎ ((given ≡ state_text_refusal bytes) × (document_of bytes ≡ None))
-state_text_refused bytes fault given is told none = elim fault as (λ f. fault ≡ f → (given ≡ out_of_memory) ⊎ ((given ≡ state_text_refusal bytes) × (document_of bytes ≡ None))) [
+state_text_refused bytes fault given is told none =
+    elim fault as (λ f. fault ≡ f → (given ≡ out_of_memory) ⊎ ((given ≡ state_text_refusal bytes) × (document_of bytes ≡ None))) [
   | NotJson ↦ λ e. inr (first (λ m. cc) e)
   | Version ↦ λ e. inr (first (λ m. cc) e)
   | Serial ↦ λ e. inr (first (λ m. cc) e)

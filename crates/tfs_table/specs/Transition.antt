@@ -68,7 +68,8 @@ LacksMemory m reply m' = (reply ≡ refused out_of_memory) × (m' ≡ m)
 
 -- The sink failed in place of an acceptance: the journal stays, and the table is stopped.
 abbrev pub FaultsAct : TableModel → List ℕ → ActValue → ReplyValue → TableModel → Type 0
-FaultsAct m name act reply m' = (act_refusal m name act ≡ None) × (reply ≡ refused journal_fault) × (m' ≡ record { journal = m.journal; stopped = true })
+FaultsAct m name act reply m' = (act_refusal m name act ≡ None) × (reply ≡ refused journal_fault)
+    × (m' ≡ record { journal = m.journal; stopped = true })
 
 -- The transition by an act that was read, of a table whose journal goes to a sink.
 abbrev pub AnswersAct : TableModel → List ℕ → ActValue → ReplyValue → TableModel → Type 0
