@@ -13,6 +13,9 @@ use tfs_json::{JsonFault, read_value};
 /// The most bytes that a state may have: 16 MiB.
 pub const MAX_STATE_BYTES: usize = 16_777_216;
 
+// The definitions have this limit as a number.
+const _: () = prove!(MAX_STATE_BYTES == 16_777_216);
+
 /// A state of Terraform's state format, version 4, with its text as it came.
 #[derive(Drop)]
 pub struct Doc {

@@ -14,12 +14,12 @@ pub state_text_refused : (bytes : List ℕ) (fault : StateFault) (given : Refusa
     → (given ≡ out_of_memory) ⊎ ((given ≡ state_text_refusal bytes) × (document_of bytes ≡ None))
 state_text_refused bytes fault given is told none =
     elim fault as (λ f. fault ≡ f → (given ≡ out_of_memory) ⊎ ((given ≡ state_text_refusal bytes) × (document_of bytes ≡ None))) [
-  | NotJson ↦ λ e. inr (first (λ m. cc) e)
-  | Version ↦ λ e. inr (first (λ m. cc) e)
-  | Serial ↦ λ e. inr (first (λ m. cc) e)
-  | Lineage ↦ λ e. inr (first (λ m. cc) e)
-  | NoMemory ↦ λ e. inl (is ∙ ap state_refusal e)
-] refl
+      | NotJson ↦ λ e. inr (first (λ m. cc) e)
+      | Version ↦ λ e. inr (first (λ m. cc) e)
+      | Serial ↦ λ e. inr (first (λ m. cc) e)
+      | Lineage ↦ λ e. inr (first (λ m. cc) e)
+      | NoMemory ↦ λ e. inl (is ∙ ap state_refusal e)
+    ] refl
   where
     first : {f : StateFault} → (fault ≢ NoMemory) → fault ≡ f → (given ≡ state_text_refusal bytes) × (document_of bytes ≡ None)
     first other e = (is ∙ sym (ap (λ (o : Option StateFault). option_map_or state_refusal o bad_state) (told other)), none fault (told other))

@@ -24,5 +24,8 @@ pub const MAX_NAMES: usize = 1_024;
 /// The most entries that a table's journal may have.
 pub const MAX_ENTRIES: usize = 65_536;
 
+// The definitions have these limits as numbers.
+const _: () = prove!(MAX_NAMES == 1_024 && MAX_ENTRIES == 65_536);
+
 #[cfg(test)]
 mod tests;
