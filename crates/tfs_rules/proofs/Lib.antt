@@ -1,3 +1,4 @@
 pub mod HistoryLemmas
+pub mod AcceptedLemmas
 pub mod VerdictLemmas
 pub mod HistoryLawLemmas

@@ -1,6 +1,6 @@
 -- What the verdict Accept says of an act and of what the workspace has.
-use Rattle.std.proofs.Common.{◌≡◌, ◌⊎◌, ℕ, List, Bool, true, false, cond, not, ◌&&◌, ◌==◌, nat_lt, Option, Some, None, IsSome, refl, sym, ◌∙◌, ap, inl, inr}
-use Rattle.std.proofs.lemmas.Bool.{ltb-false, eq-eqb, not-false}
+use Rattle.std.proofs.Common.{◌≡◌, ◌⊎◌, ℕ, List, Bool, true, false, cond, not, ◌&&◌, ◌==◌, nat_lt, Option, Some, None, IsSome, refl, sym, ap, inl, inr}
+use Rattle.std.proofs.lemmas.Bool.{ltb-false, le-ltb, eq-eqb, eqb-true, not-false}
 use Rattle.std.proofs.lemmas.Slice.Eq.{bytes_eq-Decides}
 use Rattle.std.specs.Str.{bytes_eq}
 use Rattle.tfs_state.specs.Document.{Document}
@@ -20,25 +20,16 @@ same_bytes a b otherwise e =
       | false ↦ λ _ accept. cc
     ] refl e
 
-abbrev lock_text : List ℕ → List ℕ → LockInformation
-lock_text bytes id = record { bytes = bytes; id = id }
+-- A lock that is accepted over a holder has the holder's bytes.
+pub lock_held : (held info : LockInformation) → lock_verdict (Some held) info ≡ Accept → held.bytes ≡ info.bytes
+lock_held held info e = (same_bytes held.bytes info.bytes Accept e).0
 
--- A lock that is accepted over a holder is the holder's own.
-pub lock_held : (held info : LockInformation) → lock_verdict (Some held) info ≡ Accept → held ≡ info
-lock_held held info e =
-    elim (bytes_eq held.bytes info.bytes) as (λ t. bytes_eq held.bytes info.bytes ≡ t → cond (t && bytes_eq held.id info.id) Accept Locked ≡ Accept → held ≡ info) [
-      | true ↦ λ same accept.
-          let bytes : held.bytes ≡ info.bytes = (bytes_eq-Decides held.bytes info.bytes).0 same in
-          let id : held.id ≡ info.id = (same_bytes held.id info.id Accept accept).0 in
-          ap (λ b. lock_text b held.id) bytes ∙ ap (λ i. lock_text info.bytes i) id
-      | false ↦ λ _ accept. cc
-    ] refl e
-
+-- An unlock that is accepted over a holder carries its identifier or none.
 pub unlock_held : (held : LockInformation) (id : Option (List ℕ)) → unlock_verdict (Some held) id ≡ Accept → (id ≡ Some held.id) ⊎ (id ≡ None)
 unlock_held held None e = inr refl
 unlock_held held (Some id) e = inl (ap (λ x. Some x) (sym (same_bytes held.id id Accept e).0))
 
--- A write that is accepted over a holder bears its identifier.
+-- A write that is accepted over a holder carries its identifier.
 pub write_held : (held : LockInformation) (id : Option (List ℕ)) (otherwise : Verdict) → write_verdict (Some held) id otherwise ≡ Accept → id ≡ Some held.id
 write_held held None otherwise e = cc
 write_held held (Some id) otherwise e = ap (λ x. Some x) (sym (same_bytes held.id id otherwise e).0)
@@ -50,7 +41,8 @@ write_named None id otherwise e = cc
 write_named (Some held) id otherwise e = (held, refl, (same_bytes held.id id otherwise e).0)
 
 -- A write that is accepted is accepted by the lock aside, too.
-pub write_goes_on : (holder : Option LockInformation) (id : Option (List ℕ)) (otherwise : Verdict) → write_verdict holder id otherwise ≡ Accept → otherwise ≡ Accept
+pub write_goes_on : (holder : Option LockInformation) (id : Option (List ℕ)) (otherwise : Verdict)
+    → write_verdict holder id otherwise ≡ Accept → otherwise ≡ Accept
 write_goes_on None None otherwise e = e
 write_goes_on None (Some id) otherwise e = cc
 write_goes_on (Some held) None otherwise e = cc
@@ -74,11 +66,61 @@ push_in_order stored pushed e =
       one_content = λ same. (bytes_eq-Decides stored.bytes pushed.bytes).0 (not-false _ (rw (eq-eqb pushed.serial stored.serial (sym same)) at content.0));
     }
 
+-- Equal bytes pass the test for other bytes.
+bytes_pass : (a b : List ℕ) → a ≡ b → bytes_eq a b ≡ true
+bytes_pass a b = (bytes_eq-Decides a b).1
+
+-- A lock with the bytes of the holder, where there is one, is accepted.
+pub lock_accepted : (holder : Option LockInformation) (info : LockInformation)
+    → ((held : LockInformation) → holder ≡ Some held → held.bytes ≡ info.bytes) → lock_verdict holder info ≡ Accept
+lock_accepted None info own = refl
+lock_accepted (Some held) info own = rw (bytes_pass held.bytes info.bytes (own held refl)) refl
+
+-- An unlock that carries the identifier of the holder, where there is one, or none, is accepted.
+pub unlock_accepted : (holder : Option LockInformation) (id : Option (List ℕ))
+    → ((held : LockInformation) → holder ≡ Some held → (id ≡ Some held.id) ⊎ (id ≡ None)) → unlock_verdict holder id ≡ Accept
+unlock_accepted holder None carries = refl
+unlock_accepted None (Some id) carries = refl
+unlock_accepted (Some held) (Some id) carries =
+    elim (carries held refl) [
+      | inl same ↦ let is : held.id ≡ id = cc in rw (bytes_pass held.id id is) refl
+      | inr none ↦ cc
+    ]
+
+-- A write goes on where it carries the identifier of the holder, if there is one, and else none.
+pub write_accepted : (holder : Option LockInformation) (id : Option (List ℕ)) (otherwise : Verdict)
+    → ((held : LockInformation) → holder ≡ Some held → id ≡ Some held.id) → ((named : List ℕ) → id ≡ Some named → IsSome holder)
+    → write_verdict holder id otherwise ≡ otherwise
+write_accepted None None otherwise carries names = refl
+write_accepted None (Some id) otherwise carries names = let held = names id refl in cc
+write_accepted (Some held) None otherwise carries names = let same = carries held refl in cc
+write_accepted (Some held) (Some id) otherwise carries names =
+    let same = carries held refl in let is : held.id ≡ id = cc in rw (bytes_pass held.id id is) refl
+
+-- The third test of a push lets one content under one serial pass.
+content_pass : (stored pushed : Document) → IsPushOrder stored pushed → (pushed.serial == stored.serial && not (bytes_eq stored.bytes pushed.bytes)) ≡ false
+content_pass stored pushed order =
+    elim (pushed.serial == stored.serial) as (λ t. (pushed.serial == stored.serial) ≡ t → (t && not (bytes_eq stored.bytes pushed.bytes)) ≡ false) [
+      | true ↦ λ same. rw (bytes_pass stored.bytes pushed.bytes (order.one_content (sym (eqb-true pushed.serial stored.serial same)))) refl
+      | false ↦ λ _. refl
+    ] refl
+
+-- A push that follows the stored state in push order, where there is one, is accepted.
+pub push_accepted : (stored : Option Document) (pushed : Document)
+    → ((d : Document) → stored ≡ Some d → IsPushOrder d pushed) → push_verdict stored pushed ≡ Accept
+push_accepted None pushed follows = refl
+push_accepted (Some stored) pushed follows =
+    let order = follows stored refl in
+    let lineage = bytes_pass stored.lineage pushed.lineage order.one_lineage in
+    let serial = le-ltb pushed.serial stored.serial order.no_falling_serial in
+    rw (lineage, serial, content_pass stored pushed order) refl
+
 -- Of two verdicts that aren't Locked, none that a test chooses is.
 neither_locked : (test : Bool) (refusal otherwise : Verdict) → ¬ (refusal ≡ Locked) → ¬ (otherwise ≡ Locked) → ¬ (cond test refusal otherwise ≡ Locked)
 neither_locked true refusal otherwise p q e = p e
 neither_locked false refusal otherwise p q e = q e
 
+-- A push that the lock lets pass isn't Locked.
 push_not_locked : (stored : Option Document) (pushed : Document) → ¬ (push_verdict stored pushed ≡ Locked)
 push_not_locked None pushed e = cc
 push_not_locked (Some stored) pushed e =
@@ -86,7 +128,9 @@ push_not_locked (Some stored) pushed e =
     (neither_locked (nat_lt pushed.serial stored.serial) SerialTooLow _ (λ r. cc)
     (neither_locked (pushed.serial == stored.serial && not (bytes_eq stored.bytes pushed.bytes)) SerialReused Accept (λ r. cc) (λ r. cc))) e
 
-write_locked : (holder : Option LockInformation) (id : Option (List ℕ)) (otherwise : Verdict) → ¬ (otherwise ≡ Locked) → write_verdict holder id otherwise ≡ Locked → IsSome holder
+-- A write is Locked only where there is a holder.
+write_locked : (holder : Option LockInformation) (id : Option (List ℕ)) (otherwise : Verdict) → ¬ (otherwise ≡ Locked)
+    → write_verdict holder id otherwise ≡ Locked → IsSome holder
 write_locked None None otherwise p e = absurd (p e)
 write_locked None (Some id) otherwise p e = cc
 write_locked (Some held) id otherwise p e = refl

@@ -1,53 +1,60 @@
 -- An act as histories list it: plain values, where the program's acts have pointers to them.
-use Rattle.std.specs.Prelude.{◌≡◌, ℕ, List, Option}
+use Rattle.std.specs.Prelude.{◌≡◌, ℕ, List, Option, IfSome}
 use Rattle.std.specs.Arc.{arc_value}
 use Rattle.tfs_state.specs.Document.{Document}
+use Rattle.tfs_state.specs.StateText.{SpellsDocument}
+use Rattle.tfs_lock.specs.Id.{IsIdText}
 use Rattle.tfs_lock.specs.LockInfo.{LockInformation}
+use Rattle.tfs_lock.specs.LockText.{SpellsLockInfo}
 use Rattle.tfs_rules.specs.declared.act.Act.{Act}
 use Rattle.tfs_rules.specs.declared.act.Act.TheVariants.{Lock, Unlock, Push, Delete}
 
 -- A lock makes its information the holder, an unlock leaves no holder, a push makes its document the state, and a delete
--- leaves no state. All but a lock bear the identifier of a lock, or none.
+-- leaves no state. All but a lock carry the identifier of a lock, or none.
 pub data ActValue : Type 0 where
   lock : LockInformation → ActValue
   unlock : Option (List ℕ) → ActValue
   push : Option (List ℕ) → Document → ActValue
   delete : Option (List ℕ) → ActValue
 
+-- The values of an act.
 abbrev pub act_value : Act → ActValue
 act_value (Lock info) = lock (arc_value info)
 act_value (Unlock id) = unlock id
 act_value (Push id d) = push id (arc_value d)
 act_value (Delete id) = delete id
 
--- The act is a push.
-abbrev pub IsPush : ActValue → Type 0
-IsPush (lock info) = ⊥
-IsPush (unlock id) = ⊥
-IsPush (push id d) = Unit {0}
-IsPush (delete id) = ⊥
+-- What the act holds was read: its lock information and its document are what their bytes spell, its identifier is one.
+abbrev pub IsRead : ActValue → Type 0
+IsRead (lock info) = SpellsLockInfo info.bytes info
+IsRead (unlock id) = IfSome id IsIdText
+IsRead (push id d) = IfSome id IsIdText × SpellsDocument d.bytes d
+IsRead (delete id) = IfSome id IsIdText
 
+-- The act is a delete.
 abbrev pub IsDelete : ActValue → Type 0
-IsDelete (lock info) = ⊥
-IsDelete (unlock id) = ⊥
-IsDelete (push id d) = ⊥
 IsDelete (delete id) = Unit {0}
+IsDelete _ = ⊥
 
-abbrev pub IsLock : ActValue → Type 0
-IsLock (lock info) = Unit {0}
-IsLock (unlock id) = ⊥
-IsLock (push id d) = ⊥
-IsLock (delete id) = ⊥
-
+-- The act is an unlock.
 abbrev pub IsUnlock : ActValue → Type 0
-IsUnlock (lock info) = ⊥
 IsUnlock (unlock id) = Unit {0}
-IsUnlock (push id d) = ⊥
-IsUnlock (delete id) = ⊥
+IsUnlock _ = ⊥
 
--- The act is a write, a push or a delete, and bears this identifier or none.
+-- The act is of the lock.
+abbrev pub IsLockOrUnlock : ActValue → Type 0
+IsLockOrUnlock (lock info) = Unit {0}
+IsLockOrUnlock (unlock id) = Unit {0}
+IsLockOrUnlock _ = ⊥
+
+-- The act is a write: a push or a delete.
+abbrev pub IsWrite : ActValue → Type 0
+IsWrite (push id d) = Unit {0}
+IsWrite (delete id) = Unit {0}
+IsWrite _ = ⊥
+
+-- The act is a write that carries this identifier or none.
 abbrev pub IsWriteWith : Option (List ℕ) → ActValue → Type 0
-IsWriteWith id (lock info) = ⊥
-IsWriteWith id (unlock given) = ⊥
 IsWriteWith id (push given d) = given ≡ id
 IsWriteWith id (delete given) = given ≡ id
+IsWriteWith id _ = ⊥

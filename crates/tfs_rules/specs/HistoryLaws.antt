@@ -1,57 +1,53 @@
--- What an accepted history keeps, said by positions and without the verdict.
-use Rattle.std.specs.Prelude.{◌≡◌, ◌≤◌, ◌⊎◌, ℕ, List, ◌∷◌, ◌++◌, Option, Some, None}
+-- The history laws: which acts come behind which, said by positions and without the verdict.
+use Rattle.std.specs.Prelude.{◌≡◌, ◌≤◌, ◌⊎◌, ℕ, List, ◌∷◌, ◌++◌, Contains, Option, Some, None}
 use Rattle.tfs_state.specs.Document.{Document}
 use Rattle.tfs_lock.specs.LockInfo.{LockInformation}
 use Rattle.tfs_rules.specs.Act.{ActValue, lock, unlock, push, IsDelete, IsUnlock, IsWriteWith}
-use Rattle.tfs_rules.specs.History.{History, Without}
+use Rattle.tfs_rules.specs.History.{History, Stands}
 
--- The second act follows the first, with these acts between the two.
-abbrev pub Follows : History → ActValue → History → ActValue → Type 0
-Follows h first between second = (before : History) × (after : History) × (h ≡ before ++ first ∷ (between ++ second ∷ after))
+-- The act comes in the history, right behind these.
+abbrev pub ComesBehind : History → History → ActValue → Type 0
+ComesBehind h before act = (after : History) × (h ≡ before ++ act ∷ after)
 
--- The second document may follow the first: one lineage, no lower serial, and one content where the serials are equal.
+-- The second document continues the first: of its lineage, no older, and the same text where it is no newer.
 pub record IsPushOrder (first second : Document) : Type 0 where
   pub one_lineage : first.lineage ≡ second.lineage
   pub no_falling_serial : first.serial ≤ second.serial
   pub one_content : first.serial ≡ second.serial → first.bytes ≡ second.bytes
 
--- Push order: of two pushes with no delete between.
+-- Push order: until a delete comes, each push continues the earlier ones.
 abbrev pub KeepsPushOrder : History → Type 0
-KeepsPushOrder h = (first second : Document) (first_id second_id : Option (List ℕ)) (between : History)
-    → Follows h (push first_id first) between (push second_id second) → Without IsDelete between → IsPushOrder first second
+KeepsPushOrder h = (before : History) (first second : Document) (first_id second_id : Option (List ℕ))
+    → ComesBehind h before (push second_id second) → Stands before (push first_id first) IsDelete → IsPushOrder first second
 
--- Lock exclusion: two locks with no unlock between have the same bytes.
+-- Lock exclusion: a lock that stands is taken again by its own text alone.
 abbrev pub KeepsLockExclusion : History → Type 0
-KeepsLockExclusion h = (first second : LockInformation) (between : History)
-    → Follows h (lock first) between (lock second) → Without IsUnlock between → first.bytes ≡ second.bytes
+KeepsLockExclusion h = (before : History) (held info : LockInformation)
+    → ComesBehind h before (lock info) → Stands before (lock held) IsUnlock → held.bytes ≡ info.bytes
 
--- Writes bear the lock: a push or a delete after a lock, with no unlock between, bears the lock's identifier.
+-- Writes carry the lock that stands.
 abbrev pub WritesBearTheLock : History → Type 0
-WritesBearTheLock h = (held : LockInformation) (write : ActValue) (id : Option (List ℕ)) (between : History)
-    → Follows h (lock held) between write → Without IsUnlock between → IsWriteWith id write → id ≡ Some held.id
+WritesBearTheLock h = (before : History) (held : LockInformation) (write : ActValue) (id : Option (List ℕ))
+    → ComesBehind h before write → Stands before (lock held) IsUnlock → IsWriteWith id write → id ≡ Some held.id
 
--- Unlocks bear the lock: an unlock after a lock, with no unlock between, bears the lock's identifier or none.
+-- Unlocks carry the lock that stands, or no identifier.
 abbrev pub UnlocksBearTheLock : History → Type 0
-UnlocksBearTheLock h = (held : LockInformation) (id : Option (List ℕ)) (between : History)
-    → Follows h (lock held) between (unlock id) → Without IsUnlock between → (id ≡ Some held.id) ⊎ (id ≡ None)
+UnlocksBearTheLock h = (before : History) (held : LockInformation) (id : Option (List ℕ))
+    → ComesBehind h before (unlock id) → Stands before (lock held) IsUnlock → (id ≡ Some held.id) ⊎ (id ≡ None)
 
--- The acts have a lock with this identifier, which no unlock follows.
-pub record HasStandingLock (acts : History) (id : List ℕ) : Type 0 where
-  pub before : History
-  pub held : LockInformation
-  pub after : History
-  pub split : acts ≡ before ++ lock held ∷ after
-  pub named : held.id ≡ id
-  pub stands : Without IsUnlock after
-
--- Identifiers name a standing lock: so it is in front of a push or a delete that bears an identifier.
+-- Identifiers of writes name a lock that stands.
 abbrev pub IdentifiersNameALock : History → Type 0
-IdentifiersNameALock h = (before after : History) (write : ActValue) (id : List ℕ)
-    → h ≡ before ++ write ∷ after → IsWriteWith (Some id) write → HasStandingLock before id
+IdentifiersNameALock h = (before : History) (write : ActValue) (id : List ℕ)
+    → ComesBehind h before write → IsWriteWith (Some id) write → (held : LockInformation) × (held.id ≡ id) × Stands before (lock held) IsUnlock
 
+-- The five laws.
 pub record KeepsHistoryLaws (h : History) : Type 0 where
   pub pushes_keep_their_order : KeepsPushOrder h
   pub locks_exclude_one_another : KeepsLockExclusion h
   pub writes_bear_the_lock : WritesBearTheLock h
   pub unlocks_bear_the_lock : UnlocksBearTheLock h
   pub identifiers_name_a_lock : IdentifiersNameALock h
+
+-- Locks of one text have one identifier.
+abbrev pub LocksOfOneTextHaveOneIdentifier : History → Type 0
+LocksOfOneTextHaveOneIdentifier h = (a b : LockInformation) → Contains h (lock a) → Contains h (lock b) → a.bytes ≡ b.bytes → a.id ≡ b.id

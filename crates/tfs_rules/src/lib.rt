@@ -1,5 +1,5 @@
 //! The rules of a workspace: which acts it takes over its history, and the state and the holder that they leave.
-//! An accepted history keeps the history laws, which speak of positions alone.
+//! A history is accepted exactly where it keeps the history laws, which speak of positions alone.
 #![tactic(auto)]
 
 mod act;
@@ -10,7 +10,7 @@ mod verdict;
 
 pub use act::Act;
 pub use laws::{
-    a_lock_is_the_holders_own_where_its_bytes_are, accepted_histories_keep_the_history_laws,
+    histories_are_accepted_act_by_act, histories_are_accepted_where_they_keep_the_history_laws,
     locked_acts_have_a_holder, the_current_state_is_that_of_the_last_push,
     the_holder_is_that_of_the_last_lock,
 };

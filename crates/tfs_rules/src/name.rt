@@ -50,7 +50,7 @@ impl Name {
 
     /// An equal name, or an error where a request for memory is refused.
     pub fn copy(&self) -> Result<Name, AllocError>
-        ensures { IfOk result (λ name. name ≡ self.now) }
+        ensures value { IfOk result (λ name. name ≡ self.now) }
     {
         Ok(Name {
             text: self.text.clone()?,

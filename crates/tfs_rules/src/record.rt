@@ -35,7 +35,7 @@ impl Model for Record {
 impl Record {
     /// The record of no acts.
     pub fn empty() -> Record
-        ensures { result ≡ standing_of [] }
+        ensures value { result ≡ standing_of [] }
     {
         Record {
             state: None,
@@ -66,7 +66,7 @@ impl Record {
     /// Takes an act whose verdict is `Accept`.
     pub fn commit(&mut self, act: Act)
         requires { verdict_over self.old (act_value act) ≡ Accept }
-        ensures { (h : History) → self.old ≡ standing_of h
+        ensures over_history { (h : History) → self.old ≡ standing_of h
             → self.new ≡ standing_of (h ++ act_value act ∷ []) }
     {
         match act {
@@ -79,14 +79,14 @@ impl Record {
 
     /// The current state.
     pub fn state(&self) -> Option<&Arc<Doc>>
-        ensures { option_map (λ doc. arc_value doc.now) result ≡ self.now.state }
+        ensures value { option_map (λ doc. arc_value doc.now) result ≡ self.now.state }
     {
         self.state.as_ref()
     }
 
     /// The information of the lock that is held.
     pub fn holder(&self) -> Option<&Arc<LockInfo>>
-        ensures { option_map (λ info. arc_value info.now) result ≡ self.now.holder }
+        ensures value { option_map (λ info. arc_value info.now) result ≡ self.now.holder }
     {
         self.holder.as_ref()
     }

@@ -7,7 +7,7 @@ pub enum Verdict {
     Accept,
     /// Somebody else holds the lock.
     Locked,
-    /// The act bears the identifier of a lock, and nobody holds one.
+    /// The act carries the identifier of a lock, and nobody holds one.
     LockLost,
     /// The pushed state belongs to another history than the stored one.
     LineageDiffers,
