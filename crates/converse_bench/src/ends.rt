@@ -48,11 +48,10 @@ pub(crate) struct Still;
 
 impl Desk for Still {
     ghost use Rattle.std.specs.Prelude.{◌≡◌};
-    ghost use Rattle.tfs_table.specs.Refusal.{plain};
+    ghost use Rattle.tfs_table.specs.Refusal.{no_state};
     ghost use Rattle.tfs_table.specs.Reply.{reply_value, refused};
-    ghost use Rattle.tfs_table.specs.declared.refusal.Refusal.TheVariants.{NoState};
 
-    ghost step = { λ _ _ reply _. reply_value reply ≡ refused (plain NoState) };
+    ghost step = { λ _ _ reply _. reply_value reply ≡ refused no_state };
 
     fn answer(&mut self, call: Call) -> Reply {
         drop(call);

@@ -10,7 +10,7 @@ mod ends;
 mod input;
 mod run;
 
-const DESKS: [Desks; 2] = [Desks::Still, Desks::First];
+const DESKS: [Desks; 2] = [Desks::Still, Desks::Memory];
 
 // What is sent, and the bytes of one read.
 const CASES: [(Kind, usize); 4] = [

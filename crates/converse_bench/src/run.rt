@@ -13,14 +13,14 @@ pub(crate) enum Desks {
     /// A desk that refuses each call at once, so that the time is that of the conversation alone.
     Still,
     /// The desk that keeps its journal in memory, which reads each state as JSON.
-    First,
+    Memory,
 }
 
 impl Desks {
     pub(crate) fn name(self) -> &'static str {
         match self {
             Desks::Still => "still",
-            Desks::First => "first",
+            Desks::Memory => "memory",
         }
     }
 }
@@ -55,9 +55,9 @@ pub(crate) fn run(alloc: Global, desk: Desks, data: &[u8], piece: usize) -> Foun
             let mut still = Still;
             run_over(alloc, &mut still, data, piece)
         }
-        Desks::First => {
-            let mut first = MemoryDesk::new(alloc);
-            run_over(alloc, &mut first, data, piece)
+        Desks::Memory => {
+            let mut desk = MemoryDesk::new(alloc);
+            run_over(alloc, &mut desk, data, piece)
         }
     }
 }

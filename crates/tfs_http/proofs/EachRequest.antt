@@ -1,5 +1,6 @@
 -- Each request has a call or a refusal.
-use Rattle.std.proofs.Common.{◌≡◌, ◌⊎◌, ◌∙◌, ℕ, List, [], ◌∷◌, ◌++◌, length, drop, nat_eq, nat_le, Bool, true, false, Result, Ok, Err, Contains, codes, refl, sym, ap, subst, inl, inr, arith}
+use Rattle.std.proofs.Common.{◌≡◌, ◌⊎◌, ◌∙◌, ℕ, List, [], ◌∷◌, ◌++◌, length, drop, nat_eq, nat_le, Bool, true, false, Result, Ok, Err, Contains}
+use Rattle.std.proofs.Common.{codes, refl, sym, ap, subst, inl, inr, arith}
 use Rattle.std.specs.List.{starts_with, list_all}
 use Rattle.std.specs.Cmp.Lexicographic.{bytes_decides}
 use Rattle.std.specs.Str.{is_utf8}
@@ -23,14 +24,17 @@ use Rattle.tfs_http.proofs.RoutingLemmas.{slash_found, slash_tested, front_split
 abbrev IsDecided : List ℕ → Type 0
 IsDecided path = ((part : List ℕ) × IsStatePath path part) ⊎ ((part : List ℕ) → ¬ (IsStatePath path part))
 
+-- A path that begins with `/state/` is decided by its rest.
 rest_decided : (path rest : List ℕ) → path ≡ codes "/state/" ++ rest → IsDecided path
 rest_decided path [] e = inr (λ part p. p.filled (append-cancel (codes "/state/") part [] (sym p.parts ∙ e)))
 rest_decided path (b ∷ rest) e = by (has_slash (b ∷ rest)) refl
   where
     by : (v : Bool) → has_slash (b ∷ rest) ≡ v → IsDecided path
-    by true s = inr (λ part p. p.whole (subst (λ t. Contains t slash) (append-cancel (codes "/state/") (b ∷ rest) part (sym e ∙ p.parts)) (slash_found (b ∷ rest) s)))
+    by true s = inr (λ part p. p.whole
+        (subst (λ t. Contains t slash) (append-cancel (codes "/state/") (b ∷ rest) part (sym e ∙ p.parts)) (slash_found (b ∷ rest) s)))
     by false s = inl (b ∷ rest, record { parts = e; filled = λ none. cc; whole = λ w. cc (slash_tested (b ∷ rest) w, s) })
 
+-- Each path is decided.
 path_decided : (path : List ℕ) → IsDecided path
 path_decided path = by (starts_with nat_eq path (codes "/state/")) refl
   where
@@ -42,7 +46,8 @@ path_decided path = by (starts_with nat_eq path (codes "/state/")) refl
 name_decided : (text : List ℕ) → IsName text ⊎ ¬ (IsName text)
 name_decided text = by (nat_le 1 (length text)) refl (nat_le (length text) 64) refl (list_all is_name_byte text) refl
   where
-    by : (u : Bool) → nat_le 1 (length text) ≡ u → (v : Bool) → nat_le (length text) 64 ≡ v → (w : Bool) → list_all is_name_byte text ≡ w → IsName text ⊎ ¬ (IsName text)
+    by : (u : Bool) → nat_le 1 (length text) ≡ u → (v : Bool) → nat_le (length text) 64 ≡ v → (w : Bool) → list_all is_name_byte text ≡ w → IsName text
+        ⊎ ¬ (IsName text)
     by false a v b w c = inr (λ n. let short = leb-false 1 (length text) a in let filled = n.filled in omega (arith, short, filled))
     by true a false b w c = inr (λ n. let long = leb-false (length text) 64 b in let short = n.short in omega (arith, long, short))
     by true a true b false c = inr (λ n. cc (n.clean, c))
@@ -56,14 +61,19 @@ text_decided text other = by (same_text text other) refl
     by true e = inl ((bytes_decides text other).0 e)
     by false e = inr (λ is. cc (e, (bytes_decides text other).1 is))
 
+-- Where both of two facts are decided, so is one of them.
 either_decided : {A B : Type 0} → A ⊎ ¬ A → B ⊎ ¬ B → (A ⊎ B) ⊎ ¬ (A ⊎ B)
+-- Where both of two facts are decided, so is one of them.
 either_decided (inl a) other = inl (inl a)
+-- Where both of two facts are decided, so is one of them.
 either_decided (inr not_a) (inl b) = inl (inr b)
+-- Where both of two facts are decided, so is one of them.
 either_decided (inr not_a) (inr not_b) = inr (λ is. elim is [ inl a ↦ not_a a | inr b ↦ not_b b ])
 
 -- A method is one of a state or another.
 method_decided : (method : List ℕ) → IsStateMethod method ⊎ ¬ (IsStateMethod method)
 method_decided method =
+    -- Where both of two facts are decided, so is one of them.
     either_decided (text_decided method (codes "GET"))
     (either_decided (text_decided method (codes "POST"))
     (either_decided (text_decided method (codes "DELETE"))
@@ -75,11 +85,16 @@ method_called r name names is (inl get) = (Read name, (names, is, get))
 method_called r name names is (inr (inl post)) = (Change name (Push (identifier_parameter r.target) r.body), (names, is, (post, refl, refl)))
 method_called r name names is (inr (inr (inl delete))) = (Change name (Delete (identifier_parameter r.target)), (names, is, (delete, refl)))
 method_called r name names is (inr (inr (inr (inl lock)))) = (Change name (Lock r.body), (names, is, (lock, refl)))
-method_called r name names is (inr (inr (inr (inr unlock)))) = (Change name (Unlock r.body (identifier_parameter r.target)), (names, is, (unlock, refl, refl)))
+method_called r name names is (inr (inr (inr (inr unlock)))) = (
+  Change name (Unlock r.body (identifier_parameter r.target)),
+  (names, is, (unlock, refl, refl)),
+)
 
+-- The request has a call or a refusal.
 abbrev IsRouted : RequestValue → Type 0
 IsRouted r = (x : Result Call Refusal) × RoutesTo r x
 
+-- A request whose target names a state has one.
 state_routed : (r : RequestValue) (part : List ℕ) → NamesState r.target part → IsRouted r
 state_routed r part names = elim (method_decided r.method) [
   | inl method ↦ elim (name_decided part) [
@@ -89,6 +104,7 @@ state_routed r part names = elim (method_decided r.method) [
   | inr none ↦ (Err (MethodNotAllowed State), (part, names, none))
 ]
 
+-- Each request has one.
 pub each_routed : (r : RequestValue) → IsRouted r
 each_routed r = by (is_utf8 r.target) refl
   where

@@ -1,19 +1,23 @@
 -- Laws of framing: what bytes begin with is one thing, and stays whatever bytes follow.
-use Rattle.std.proofs.Common.{◌≡◌, ◌≤◌, ◌<◌, ◌+◌, ◌-◌, ◌⊎◌, ℕ, List, [], ◌∷◌, ◌++◌, length, Result, Ok, Err, refl, sym, ◌∙◌, ap, subst, arith, append_assoc, append-nil, length-append, inl, inr, take, drop, take-append-drop, length-take}
+use Rattle.std.proofs.Common.{◌≡◌, ◌≤◌, ◌<◌, ◌⊎◌, ℕ, List, [], ◌∷◌, ◌++◌, length, Result, Ok, Err, refl, sym, ◌∙◌, ap, subst, arith}
+use Rattle.std.proofs.Common.{append_assoc, append-nil, length-append, inl, inr}
 use Rattle.httparse.specs.Grammar.{LineEnd, print_blank, RequestHead}
 use Rattle.httparse.proofs.GrammarLemmas.{request_unique}
 use Rattle.tfs_table.specs.declared.refusal.Refusal.{Refusal}
 use Rattle.tfs_table.specs.declared.refusal.Refusal.TheVariants.{HeadTooLarge, BadHead}
 use Rattle.tfs_http.specs.Request.{RequestValue}
-use Rattle.tfs_http.specs.Framing.{HasHead, HasNoHead, IsHeadOf, line_feeds, body_length, ReadsHead, IsHeadRefused, ReadsMessage, framing_refusal, IsUnfinished, BeginsWith, AreWanted, Frames}
+use Rattle.tfs_http.specs.Framing.{HasHead, HasNoHead, IsHeadOf, line_feeds, body_length, ReadsHead, IsHeadRefused, ReadsMessage, framing_refusal}
+use Rattle.tfs_http.specs.Framing.{BeginsWith, Frames}
 use Rattle.tfs_http.specs.declared.taken.Take.{Take}
 use Rattle.tfs_http.specs.declared.taken.Take.TheVariants.{Need, Got, Fault}
 use Rattle.tfs_http.proofs.HeadLemmas.{cuts, same_cut, blank_unique, head_starts}
 
 -- A head stays the head whatever bytes follow.
-pub head_more : (bytes more : List ℕ) (skipped : List LineEnd) (head rest : List ℕ) → HasHead bytes skipped head rest → HasHead (bytes ++ more) skipped head (rest ++ more)
+pub head_more : (bytes more : List ℕ) (skipped : List LineEnd) (head rest : List ℕ) → HasHead bytes skipped head rest
+    → HasHead (bytes ++ more) skipped head (rest ++ more)
 head_more bytes more skipped head rest has = record {
-  parts = ap (λ t. t ++ more) has.parts ∙ append_assoc (print_blank skipped) (head ++ rest) more ∙ ap (λ t. print_blank skipped ++ t) (append_assoc head rest more);
+  parts = ap (λ t. t ++ more) has.parts ∙ append_assoc (print_blank skipped) (head ++ rest) more
+      ∙ ap (λ t. print_blank skipped ++ t) (append_assoc head rest more);
   starts = has.starts;
   is_head = has.is_head;
   size = has.size;
@@ -25,9 +29,12 @@ pub record SameHead (a b : List LineEnd) (head other rest last : List ℕ) : Typ
   pub heads : head ≡ other
   pub rests : rest ≡ last
 
-pub head_unique : (bytes : List ℕ) (a b : List LineEnd) (head other rest last : List ℕ) → HasHead bytes a head rest → HasHead bytes b other last → SameHead a b head other rest last
+-- Two heads of the same bytes are one.
+pub head_unique : (bytes : List ℕ) (a b : List LineEnd) (head other rest last : List ℕ) → HasHead bytes a head rest → HasHead bytes b other last
+    → SameHead a b head other rest last
 head_unique bytes a b head other rest last has also =
-    let same = blank_unique a b (head ++ rest) (other ++ last) (sym has.parts ∙ also.parts) (head_starts head rest has.starts has.is_head) (head_starts other last also.starts also.is_head) in
+    let same = blank_unique a b (head ++ rest) (other ++ last) (sym has.parts ∙ also.parts) (head_starts head rest has.starts has.is_head)
+    (head_starts other last also.starts also.is_head) in
     elim (cuts head rest other last same.1) [
       | inl w ↦
           let none : w.0 ≡ [] = has.is_head.shortest other w.0 w.1 also.is_head.ends in
@@ -43,7 +50,9 @@ pub record SameLines (method other target last : List ℕ) (m n : ℕ) : Type 0 
   pub targets : target ≡ last
   pub lens : m ≡ n
 
-pub reads_once : (head method other target last : List ℕ) (m n : ℕ) → ReadsHead head method target m → ReadsHead head other last n → SameLines method other target last m n
+-- Two readings of a head are one.
+pub reads_once : (head method other target last : List ℕ) (m n : ℕ) → ReadsHead head method target m → ReadsHead head other last n
+    → SameLines method other target last m n
 reads_once head method other target last m n r s =
     let same : r.h ≡ s.h = (request_unique head r.h s.h [] [] r.is_head_of.reads s.is_head_of.reads).0 in
     let lens : ◌≡◌ {A = Result ℕ Refusal} (Ok m) (Ok n) = sym r.body ∙ ap body_length same ∙ s.body in
@@ -55,6 +64,7 @@ Reasons head refusal = ((66 < line_feeds head) × (refusal ≡ HeadTooLarge))
     ⊎ (((line_feeds head ≤ 66) × ((h : RequestHead) → ¬ (IsHeadOf head h)) × (refusal ≡ BadHead))
     ⊎ ((line_feeds head ≤ 66) × (h : RequestHead) × IsHeadOf head h × (body_length h ≡ Err refusal)))
 
+-- A refused head is refused for one of them.
 reasons : (head : List ℕ) (refusal : Refusal) → IsHeadRefused head refusal → Reasons head refusal
 reasons head HeadTooLarge p = inl (p, refl)
 reasons head BadHead p = inr (inl (p.0, p.1, refl))
@@ -99,101 +109,16 @@ refused_once head f g p q = elim (reasons head f p) [
 ]
 
 -- A message's head is the head of the bytes that it begins.
-pub head_of_message : (bytes frame rest : List ℕ) (r : RequestValue) → bytes ≡ frame ++ rest → (m : ReadsMessage frame r) → HasHead bytes m.skipped m.head (r.body ++ rest)
-head_of_message bytes frame rest r e m = subst (λ (t : List ℕ). HasHead t m.skipped m.head (r.body ++ rest)) (sym e) (head_more frame rest m.skipped m.head r.body m.has_head)
+pub head_of_message : (bytes frame rest : List ℕ) (r : RequestValue) → bytes ≡ frame ++ rest → (m : ReadsMessage frame r)
+    → HasHead bytes m.skipped m.head (r.body ++ rest)
+head_of_message bytes frame rest r e m = subst (λ (t : List ℕ). HasHead t m.skipped m.head (r.body ++ rest)) (sym e)
+    (head_more frame rest m.skipped m.head r.body m.has_head)
 
--- Without a head that ends in time the bytes are unfinished.
-pub unfinished_without_head : (bytes : List ℕ) → HasNoHead bytes → length bytes < 16384 → IsUnfinished bytes
-unfinished_without_head bytes none few = record {
-  no_message = λ frame rest r e m. none m.skipped m.head (r.body ++ rest) (head_of_message bytes frame rest r e m);
-  no_refusal = λ refusal p. elim p [
-    | inl q ↦ let many = q.0 in omega arith
-    | inr q ↦ none q.skipped q.head q.rest q.has_head
-  ];
-}
-
-pub wanted_without_head : (bytes : List ℕ) → HasNoHead bytes → length bytes < 16384 → AreWanted bytes (length bytes + 1)
-wanted_without_head bytes none few = record {
-  more = omega arith;
-  until = λ others short.
-      let sizes = length-append bytes others in
-      let nothing : others ≡ [] = empty others (omega arith) in
-      let same : bytes ++ others ≡ bytes = ap (λ t. bytes ++ t) nothing ∙ append-nil bytes in
-      subst IsUnfinished (sym same) (unfinished_without_head bytes none few);
-}
-  where
-    empty : (l : List ℕ) → length l ≡ 0 → l ≡ []
-    empty [] e = refl
-    empty (x ∷ l) e = absurd (omega arith)
-
--- Behind a head that is read, its body is wanted.
-unfinished_without_body : (bytes : List ℕ) (skipped : List LineEnd) (head rest method target : List ℕ) (n : ℕ) → HasHead bytes skipped head rest → ReadsHead head method target n
-    → length rest < n → IsUnfinished bytes
-unfinished_without_body bytes skipped head rest method target n has reads short = record {
-  no_message = λ frame last r e m.
-      let same = head_unique bytes skipped m.skipped head m.head rest (r.body ++ last) has (head_of_message bytes frame last r e m) in
-      let lines = reads_once head method r.method target r.target n (length r.body) reads (subst (λ (t : List ℕ). ReadsHead t r.method r.target (length r.body)) (sym same.heads) m.reads) in
-      let sizes = ap length same.rests ∙ length-append r.body last in
-      let len = lines.lens in
-      omega arith;
-  no_refusal = λ refusal p. elim p [
-    | inl q ↦ q.1 skipped head rest has
-    | inr q ↦
-        let same = head_unique bytes skipped q.skipped head q.head rest q.rest has q.has_head in
-        reads_not_refused head method target n refusal reads (subst (λ (t : List ℕ). IsHeadRefused t refusal) (sym same.heads) q.refused)
-  ];
-}
-
-pub wanted_without_body : (bytes : List ℕ) (skipped : List LineEnd) (head rest method target : List ℕ) (n : ℕ) → HasHead bytes skipped head rest → ReadsHead head method target n
-    → length rest < n → AreWanted bytes (length bytes - length rest + n)
-wanted_without_body bytes skipped head rest method target n has reads short =
-    let sizes = ap length has.parts ∙ length-append (print_blank skipped) (head ++ rest) in
-    let parts = length-append head rest in
-    record {
-      more = omega arith;
-      until = λ others few.
-          let longer = length-append bytes others in
-          let behind = length-append rest others in
-          unfinished_without_body (bytes ++ others) skipped head (rest ++ others) method target n (head_more bytes others skipped head rest has) reads (omega arith);
-    }
-
--- Behind a head that is read, with its body there, the message is whole.
-begins_with_message : (bytes : List ℕ) (skipped : List LineEnd) (head rest body after : List ℕ) (r : RequestValue) (n : ℕ) → HasHead bytes skipped head rest → ReadsHead head r.method r.target n
-    → rest ≡ body ++ after → r.body ≡ body → length body ≡ n → BeginsWith bytes r (length bytes - length after)
-begins_with_message bytes skipped head rest body after r n has reads split is_body len =
-    let whole : bytes ≡ (print_blank skipped ++ (head ++ r.body)) ++ after =
-    has.parts ∙ ap (λ t. print_blank skipped ++ (head ++ t)) (split ∙ ap (λ t. t ++ after) (sym is_body))
-    ∙ ap (λ t. print_blank skipped ++ t) (sym (append_assoc head r.body after)) ∙ sym (append_assoc (print_blank skipped) (head ++ r.body) after) in
-    let sizes = ap length whole ∙ length-append (print_blank skipped ++ (head ++ r.body)) after in
-    record {
-      frame = print_blank skipped ++ (head ++ r.body);
-      rest = after;
-      parts = whole;
-      used_is = omega arith;
-      reads = record {
-        skipped = skipped;
-        head = head;
-        has_head = record { parts = refl; starts = has.starts; is_head = has.is_head; size = has.size };
-        reads = subst (ReadsHead head r.method r.target) (sym len ∙ ap length (sym is_body)) reads;
-      };
-    }
-
--- Where more are wanted the bytes are unfinished.
-pub unfinished_where_wanted : (bytes : List ℕ) (wanted : ℕ) → AreWanted bytes wanted → IsUnfinished bytes
-unfinished_where_wanted bytes wanted w = subst IsUnfinished (append-nil bytes) (w.until [] (subst (λ (t : List ℕ). length t < wanted) (sym (append-nil bytes)) w.more))
-
--- The same as the code has it, with the parts of the rest.
-pub begins_with_request : (bytes : List ℕ) (skipped : List LineEnd) (head rest method target body after : List ℕ) (r : RequestValue) (n : ℕ) → HasHead bytes skipped head rest → ReadsHead head method target n
-    → body ≡ take n rest → after ≡ drop n rest → n ≤ length rest → r ≡ record { method = method; target = target; body = body } → BeginsWith bytes r (length bytes - length after)
-begins_with_request bytes skipped head rest method target body after r n has reads front back fits is =
-    let split : rest ≡ body ++ after = sym (take-append-drop n rest) ∙ ap (λ t. t ++ drop n rest) (sym front) ∙ ap (λ t. body ++ t) (sym back) in
-    let len : length body ≡ n = ap length front ∙ length-take n rest ∙ (omega arith) in
-    subst (λ (q : RequestValue). BeginsWith bytes q (length bytes - length after)) (sym is)
-    (begins_with_message bytes skipped head rest body after (record { method = method; target = target; body = body }) n has reads split refl len)
-
+-- The request of these three.
 request_of : List ℕ → List ℕ → List ℕ → RequestValue
 request_of method target body = record { method = method; target = target; body = body }
 
+-- Requests of equal parts are equal.
 same_request : (r q : RequestValue) → r.method ≡ q.method → r.target ≡ q.target → r.body ≡ q.body → r ≡ q
 unfolding request_of
 same_request r q methods targets bodies =
@@ -225,7 +150,8 @@ message_not_refused bytes r m refusal b p =
       | inl q ↦ q.1 b.reads.skipped b.reads.head (r.body ++ b.rest) has
       | inr q ↦
           let same = head_unique bytes b.reads.skipped q.skipped b.reads.head q.head (r.body ++ b.rest) q.rest has q.has_head in
-          reads_not_refused b.reads.head r.method r.target (length r.body) refusal b.reads.reads (subst (λ (t : List ℕ). IsHeadRefused t refusal) (sym same.heads) q.refused)
+          reads_not_refused b.reads.head r.method r.target (length r.body) refusal b.reads.reads
+          (subst (λ (t : List ℕ). IsHeadRefused t refusal) (sym same.heads) q.refused)
     ]
 
 -- Bytes have one refusal.
@@ -250,18 +176,21 @@ message_more bytes more r n b = record {
   reads = b.reads;
 }
 
+-- Where no head ends in time there is none, whatever bytes follow.
 no_head_more : (bytes more : List ℕ) → 16384 ≤ length bytes → HasNoHead bytes → HasNoHead (bytes ++ more)
 no_head_more bytes more many none skipped head rest has =
     let whole : bytes ++ more ≡ (print_blank skipped ++ head) ++ rest = has.parts ∙ sym (append_assoc (print_blank skipped) head rest) in
     let size = has.size in
     let front = length-append (print_blank skipped) head in
     elim (cuts bytes more (print_blank skipped ++ head) rest whole) [
-      | inl w ↦ none skipped head w.0 (record { parts = w.1 ∙ append_assoc (print_blank skipped) head w.0; starts = has.starts; is_head = has.is_head; size = has.size })
+      | inl w ↦ none skipped head w.0
+          (record { parts = w.1 ∙ append_assoc (print_blank skipped) head w.0; starts = has.starts; is_head = has.is_head; size = has.size })
       | inr w ↦
           let long = ap length w.1 ∙ length-append bytes w.0 in
           let nothing : w.0 ≡ [] = no_more w.0 (omega arith) in
           none skipped head [] (record {
-            parts = sym (append-nil bytes) ∙ ap (λ t. bytes ++ t) (sym nothing) ∙ sym w.1 ∙ sym (append-nil (print_blank skipped ++ head)) ∙ append_assoc (print_blank skipped) head [];
+            parts = sym (append-nil bytes) ∙ ap (λ t. bytes ++ t) (sym nothing) ∙ sym w.1 ∙ sym (append-nil (print_blank skipped ++ head))
+                ∙ append_assoc (print_blank skipped) head [];
             starts = has.starts;
             is_head = has.is_head;
             size = has.size;
@@ -272,10 +201,17 @@ no_head_more bytes more many none skipped head rest has =
     no_more [] e = refl
     no_more (x ∷ l) e = absurd (omega arith)
 
+-- A refusal stays whatever bytes follow.
 pub refusal_more : (bytes more : List ℕ) (refusal : Refusal) → framing_refusal bytes refusal → framing_refusal (bytes ++ more) refusal
 refusal_more bytes more refusal p = elim p [
   | inl q ↦ inl (let longer = length-append bytes more in let many = q.0 in omega arith, no_head_more bytes more q.0 q.1, q.2)
-  | inr q ↦ inr (record { skipped = q.skipped; head = q.head; rest = q.rest ++ more; has_head = head_more bytes more q.skipped q.head q.rest q.has_head; refused = q.refused })
+  | inr q ↦ inr (record {
+    skipped = q.skipped;
+    head = q.head;
+    rest = q.rest ++ more;
+    has_head = head_more bytes more q.skipped q.head q.rest q.has_head;
+    refused = q.refused;
+  })
 ]
 
 -- What bytes begin with is one thing.

@@ -1,5 +1,6 @@
 -- Laws of heads: where one ends, and that it ends there alone.
-use Rattle.std.proofs.Common.{◌≡◌, ◌≤◌, ◌+◌, ◌-◌, ◌⊎◌, ℕ, List, [], ◌∷◌, ◌++◌, length, refl, sym, ◌∙◌, ap, arith, append_assoc, length-append, inl, inr, subst, take, drop, min, take-append-drop, length-take, append-nil}
+use Rattle.std.proofs.Common.{◌≡◌, ◌≤◌, ◌+◌, ◌-◌, ◌⊎◌, ℕ, List, [], ◌∷◌, ◌++◌, length, refl, sym, ◌∙◌, ap, arith, append_assoc, length-append, inl}
+use Rattle.std.proofs.Common.{inr, subst, take, drop, min, take-append-drop, length-take, append-nil}
 use Rattle.std.proofs.Math.Seq.{take-append_seam, drop-append_seam}
 use Rattle.httparse.specs.Ascii.{line_feed, carriage_return}
 use Rattle.httparse.specs.Grammar.{LineEnd, crlf, lf, print_end, print_blank}
@@ -33,8 +34,10 @@ cuts (x ∷ a) b (y ∷ c) d e =
       | inr w ↦ inr (w.0, cc, w.2)
     ]
 
+-- A list of length 0 is empty.
 nothing_left : (z : List ℕ) → length z ≡ 0 → z ≡ []
 nothing_left [] e = refl
+-- A list of length 0 is empty.
 nothing_left (x ∷ z) e = absurd (omega arith)
 
 -- Two cuts of one list at one place are one.
@@ -48,12 +51,15 @@ same_cut (x ∷ a) b (y ∷ c) d e n =
     let rest = same_cut a b c d tails (omega arith) in
     (cc, rest.1)
 
+-- A line end has one byte or two.
 print_end_len : (end : LineEnd) → (1 ≤ length (print_end end)) × (length (print_end end) ≤ 2)
 print_end_len crlf = (omega arith, omega arith)
 print_end_len lf = (omega arith, omega arith)
 
+-- What is appended to something and gives nothing is nothing.
 nothing_appended : (z rest : List ℕ) → [] ≡ z ++ rest → rest ≡ []
 nothing_appended [] rest e = sym e
+-- What is appended to something and gives nothing is nothing.
 nothing_appended (x ∷ z) rest e = cc
 
 -- Behind a line feed and an empty line, no later line feed has an empty line.
@@ -65,6 +71,7 @@ after_end [] rest lf lf e = cc
 after_end (x ∷ []) rest crlf last e = let wrong : carriage_return ≡ line_feed = cc in absurd (omega arith)
 after_end (x ∷ []) rest lf last e =
     let short : [] ≡ print_end last ++ rest = cc in
+    -- What is appended to something and gives nothing is nothing.
     nothing_appended (print_end last) rest short
 after_end (x ∷ y ∷ z) rest end last e =
     let long = ap length e in
@@ -72,6 +79,7 @@ after_end (x ∷ y ∷ z) rest end last e =
     let two = print_end_len last in
     absurd (omega (arith, long, one, two, length-append z (line_feed ∷ (print_end last ++ rest)), length-append (print_end last) rest))
 
+-- A front and an empty line end a head there alone, where the front is the shorter.
 ends_alone : (front before rest : List ℕ) (end last : LineEnd) → front ++ line_feed ∷ print_end end ≡ before ++ line_feed ∷ (print_end last ++ rest)
     → length front ≤ length before → rest ≡ []
 ends_alone front before rest end last e n = elim (cuts front (line_feed ∷ print_end end) before (line_feed ∷ (print_end last ++ rest)) e) [
@@ -128,12 +136,14 @@ pub passed_all : (bytes front : List ℕ) → PassedOver bytes front [] → (par
 passed_all bytes front passed part rest cut ends =
     let before = ends.0 in
     let last = ends.1 in
-    let here : bytes ≡ before ++ line_feed ∷ (print_end last ++ rest) = cut ∙ ap (λ t. t ++ rest) ends.2 ∙ append_assoc before (line_feed ∷ print_end last) rest in
+    let here : bytes ≡ before ++ line_feed ∷ (print_end last ++ rest) = cut ∙ ap (λ t. t ++ rest) ends.2
+    ∙ append_assoc before (line_feed ∷ print_end last) rest in
     let low = passed.none before (print_end last ++ rest) here (last, rest, refl) in
     let one = ap length passed.parts in
     let two = ap length here in
     omega (arith, one, two, length-append front [], length-append before (line_feed ∷ (print_end last ++ rest)))
 
+-- The same where the rest is a byte and what comes after it.
 passed_rest : (bytes front rest after : List ℕ) (byte : ℕ) → PassedOver bytes front rest → rest ≡ byte ∷ after → PassedOver bytes front (byte ∷ after)
 passed_rest bytes front rest after byte passed e = record { parts = passed.parts ∙ ap (λ t. front ++ t) e; none = passed.none }
 
@@ -144,9 +154,11 @@ pub head_found : (bytes front rest after behind : List ℕ) (byte : ℕ) (end : 
 head_found bytes front rest after behind byte end passed e same split =
     head_passed_over bytes front after behind end (passed_rest bytes front rest after line_feed passed (e ∙ ap (λ b. b ∷ after) same)) split
 
+-- One more byte is passed over, as the loop has it.
 pub byte_passed : (bytes front rest after : List ℕ) (byte : ℕ) → PassedOver bytes front rest → rest ≡ byte ∷ after
     → (byte ≡ line_feed → ¬ (StartsWithEmptyLine after)) → (next : List ℕ) × PassedOver bytes next after
-byte_passed bytes front rest after byte passed e none = (front ++ byte ∷ [], passed_one_more bytes front after byte (passed_rest bytes front rest after byte passed e) none)
+byte_passed bytes front rest after byte passed e none =
+    (front ++ byte ∷ [], passed_one_more bytes front after byte (passed_rest bytes front rest after byte passed e) none)
 
 -- Empty lines are read in one way, up to bytes that begin with none.
 pub blank_unique : (a b : List LineEnd) (x y : List ℕ) → print_blank a ++ x ≡ print_blank b ++ y
@@ -172,9 +184,12 @@ head_size head ends =
     let one = print_end_len ends.1 in
     omega (arith, long, one, length-append ends.0 (line_feed ∷ print_end ends.1))
 
+-- What begins with an empty line does so within its first two bytes.
 starts_in_front : (head rest : List ℕ) → 2 ≤ length head → StartsWithEmptyLine (head ++ rest) → StartsWithEmptyLine head
 starts_in_front [] rest size starts = absurd (omega arith)
+-- What begins with an empty line does so within its first two bytes.
 starts_in_front (x ∷ []) rest size starts = absurd (omega arith)
+-- What begins with an empty line does so within its first two bytes.
 starts_in_front (x ∷ y ∷ head) rest size starts = by_end starts.0 starts.1 starts.2
   where
     by_end : (end : LineEnd) (after : List ℕ) → x ∷ y ∷ (head ++ rest) ≡ print_end end ++ after → StartsWithEmptyLine (x ∷ y ∷ head)
@@ -201,7 +216,8 @@ head_in_window bytes text head tail skipped k n small window none split size is_
     omega (arith, text_size, window_size, length-append (print_blank skipped) head) in
     let front : take n text ≡ head = ap (λ t. take n t) split ∙ ap (λ m. take m (head ++ tail)) (sym size) ∙ take-append_seam head tail in
     let back : drop (length (take k bytes) - length text + n) bytes ≡ tail ++ drop k bytes =
-    ap (λ m. drop m bytes) at ∙ ap (λ t. drop (length (print_blank skipped ++ head)) t) whole ∙ drop-append_seam (print_blank skipped ++ head) (tail ++ drop k bytes) in
+    ap (λ m. drop m bytes) at ∙ ap (λ t. drop (length (print_blank skipped ++ head)) t) whole
+    ∙ drop-append_seam (print_blank skipped ++ head) (tail ++ drop k bytes) in
     rw (front, back) (record {
       parts = whole ∙ append_assoc (print_blank skipped) head (tail ++ drop k bytes);
       starts = λ starts. none (rw split (starts.0, starts.1 ++ tail, ap (λ t. t ++ tail) starts.2 ∙ append_assoc (print_end starts.0) starts.1 tail));
@@ -221,8 +237,10 @@ no_head_in_window bytes text skipped window none absent others head rest has =
       | inl w ↦ found w.0 (w.1 ∙ append_assoc (print_blank others) head w.0)
       | inr w ↦
           let long = ap length w.1 ∙ length-append (take k bytes) w.0 in
-          let nothing : w.0 ≡ [] = nothing_left w.0 (omega (arith, sizes, long, has.size, length-append head rest, length-append (print_blank others) head, length-take k bytes)) in
-          found [] (sym (append-nil (take k bytes)) ∙ ap (λ t. take k bytes ++ t) (sym nothing) ∙ sym w.1 ∙ sym (append-nil (print_blank others ++ head)) ∙ append_assoc (print_blank others) head [])
+          let nothing : w.0 ≡ [] = nothing_left w.0
+          (omega (arith, sizes, long, has.size, length-append head rest, length-append (print_blank others) head, length-take k bytes)) in
+          found [] (sym (append-nil (take k bytes)) ∙ ap (λ t. take k bytes ++ t) (sym nothing) ∙ sym w.1 ∙ sym (append-nil (print_blank others ++ head))
+          ∙ append_assoc (print_blank others) head [])
     ]
   where
     found : (z : List ℕ) → take (min (length bytes) 16384) bytes ≡ print_blank others ++ (head ++ z) → ⊥
@@ -237,6 +255,7 @@ pub head_of_window : (bytes window text head tail front back : List ℕ) (skippe
 head_of_window bytes window text head tail front back skipped k n small is_window blank none split size is_head is_front is_back =
     rw (is_front, is_back, is_window) (head_in_window bytes text head tail skipped k n (omega arith) (sym is_window ∙ blank) none split size is_head)
 
+-- And where the window has no head there is none in the bytes.
 pub no_head_of_window : (bytes window text : List ℕ) (skipped : List LineEnd) (k : ℕ) → k ≡ min (length bytes) 16384
     → window ≡ take k bytes → window ≡ print_blank skipped ++ text → ¬ (StartsWithEmptyLine text)
     → ((part rest : List ℕ) → text ≡ part ++ rest → ¬ (EndsWithEmptyLine part)) → HasNoHead bytes

@@ -1,7 +1,12 @@
 pub mod HeadLemmas
 pub mod LengthLemmas
 pub mod FramingLemmas
+pub mod WantedLemmas
+pub mod MessageLemmas
 pub mod ReplyLemmas
 pub mod RoutingLemmas
 pub mod EachRequest
+pub mod EachPiece
+pub mod EachHead
+pub mod EachMessage
 pub mod QueryLemmas

@@ -4,12 +4,14 @@ use Rattle.std.specs.Str.{bytes_eq}
 use Rattle.tfs_http.specs.Query.{decoded, first_value}
 
 -- A pair with another name is passed over.
-pub other_pair : (name : List ℕ) (pairs rest : List (List ℕ × List ℕ)) (pair : List ℕ × List ℕ) → pairs ≡ pair ∷ rest → bytes_eq (decoded pair.0) name ≡ false → first_value name pairs ≡ first_value name rest
+pub other_pair : (name : List ℕ) (pairs rest : List (List ℕ × List ℕ)) (pair : List ℕ × List ℕ) → pairs ≡ pair ∷ rest → bytes_eq (decoded pair.0) name ≡ false
+    → first_value name pairs ≡ first_value name rest
 unfolding first_value
 other_pair name pairs rest pair is other = ap (first_value name) is ∙ ap (λ b. cond b (Some (decoded pair.1)) (first_value name rest)) other
 
 -- A pair with the name gives its value.
-pub found_pair : (name : List ℕ) (pairs rest : List (List ℕ × List ℕ)) (pair : List ℕ × List ℕ) → pairs ≡ pair ∷ rest → bytes_eq (decoded pair.0) name ≡ true → first_value name pairs ≡ Some (decoded pair.1)
+pub found_pair : (name : List ℕ) (pairs rest : List (List ℕ × List ℕ)) (pair : List ℕ × List ℕ) → pairs ≡ pair ∷ rest → bytes_eq (decoded pair.0) name ≡ true
+    → first_value name pairs ≡ Some (decoded pair.1)
 unfolding first_value
 found_pair name pairs rest pair is same = ap (first_value name) is ∙ ap (λ b. cond b (Some (decoded pair.1)) (first_value name rest)) same
 

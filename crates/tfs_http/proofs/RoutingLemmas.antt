@@ -1,5 +1,7 @@
 -- Laws of routing: the paths that the one route matches are those of a state.
-use Rattle.std.proofs.Common.{◌≡◌, ◌≢◌, ◌<◌, ◌≤◌, ◌-◌, ◌==◌, ℕ, zero, suc, List, [], ◌∷◌, ◌++◌, length, take, drop, get_or, cond, nat_eq, Bool, true, false, Option, Some, None, Bor, MatchOption, IfSome, IfNone, Contains, codes, refl, sym, ◌∙◌, ap, subst, arith, rules, take-append-drop, length-append, Fits, w8}
+use Rattle.std.proofs.Common.{◌≡◌, ◌≢◌, ◌<◌, ◌≤◌, ◌-◌, ◌==◌, ℕ, zero, suc, List, [], ◌∷◌, ◌++◌, length, take, drop, get_or, cond, nat_eq, Bool, true}
+use Rattle.std.proofs.Common.{false, Option, Some, None, Bor, MatchOption, IfSome, IfNone, Contains, codes, refl, sym, ◌∙◌, ap, subst, arith, rules}
+use Rattle.std.proofs.Common.{take-append-drop, length-append, Fits, w8}
 use Rattle.std.proofs.lemmas.Bool.{eqb-true, lt-ltb, le-leb}
 use Rattle.std.proofs.lemmas.Bool.Decides.{nat_tests}
 use Rattle.std.proofs.lemmas.List.{take_all}
@@ -82,7 +84,8 @@ pub front_joined : (front rest : List ℕ) → starts_with nat_eq (front ++ rest
 front_joined front rest = rw (take-append_seam front rest) (same_text-self front)
 
 -- Behind that text the walk goes on at the rest.
-left_behind : (front rest : List ℕ) → cond (starts_with nat_eq (front ++ rest) front) (first name_rows (drop (length front) (front ++ rest))) None ≡ first name_rows rest
+left_behind : (front rest : List ℕ) → cond (starts_with nat_eq (front ++ rest) front)
+    (first name_rows (drop (length front) (front ++ rest))) None ≡ first name_rows rest
 left_behind front rest = rw (front_joined front rest, drop-append_seam front rest) refl
 
 -- What the one route answers to a path.
@@ -90,7 +93,8 @@ abbrev to_route : ℕ → RouteOf Methods
 to_route key = state_route
 
 -- It answers where `/state/` comes first and a parameter takes the rest.
-first_of_routes : (path : List ℕ) → first state_routes path ≡ map_key to_route (cond (starts_with nat_eq path prefix) (first name_rows (drop (length prefix) path)) None)
+first_of_routes : (path : List ℕ) → first state_routes path ≡ map_key to_route
+    (cond (starts_with nat_eq path prefix) (first name_rows (drop (length prefix) path)) None)
 first_of_routes path = first-rename to_route (prepend prefix name_rows) path ∙ ap (map_key to_route) (first-prefix prefix name_rows path is_text)
 
 -- What each byte of a path fits.
@@ -122,7 +126,8 @@ pub record Matched (path : List ℕ) (route : RouteOf Methods) : Type 0 where
   pub is_route : route ≡ state_route
 
 -- The same where the path starts with `/state/`.
-matched_rest : (path rest : List ℕ) (route : RouteOf Methods) → path ≡ prefix ++ drop 7 path → drop 7 path ≡ rest → get_or rest 0 0 < 256 → map_key to_route (first name_rows rest) ≡ Some route → Matched path route
+matched_rest : (path rest : List ℕ) (route : RouteOf Methods) → path ≡ prefix ++ drop 7 path → drop 7 path ≡ rest → get_or rest 0 0 < 256
+    → map_key to_route (first name_rows rest) ≡ Some route → Matched path route
 unfolding seek
 matched_rest path [] route parts is small q = absurd (cc)
 matched_rest path (b ∷ rest) route parts is small q = by (has_slash (b ∷ rest)) refl (ap (map_key to_route) (sym (takes_rest b rest small)) ∙ q)
@@ -138,6 +143,7 @@ matched_rest path (b ∷ rest) route parts is small q = by (has_slash (b ∷ res
       is_route = cc;
     }
 
+-- A path that has a route is the path of a state.
 pub matched_is_state_path : (path : List ℕ) (route : RouteOf Methods) → AreBytes path → first state_routes path ≡ Some route → Matched path route
 matched_is_state_path path route bytes found = by (starts_with nat_eq path prefix) refl (sym (first_of_routes path) ∙ found)
   where
@@ -149,7 +155,15 @@ matched_is_state_path path route bytes found = by (starts_with nat_eq path prefi
 
 -- Seven places on from the start.
 seven_on : (len : ℕ) → 7 ≤ len → next_at len (next_at len (next_at len (next_at len (next_at len (next_at len (next_at len 0)))))) ≡ 7
-seven_on len long = simp (lt-ltb 0 len (omega arith), lt-ltb 1 len (omega arith), lt-ltb 2 len (omega arith), lt-ltb 3 len (omega arith), lt-ltb 4 len (omega arith), lt-ltb 5 len (omega arith), lt-ltb 6 len (omega arith)) refl
+seven_on len long = simp (
+  lt-ltb 0 len (omega arith),
+  lt-ltb 1 len (omega arith),
+  lt-ltb 2 len (omega arith),
+  lt-ltb 3 len (omega arith),
+  lt-ltb 4 len (omega arith),
+  lt-ltb 5 len (omega arith),
+  lt-ltb 6 len (omega arith),
+) refl
 
 -- From the end of a front to the end of all there is the rest.
 rest_taken : (front rest : List ℕ) → part_of (front ++ rest) (length front) (length (front ++ rest)) ≡ rest
@@ -163,7 +177,8 @@ rest_taken front rest =
 name_taken : (path part : List ℕ) → path ≡ prefix ++ part → walk state_route.pattern state_route.text path state_route.names 0 0 ≡ (codes "name", part) ∷ []
 name_taken path part parts =
     let size = ap length parts ∙ length-append prefix part in
-    rw (seven_on (length path) (omega arith)) (ap (λ t. (codes "name", part_of t 7 (length t)) ∷ []) parts ∙ ap (λ t. (codes "name", t) ∷ []) (rest_taken prefix part))
+    rw (seven_on (length path) (omega arith))
+    (ap (λ t. (codes "name", part_of t 7 (length t)) ∷ []) parts ∙ ap (λ t. (codes "name", t) ∷ []) (rest_taken prefix part))
 
 -- What stands behind `/state/` in a text is a text.
 rest_is_text : (path part : List ℕ) → path ≡ prefix ++ part → IsUtf8 path → IsUtf8 (drop 7 path)
@@ -172,36 +187,47 @@ rest_is_text path part parts text =
     let seventh : get_or path 6 0 ≡ 47 = ap (λ t. get_or t 6 0) parts in
     IsUtf8-drop path 7 text (IsCharBoundary-after_ascii path 6 text (omega arith) (omega arith))
 
+-- What is got for `name` is what it took, or none where it took nothing.
+abbrev GivesName : Option (Bor (List ℕ)) → List (List ℕ × List ℕ) → Type 0
+GivesName r taken = MatchOption r (named (codes "name") taken ≡ None) (λ part. named (codes "name") taken ≡ Some part.now)
+
 -- What `name` took of a path that has a route.
-part_taken : (r : Option (Bor (List ℕ))) (path taken pattern text : List ℕ) (names : List (ℕ × ℕ)) (value : Methods) (rows : RowsOf (RouteOf Methods)) → rows ≡ state_routes → AreBytes path → IsUtf8 path → taken ≡ path
+part_taken : (r : Option (Bor (List ℕ))) (path taken pattern text : List ℕ) (names : List (ℕ × ℕ)) (value : Methods) (rows : RowsOf (RouteOf Methods))
+    → rows ≡ state_routes → AreBytes path → IsUtf8 path → taken ≡ path
     → first rows path ≡ Some (record { pattern = pattern; text = text; names = names; value = value })
-    → (AllText (walk pattern text taken names 0 0) → MatchOption r (named (codes "name") (walk pattern text taken names 0 0) ≡ None) (λ part. named (codes "name") (walk pattern text taken names 0 0) ≡ Some part.now))
+    → (AllText (walk pattern text taken names 0 0) → GivesName r (walk pattern text taken names 0 0))
     → IsStatePath path (drop 7 path) × MatchOption r ⊥ (λ part. part.now ≡ drop 7 path)
 part_taken r path taken pattern text names value rows one bytes utf8 same found gives =
-    let m = matched_is_state_path path (record { pattern = pattern; text = text; names = names; value = value }) bytes (ap (λ t. first t path) (sym one) ∙ found) in
+    let m = matched_is_state_path path (record { pattern = pattern; text = text; names = names; value = value }) bytes
+    (ap (λ t. first t path) (sym one) ∙ found) in
     let list : walk pattern text taken names 0 0 ≡ (codes "name", drop 7 path) ∷ [] =
-    ap (λ t. walk t.pattern t.text taken t.names 0 0) m.is_route ∙ ap (λ t. walk state_route.pattern state_route.text t state_route.names 0 0) same ∙ name_taken path (drop 7 path) m.is_path.parts in (
+    ap (λ t. walk t.pattern t.text taken t.names 0 0) m.is_route ∙ ap (λ t. walk state_route.pattern state_route.text t state_route.names 0 0) same
+    ∙ name_taken path (drop 7 path) m.is_path.parts in (
       m.is_path,
-      by r (subst (λ l. AllText l → MatchOption r (named (codes "name") l ≡ None) (λ part. named (codes "name") l ≡ Some part.now)) list gives
+      by r (subst (λ l. AllText l → GivesName r l) list gives
           (IsUtf8-from_ascii (codes "name") (search rules), rest_is_text path (drop 7 path) m.is_path.parts utf8, tt)),
     )
   where
-    by : (o : Option (Bor (List ℕ))) → MatchOption o (Some (drop 7 path) ≡ None) (λ part. Some (drop 7 path) ≡ Some part.now) → MatchOption o ⊥ (λ part. part.now ≡ drop 7 path)
+    by : (o : Option (Bor (List ℕ))) → MatchOption o (Some (drop 7 path) ≡ None) (λ part. Some (drop 7 path) ≡ Some part.now)
+        → MatchOption o ⊥ (λ part. part.now ≡ drop 7 path)
     by None e = cc
     by (Some part) e = cc
 
 -- So what is got for `name` is the part, and there is one.
-pub part_found : (r : Option (Bor (List ℕ))) (path taken pattern text : List ℕ) (names : List (ℕ × ℕ)) (value : Methods) (rows : RowsOf (RouteOf Methods)) → rows ≡ state_routes → AreBytes path → IsUtf8 path → taken ≡ path
+pub part_found : (r : Option (Bor (List ℕ))) (path taken pattern text : List ℕ) (names : List (ℕ × ℕ)) (value : Methods) (rows : RowsOf (RouteOf Methods))
+    → rows ≡ state_routes → AreBytes path → IsUtf8 path → taken ≡ path
     → first rows path ≡ Some (record { pattern = pattern; text = text; names = names; value = value })
-    → (AllText (walk pattern text taken names 0 0) → MatchOption r (named (codes "name") (walk pattern text taken names 0 0) ≡ None) (λ part. named (codes "name") (walk pattern text taken names 0 0) ≡ Some part.now))
+    → (AllText (walk pattern text taken names 0 0) → GivesName r (walk pattern text taken names 0 0))
     → IfSome r (λ part. IsStatePath path part.now) × IfNone r ((part : List ℕ) → ¬ (IsStatePath path part))
 part_found r path taken pattern text names value rows one bytes utf8 same found gives =
     let p = part_taken r path taken pattern text names value rows one bytes utf8 same found gives in by r p.0 p.1
   where
-    by : (o : Option (Bor (List ℕ))) → IsStatePath path (drop 7 path) → MatchOption o ⊥ (λ part. part.now ≡ drop 7 path) → IfSome o (λ part. IsStatePath path part.now) × IfNone o ((part : List ℕ) → ¬ (IsStatePath path part))
+    by : (o : Option (Bor (List ℕ))) → IsStatePath path (drop 7 path) → MatchOption o ⊥ (λ part. part.now ≡ drop 7 path)
+        → IfSome o (λ part. IsStatePath path part.now) × IfNone o ((part : List ℕ) → ¬ (IsStatePath path part))
     by None p e = absurd e
     by (Some part) p e = (subst (IsStatePath path) (sym e) p, tt)
 
 -- Where nothing matches the path is the one of no state.
-pub none_matches : (path : List ℕ) (rows : RowsOf (RouteOf Methods)) → rows ≡ state_routes → AreBytes path → first rows path ≡ None → (part : List ℕ) → ¬ (IsStatePath path part)
+pub none_matches : (path : List ℕ) (rows : RowsOf (RouteOf Methods)) → rows ≡ state_routes → AreBytes path → first rows path ≡ None → (part : List ℕ)
+    → ¬ (IsStatePath path part)
 none_matches path rows one bytes none part p = cc (ap (λ t. first t path) one, none, state_path_matches path part bytes p)

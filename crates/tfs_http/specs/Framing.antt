@@ -1,6 +1,7 @@
 -- Message framing (RFC 9112, sections 2.2, 3, 5 and 6.2): with which message a list of bytes begins, why it is refused, or
 -- that more bytes are needed.
-use Rattle.std.specs.Prelude.{◌≡◌, ℕ, ◌+◌, ◌≤◌, ◌<◌, ◌⊎◌, ◌==◌, ◌&&◌, nat_lt, nat_le, List, [], ◌∷◌, ◌++◌, length, map, filter, count_by, codes, if◌then◌else◌, Result, Ok, Err}
+use Rattle.std.specs.Prelude.{◌≡◌, ℕ, ◌+◌, ◌≤◌, ◌<◌, ◌⊎◌, ◌==◌, ◌&&◌, nat_lt, nat_le, List, [], ◌∷◌, ◌++◌, length, map, filter, count_by, codes}
+use Rattle.std.specs.Prelude.{if◌then◌else◌, Result, Ok, Err}
 use Rattle.std.specs.List.{list_all}
 use Rattle.std.specs.Char.{to_ascii_lowercase, is_ascii_digit}
 use Rattle.std.specs.Str.{bytes_eq}
@@ -35,9 +36,11 @@ pub record HasHead (bytes : List ℕ) (skipped : List LineEnd) (head rest : List
   pub is_head : IsMessageHead head
   pub size : length (print_blank skipped) + length head ≤ 16384
 
+-- No head ends in the first 16,384 bytes.
 abbrev pub HasNoHead : List ℕ → Type 0
 HasNoHead bytes = (skipped : List LineEnd) (head rest : List ℕ) → ¬ (HasHead bytes skipped head rest)
 
+-- How many line feeds there are.
 abbrev pub line_feeds : List ℕ → ℕ
 line_feeds bytes = count_by (λ byte. byte == line_feed) bytes
 

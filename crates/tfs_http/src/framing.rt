@@ -1,10 +1,11 @@
 //! Where a message ends (RFC 9112, sections 2.2, 3, 5 and 6.2).
 
-ghost use Rattle.std.specs.Prelude.{◌≡◌, ◌==◌, count_by, IfOk, IfErr, IfSome, IfNone};
+ghost use Rattle.std.specs.Prelude.{◌≡◌, ◌==◌, ℕ, count_by, IfOk, IfErr, OnErr, IfSome, IfNone};
 ghost use Rattle.httparse.specs.Ascii.{line_feed};
 ghost use Rattle.httparse.specs.Grammar.{RequestHead};
 ghost use Rattle.httparse.specs.Spans.{IsRequestAt, IsRequestWithin, span_bytes};
-ghost use Rattle.tfs_http.specs.Framing.{IsHeadOf, ReadsHead, IsHeadRefused, Frames, FramesOrWants, line_feeds};
+ghost use Rattle.tfs_http.specs.Framing.{IsHeadOf, ReadsHead, IsHeadRefused, BeginsWith, Frames, FramesOrWants, line_feeds};
+ghost use Rattle.tfs_http.specs.Request.{RequestValue};
 
 use crate::head::find_head;
 use crate::length::body_length;
@@ -19,7 +20,8 @@ use tfs_table::Refusal;
 /// What the bytes begin with: a message with its length, its refusal, or neither yet. The answer to a message's own bytes
 /// is that message, whatever comes behind it.
 pub fn take(alloc: Global, bytes: &[u8]) -> Result<Take, AllocError>
-    ensures { IfOk result (Frames bytes.now) }
+    ensures ok { IfOk result (Frames bytes.now) }
+    ensures memory { OnErr result ((request : RequestValue) × (used : ℕ) × BeginsWith bytes.now request used) }
 {
     match frame(alloc, bytes)? {
         Framed::Want(_) => Ok(Take::Need),
@@ -30,7 +32,8 @@ pub fn take(alloc: Global, bytes: &[u8]) -> Result<Take, AllocError>
 
 /// What [`take`] tells, with how many bytes are wanted where more are needed.
 pub fn frame(alloc: Global, bytes: &[u8]) -> Result<Framed, AllocError>
-    ensures { IfOk result (FramesOrWants bytes.now) }
+    ensures ok { IfOk result (FramesOrWants bytes.now) }
+    ensures memory { OnErr result ((request : RequestValue) × (used : ℕ) × BeginsWith bytes.now request used) }
 {
     let Some((head, rest)) = find_head(bytes) else {
         if bytes.len() < MAX_HEAD_BYTES {

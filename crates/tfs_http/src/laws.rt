@@ -1,16 +1,20 @@
-//! Laws of framing and routing, which hold of all bytes and of all requests.
+//! Laws of framing, routing and replies, which hold of all bytes, all requests and all replies.
 
-ghost use Rattle.std.specs.Prelude.{◌≡◌, ◌≢◌, ℕ, List, ◌++◌, Result};
+ghost use Rattle.std.specs.Prelude.{◌≡◌, ◌≢◌, ℕ, List, [], ◌++◌, Result};
 ghost use Rattle.tfs_http.specs.Framing.{Frames, IsUnfinished};
 ghost use Rattle.tfs_table.specs.declared.call.Call.{Call};
 ghost use Rattle.tfs_table.specs.declared.refusal.Refusal.{Refusal};
 ghost use Rattle.tfs_http.specs.Request.{RequestValue};
 ghost use Rattle.tfs_http.specs.Routing.{RoutesTo};
+ghost use Rattle.tfs_http.specs.ReplyText.{phrase_of, status_of};
+ghost use Rattle.tfs_table.specs.Reply.{ReplyValue};
 ghost use Rattle.tfs_http.specs.declared.taken.Take.{Take};
 ghost use Rattle.tfs_http.specs.declared.taken.Take.TheVariants.{Need};
 
-/// Bytes begin with one thing alone, and a message or a refusal stays whatever bytes follow.
+/// Bytes begin with a message, or are refused, or neither yet; with one of these alone; and a message or a refusal stays
+/// whatever bytes follow.
 pub fn what_bytes_begin_with_is_one_thing_and_stays()
+    ensures each { (bytes : List ℕ) → (t : Take) × Frames bytes t }
     ensures once { (bytes : List ℕ) (t u : Take) → Frames bytes t → Frames bytes u → t ≡ u }
     ensures stays { (bytes more : List ℕ) (t : Take) → t ≢ Need → Frames bytes t
         → Frames (bytes ++ more) t }
@@ -20,4 +24,9 @@ pub fn what_bytes_begin_with_is_one_thing_and_stays()
 pub fn what_becomes_of_a_request_is_one_thing()
     ensures each { (r : RequestValue) → (x : Result Call Refusal) × RoutesTo r x }
     ensures once { (r : RequestValue) (x y : Result Call Refusal) → RoutesTo r x → RoutesTo r y → x ≡ y }
+{}
+
+/// The status of each reply has a phrase.
+pub fn each_status_has_its_phrase()
+    ensures phrase { (reply : ReplyValue) → phrase_of (status_of reply) ≢ [] }
 {}

@@ -19,7 +19,8 @@ mod tests;
 pub use form::Form;
 pub use framing::{frame, take};
 pub use laws::{
-    what_becomes_of_a_request_is_one_thing, what_bytes_begin_with_is_one_thing_and_stays,
+    each_status_has_its_phrase, what_becomes_of_a_request_is_one_thing,
+    what_bytes_begin_with_is_one_thing_and_stays,
 };
 pub use limits::{MAX_BODY_BYTES, MAX_FIELDS, MAX_HEAD_BYTES, MAX_HEAD_LINES};
 pub use reply::write_reply;

@@ -44,35 +44,35 @@ impl Request {
 
     /// The method, byte for byte as it came (RFC 9110, section 9.1).
     pub fn method(&self) -> &[u8]
-        ensures { result.now ≡ self.now.method }
+        ensures value { result.now ≡ self.now.method }
     {
         self.method.as_slice()
     }
 
     /// The target, byte for byte as it came (RFC 9112, section 3.2).
     pub fn target(&self) -> &[u8]
-        ensures { result.now ≡ self.now.target }
+        ensures value { result.now ≡ self.now.target }
     {
         self.target.as_slice()
     }
 
     /// The body; empty where the request has none.
     pub fn body(&self) -> &[u8]
-        ensures { result.now ≡ self.now.body }
+        ensures value { result.now ≡ self.now.body }
     {
         self.body.as_slice()
     }
 
     /// The body, given out without taking memory.
     pub fn into_body(self) -> Bytes
-        ensures { result ≡ self.body }
+        ensures value { result ≡ self.body }
     {
         Bytes::new(self.body)
     }
 
     /// The form that the request gives its reply.
     pub fn form(&self) -> Form
-        ensures { result ≡ form_of self.now }
+        ensures value { result ≡ form_of self.now }
     {
         Form {
             close: false,

@@ -39,7 +39,7 @@ impl Model for Routes {
 impl Routes {
     /// The routes, or an error where a request for memory is refused: nothing else is wrong with the route.
     pub fn new(alloc: Global) -> Result<Routes, AllocError>
-        ensures { IfOk result (λ routes. routes ≡ state_routes) }
+        ensures ok { IfOk result (λ routes. routes ≡ state_routes) }
     {
         let mut router = Router::new(alloc);
         match router.insert("/state/{name}", Methods::State) {
@@ -60,11 +60,13 @@ impl Routes {
     }
 }
 
-/// The call of a request, or its first refusal in the order of their numbers, but for `OutOfMemory`, which comes wherever
-/// a request for memory is refused.
+/// The call of a request, or its first refusal in the order of their numbers. Memory is asked for only where the target is
+/// that of a state and the method is one of a state's; where it is refused, so is the request, with `OutOfMemory`.
 pub fn call_of(alloc: Global, routes: &Routes, request: Request) -> Result<Call, Refusal>
     ensures ok { IfOk result (HasCall request) }
     ensures err { IfErr result (λ refusal. refusal ≢ OutOfMemory → routing_refusal request refusal) }
+    ensures memory { IfErr result (λ refusal. refusal ≡ OutOfMemory
+        → (part : List ℕ) × NamesState request.target part × IsStateMethod request.method) }
 {
     let Some((target, part)) = named_state(routes, request.target()) else {
         return Err(Refusal::NoRoute);
@@ -130,6 +132,7 @@ fn method_of(text: &[u8]) -> Option<Method>
     ensures delete { IfSome result (λ method. method ≡ Method.Delete → text.now ≡ codes "DELETE") }
     ensures lock { IfSome result (λ method. method ≡ Method.Lock → text.now ≡ codes "LOCK") }
     ensures unlock { IfSome result (λ method. method ≡ Method.Unlock → text.now ≡ codes "UNLOCK") }
+    ensures known { IfSome result (λ method. IsStateMethod text.now) }
     ensures absent { IfNone result (¬ (IsStateMethod text.now)) }
 {
     match text {

@@ -1,87 +1,39 @@
 -- Laws of conversations: one more read, one more message, and each way to end.
-use Rattle.std.proofs.Common.{◌≡◌, suc, ◌≤◌, ◌<◌, ◌+◌, ◌*◌, ◌-◌, ◌⊎◌, ℕ, List, [], ◌∷◌, ◌++◌, length, drop, Bool, true, false, ◌&&◌, nat_le, nat_lt, cond, Option, Ok, Err, refl, sym, ◌∙◌, ap, subst, arith, inl, inr, append_assoc, append-nil, length-append, map, codes}
-use Rattle.std.specs.List.{list_all}
-use Rattle.std.specs.Char.{is_ascii_digit}
-use Rattle.std.specs.Str.Parse.{digits_value}
+use Rattle.std.proofs.Common.{◌≡◌, ◌<◌, ◌⊎◌, ℕ, List, [], ◌∷◌, ◌++◌, length, drop, Option, refl, sym, ◌∙◌, ap, subst, inl, inr}
+use Rattle.std.proofs.Common.{append_assoc, append-nil}
 use Rattle.std.specs.Io.KnownBytes.{Appends, Consumes, IsAtEnd}
-use Rattle.std.proofs.Math.Seq.{drop-append_seam}
-use Rattle.std.proofs.lemmas.Bool.{leb-true}
-use Rattle.httparse.specs.Ascii.{line_feed}
-use Rattle.httparse.specs.Grammar.{LineEnd, print_end, print_blank}
-use Rattle.httparse.specs.Spans.{name_and_value}
 use Rattle.tfs_table.specs.declared.call.Call.{Call}
-use Rattle.tfs_table.specs.declared.call.Call.TheVariants.{Read, Change}
-use Rattle.tfs_table.specs.declared.call.Raw.TheVariants.{Lock, Unlock, Push, Delete}
 use Rattle.tfs_table.specs.declared.reply.Reply.{Reply}
 use Rattle.tfs_table.specs.declared.refusal.Refusal.{Refusal}
-use Rattle.tfs_table.specs.declared.refusal.Refusal.TheVariants.{BadLength, BodyTooLarge}
 use Rattle.tfs_table.specs.Refusal.{refusal_value}
 use Rattle.tfs_table.specs.Reply.{ReplyValue, refused}
 use Rattle.tfs_http.specs.Request.{RequestValue}
 use Rattle.tfs_http.specs.Form.{form_of}
-use Rattle.tfs_http.specs.Framing.{length_of_text, length_told, values_named, ReadsMessage, BeginsWith, AreWanted, IsUnfinished, framing_refusal}
-use Rattle.tfs_http.specs.Routing.{HasCall, HasChange}
+use Rattle.tfs_http.specs.Framing.{BeginsWith, AreWanted, IsUnfinished, framing_refusal}
 use Rattle.tfs_http.specs.ReplyText.{reply_text}
-use Rattle.tfs_table.specs.Draft.{CarriesFittingState}
-use Rattle.tfs_serve.specs.Conversation.{AnswersRequest, Exchange, Serves, Ends, IsReadThrough, ComesAt, closing_form}
-use Rattle.tfs_serve.specs.Turns.{WritesPart, Went, HasEnded, HasBroken, work_left}
+use Rattle.tfs_http.proofs.MessageLemmas.{rest_behind}
+use Rattle.tfs_serve.specs.Conversation.{AnswersRequest, Exchange, Serves, Ends, IsReadThrough, ComesInReads, Leaves, MayGoOn}
+use Rattle.tfs_serve.specs.Conversation.{closing_form}
+use Rattle.tfs_serve.specs.Turns.{WritesPart, FailsReading, Moment, moment, Moved, Went, HasEnded, HasBroken}
 use Rattle.tfs_serve.specs.declared.fault.ServeFault.{ServeFault}
-use Rattle.tfs_serve.specs.declared.fault.ServeFault.TheVariants.{Read as ReadFault, Write, TooManyReads, NoMemory}
+use Rattle.tfs_serve.specs.declared.fault.ServeFault.TheVariants.{NoMemory}
 use Rattle.tfs_serve.specs.declared.ended.Ended.{Ended}
 use Rattle.tfs_serve.specs.declared.ended.Ended.TheVariants.{Clean, Cut, Refused}
-use Rattle.tfs_serve.proofs.IoLemmas.{appends_more, consumes_more, appends_nothing, consumes_nothing}
+use Rattle.tfs_serve.proofs.IoLemmas.{appends_more, consumes_more, appends_nothing, consumes_nothing, comes_more, comes_nothing}
+use Rattle.tfs_serve.proofs.FaultLemmas.{comes_reading, comes_writing, comes_later, later}
 
--- ---- bodies fit
+-- Input that was unfinished, with what was read since, is unfinished while fewer bytes are there than are wanted.
+pub still_unfinished : (input left more : List ℕ) (wanted : ℕ) → left ≡ input ++ more → AreWanted input wanted → length left < wanted → IsUnfinished left
+still_unfinished input left more wanted is w short = subst IsUnfinished (sym is) (w.until more (subst (λ (t : List ℕ). length t < wanted) is short))
 
-text_fits : (text : List ℕ) (n : ℕ) → length_of_text text ≡ Ok n → n ≤ 16777216
-text_fits text n e = by_digits (nat_lt 0 (length text) && list_all is_ascii_digit text) e
-  where
-    by_size : (b : Bool) → nat_le (digits_value 10 text) 16777216 ≡ b → cond b (Ok (digits_value 10 text)) (Err BodyTooLarge) ≡ Ok n → n ≤ 16777216
-    by_size true t f = let same : digits_value 10 text ≡ n = cc in let small = leb-true (digits_value 10 text) 16777216 t in omega arith
-    by_size false t f = cc
-
-    by_digits : (b : Bool) → cond b (cond (nat_le (digits_value 10 text) 16777216) (Ok (digits_value 10 text)) (Err BodyTooLarge)) (Err BadLength) ≡ Ok n → n ≤ 16777216
-    by_digits true f = by_size (nat_le (digits_value 10 text) 16777216) refl f
-    by_digits false f = cc
-
--- A length that is told is of a body that fits.
-told_fits : (lengths codings : List (List ℕ)) (n : ℕ) → length_told lengths codings ≡ Ok n → n ≤ 16777216
-told_fits [] [] n e = let same : 0 ≡ n = cc in omega arith
-told_fits [] (coding ∷ codings) n e = cc
-told_fits (text ∷ []) [] n e = text_fits text n e
-told_fits (text ∷ other ∷ texts) [] n e = cc
-told_fits (text ∷ []) (coding ∷ codings) n e = cc
-told_fits (text ∷ other ∷ texts) (coding ∷ codings) n e = cc
-
--- A message's body has at most 16 MiB.
-pub body_fits : (bytes : List ℕ) (r : RequestValue) (used : ℕ) → BeginsWith bytes r used → length r.body ≤ 16777216
-body_fits bytes r used b =
-    let fields = map name_and_value b.reads.reads.h.fields in
-    told_fits (values_named (codes "content-length") fields) (values_named (codes "transfer-encoding") fields) (length r.body) b.reads.reads.body
-
--- The call of a request carries its body.
-pub call_fits : (r : RequestValue) (call : Call) → HasCall r call → length r.body ≤ 16777216 → CarriesFittingState call
-call_fits r (Read name) has fits = tt
-call_fits r (Change name (Push id body)) has fits =
-    let change : HasChange r (Push id body) = has.2 in
-    subst (λ (t : List ℕ). length t ≤ 16777216) (sym change.2) fits
-call_fits r (Change name (Delete id)) has fits = tt
-call_fits r (Change name (Lock body)) has fits = tt
-call_fits r (Change name (Unlock body id)) has fits = tt
-
--- ---- where faults come
-
-comes_between : (fault : ServeFault) (used : ℕ) → (fault ≡ TooManyReads → used ≡ 1048576) → ComesAt fault used [] []
-comes_between ReadFault used many = (refl, refl)
-comes_between Write used many = tt
-comes_between TooManyReads used many = (refl, refl, many refl)
-comes_between NoMemory used many = tt
-
-comes_writing : (fault : ServeFault) (used : ℕ) (last lost : List ℕ) → (fault ≡ Write) ⊎ (fault ≡ NoMemory) → ComesAt fault used last lost
-comes_writing fault used last lost (inl e) = subst (λ (f : ServeFault). ComesAt f used last lost) (sym e) tt
-comes_writing fault used last lost (inr e) = subst (λ (f : ServeFault). ComesAt f used last lost) (sym e) tt
-
--- ---- one more read, one more message, one more turn
+-- What was read and written in turn was read and written.
+pub moved_then : {S : Type 0} (a b c : Moment S) (bytes more text later : List ℕ) → Moved a b bytes text → Moved b c more later
+    → Moved a c (bytes ++ more) (text ++ later)
+moved_then a b c bytes more text later p q = record {
+  consumed = consumes_more a.reader b.reader c.reader bytes more p.consumed q.consumed;
+  appended = appends_more a.writer b.writer c.writer text later p.appended q.appended;
+  came = comes_more bytes more a.reads b.reads c.reads p.came q.came;
+}
 
 module _ {S : Type 0} (step : S → Call → Reply → S → Type 0) where
   -- What was served and what was served after it, with more bytes, was served.
@@ -103,117 +55,131 @@ module _ {S : Type 0} (step : S → Call → Reply → S → Type 0) where
     serves_then s.4 between new s.1 rest left s.6 later more xs ys s.8 t,
   )
 
+  -- The same from the moment at which a turn begins.
+  served_later : (a b : Moment S) (w : Went step a b) (new : S) (rest later more : List ℕ) (ys : List Exchange)
+      → Serves step b.desk (b.input ++ more) ys new rest later
+      → Serves step a.desk (a.input ++ (w.more ++ more)) (w.served.0 ++ ys) new rest (w.text ++ later)
+  served_later a b w new rest later more ys t =
+      subst (λ (bytes : List ℕ). Serves step a.desk bytes (w.served.0 ++ ys) new rest (w.text ++ later)) (append_assoc a.input w.more more)
+      (serves_then a.desk b.desk new (a.input ++ w.more) b.input rest w.text later more w.served.0 ys w.served.1 t)
+
   -- Two turns in a row.
-  pub went_then : (old between new : S) (from reader next into writer last : Option (List ℕ)) (input rest left : List ℕ)
-      → Went step old between from reader into writer input rest → Went step between new reader next writer last rest left → Went step old new from next into last input left
-  went_then old between new from reader next into writer last input rest left a b = record {
-    more = a.more ++ b.more;
-    text = a.text ++ b.text;
-    consumed = consumes_more from reader next a.more b.more a.consumed b.consumed;
-    appended = appends_more into writer last a.text b.text a.appended b.appended;
-    served = (
-      a.served.0 ++ b.served.0,
-      subst (λ (t : List ℕ). Serves step old t (a.served.0 ++ b.served.0) new left (a.text ++ b.text)) (append_assoc input a.more b.more)
-          (serves_then old between new (input ++ a.more) rest left a.text b.text b.more a.served.0 b.served.0 a.served.1 b.served.1),
-    );
+  pub went_then : (a b c : Moment S) → Went step a b → Went step b c → Went step a c
+  went_then a b c w v = record {
+    more = w.more ++ v.more;
+    text = w.text ++ v.text;
+    moved = moved_then a b c w.more v.more w.text v.text w.moved v.moved;
+    served = (w.served.0 ++ v.served.0, served_later a b w c.desk c.input v.text v.more v.served.0 v.served.1);
   }
 
-  pub went_then_ended : (old between new : S) (from reader next into writer last : Option (List ℕ)) (input rest : List ℕ) (ended : Ended)
-      → Went step old between from reader into writer input rest → HasEnded step between new reader next writer last rest ended → HasEnded step old new from next into last input ended
-  went_then_ended old between new from reader next into writer last input rest ended a b =
-      let c = b.converses in
+  -- A turn, and an end.
+  pub went_then_ended : (a b c : Moment S) (ended : Ended) → Went step a b → HasEnded step b c ended → HasEnded step a c ended
+  went_then_ended a b c ended w e =
+      let d = e.converses in
       record {
-        more = a.more ++ b.more;
-        text = a.text ++ b.text;
-        consumed = consumes_more from reader next a.more b.more a.consumed b.consumed;
-        appended = appends_more into writer last a.text b.text a.appended b.appended;
-        through = b.through;
+        more = w.more ++ e.more;
+        text = w.text ++ e.text;
+        moved = moved_then a b c w.more e.more w.text e.text w.moved e.moved;
+        through = e.through;
         converses = record {
-          rest = c.rest;
-          served = a.text ++ c.served;
-          last = c.last;
-          has_served = (
-            a.served.0 ++ c.has_served.0,
-            subst (λ (t : List ℕ). Serves step old t (a.served.0 ++ c.has_served.0) new c.rest (a.text ++ c.served)) (append_assoc input a.more b.more)
-                (serves_then old between new (input ++ a.more) rest c.rest a.text c.served b.more a.served.0 c.has_served.0 a.served.1 c.has_served.1),
-          );
-          ends = c.ends;
-          whole = ap (λ t. a.text ++ t) c.whole ∙ sym (append_assoc a.text c.served c.last);
+          rest = d.rest;
+          served = w.text ++ d.served;
+          last = d.last;
+          has_served = (w.served.0 ++ d.has_served.0, served_later a b w c.desk d.rest d.served e.more d.has_served.0 d.has_served.1);
+          ends = d.ends;
+          whole = ap (λ t. w.text ++ t) d.whole ∙ sym (append_assoc w.text d.served d.last);
         };
       }
 
-  pub went_then_broken : (old between new : S) (from reader next into writer last : Option (List ℕ)) (input rest : List ℕ) (fault : ServeFault) (used : ℕ)
-      → Went step old between from reader into writer input rest → HasBroken step between new reader next writer last rest fault used → HasBroken step old new from next into last input fault used
-  went_then_broken old between new from reader next into writer last input rest fault used a b =
-      let c = b.breaks in
+  -- A turn, and a fault.
+  pub went_then_broken : (a b c : Moment S) (fault : ServeFault) → Went step a b → HasBroken step b c fault → HasBroken step a c fault
+  went_then_broken a b c fault w e =
+      let d = e.breaks in
       record {
-        more = a.more ++ b.more;
-        text = a.text ++ b.text;
-        consumed = consumes_more from reader next a.more b.more a.consumed b.consumed;
-        appended = appends_more into writer last a.text b.text a.appended b.appended;
+        more = w.more ++ e.more;
+        text = w.text ++ e.text;
+        moved = moved_then a b c w.more e.more w.text e.text w.moved e.moved;
         breaks = record {
-          rest = c.rest;
-          served = a.text ++ c.served;
-          last = c.last;
-          lost = c.lost;
-          has_served = (
-            a.served.0 ++ c.has_served.0,
-            subst (λ (t : List ℕ). Serves step old t (a.served.0 ++ c.has_served.0) new c.rest (a.text ++ c.served)) (append_assoc input a.more b.more)
-                (serves_then old between new (input ++ a.more) rest c.rest a.text c.served b.more a.served.0 c.has_served.0 a.served.1 c.has_served.1),
-          );
-          end = c.end;
-          comes_at = c.comes_at;
-          prefix = append_assoc a.text c.served c.last ∙ ap (λ t. a.text ++ t) c.prefix ∙ sym (append_assoc a.text b.text c.lost);
+          left = later w.served.0 d.left;
+          served = w.text ++ d.served;
+          serves = served_later a b w c.desk d.left.rest d.served e.more d.left.exchanges d.serves;
+          end = d.end;
+          prefix = append_assoc w.text d.served d.left.last ∙ ap (λ t. w.text ++ t) d.prefix ∙ sym (append_assoc w.text e.text d.left.lost);
+          comes_at = comes_later fault w.served.0 d.left a.reads b.reads c.reads w.moved.came.counted d.comes_at;
         };
       }
 
   -- ---- the turns
 
-  -- No turn yet.
-  pub went_nowhere : (old : S) (reader writer : Option (List ℕ)) (input : List ℕ) → Went step old old reader reader writer writer input input
-  went_nowhere old reader writer input = record {
-    more = [];
-    text = [];
+  -- Nothing was read or written yet.
+  moved_nowhere : (desk new : S) (reader writer : Option (List ℕ)) (reads : ℕ) (input left : List ℕ)
+      → Moved (moment desk reader writer reads input) (moment new reader writer reads left) [] []
+  moved_nowhere desk new reader writer reads input left = record {
     consumed = consumes_nothing reader;
     appended = appends_nothing writer;
-    served = ([], (append-nil input, refl, refl));
+    came = comes_nothing reads;
+  }
+
+  -- More was read, and nothing written.
+  moved_reading : (desk new : S) (from reader writer : Option (List ℕ)) (before after : ℕ) (input left more : List ℕ) → Consumes from reader more
+      → ComesInReads more before after → Moved (moment desk from writer before input) (moment new reader writer after left) more []
+  moved_reading desk new from reader writer before after input left more consumed came =
+      record { consumed = consumed; appended = appends_nothing writer; came = came }
+
+  -- A text was written, and nothing read.
+  moved_writing : (desk new : S) (reader into writer : Option (List ℕ)) (reads : ℕ) (input left text : List ℕ) → Appends into writer text
+      → Moved (moment desk reader into reads input) (moment new reader writer reads left) [] text
+  moved_writing desk new reader into writer reads input left text appended =
+      record { consumed = consumes_nothing reader; appended = appended; came = comes_nothing reads }
+
+  -- No turn yet.
+  pub went_nowhere : (a : Moment S) → Went step a a
+  went_nowhere a = record {
+    more = [];
+    text = [];
+    moved = moved_nowhere a.desk a.desk a.reader a.writer a.reads a.input a.input;
+    served = ([], (append-nil a.input, refl, refl));
   }
 
   -- More was read.
-  pub went_reading : (old : S) (from reader writer : Option (List ℕ)) (input left more : List ℕ) → left ≡ input ++ more → Consumes from reader more → Went step old old from reader writer writer input left
-  went_reading old from reader writer input left more is consumed = record {
+  pub went_reading : (desk : S) (from reader writer : Option (List ℕ)) (before after : ℕ) (input left more : List ℕ) → left ≡ input ++ more
+      → Consumes from reader more → ComesInReads more before after → Went step (moment desk from writer before input) (moment desk reader writer after left)
+  went_reading desk from reader writer before after input left more is consumed came = record {
     more = more;
     text = [];
-    consumed = consumed;
-    appended = appends_nothing writer;
+    moved = moved_reading desk desk from reader writer before after input left more consumed came;
     served = ([], (sym is, refl, refl));
   }
 
+  -- One exchange serves the bytes of its message.
+  serves_one : (old new : S) (input left : List ℕ) (r : RequestValue) (used : ℕ) (reply : ReplyValue) → BeginsWith input r used → left ≡ drop used input
+      → AnswersRequest step old r reply new
+      → Serves step old (input ++ []) (record { request = r; reply = reply } ∷ []) new left (reply_text reply (form_of r))
+  serves_one old new input left r used reply b is answers =
+      let rest : left ≡ b.rest = rest_behind input left r used b is in
+      (b.frame, b.rest, append-nil input ∙ b.parts, b.reads, new, answers, [], sym (append-nil (reply_text reply (form_of r))), (sym rest, refl, refl))
+
   -- A message was answered.
-  pub went_answering : (old new : S) (reader into writer : Option (List ℕ)) (input left : List ℕ) (r : RequestValue) (used : ℕ) (reply : ReplyValue) → BeginsWith input r used → left ≡ drop used input
-      → AnswersRequest step old r reply new → Appends into writer (reply_text reply (form_of r)) → Went step old new reader reader into writer input left
-  went_answering old new reader into writer input left r used reply b is answers appended = record {
+  pub went_answering : (old new : S) (reader into writer : Option (List ℕ)) (reads : ℕ) (input left : List ℕ) (r : RequestValue) (used : ℕ)
+      (reply : ReplyValue)
+      → BeginsWith input r used → left ≡ drop used input → AnswersRequest step old r reply new → Appends into writer (reply_text reply (form_of r))
+      → Went step (moment old reader into reads input) (moment new reader writer reads left)
+  went_answering old new reader into writer reads input left r used reply b is answers appended = record {
     more = [];
     text = reply_text reply (form_of r);
-    consumed = consumes_nothing reader;
-    appended = appended;
-    served = (record { request = r; reply = reply } ∷ [], served_one old new input left r used reply b is answers);
+    moved = moved_writing old new reader into writer reads input left (reply_text reply (form_of r)) appended;
+    served = (record { request = r; reply = reply } ∷ [], serves_one old new input left r used reply b is answers);
   }
-    where
-      served_one : (old new : S) (input left : List ℕ) (r : RequestValue) (used : ℕ) (reply : ReplyValue) → BeginsWith input r used → left ≡ drop used input → AnswersRequest step old r reply new
-          → Serves step old (input ++ []) (record { request = r; reply = reply } ∷ []) new left (reply_text reply (form_of r))
-      served_one old new input left r used reply b is answers =
-          let rest : left ≡ b.rest = is ∙ ap (λ t. drop used t) b.parts ∙ ap (λ n. drop n (b.frame ++ b.rest)) (sym b.used_is) ∙ drop-append_seam b.frame b.rest in
-          (b.frame, b.rest, append-nil input ∙ b.parts, b.reads, new, answers, [], sym (append-nil (reply_text reply (form_of r))), (sym rest, refl, refl))
 
   -- The input ended.
-  pub ended_with_input : (old : S) (from reader writer : Option (List ℕ)) (input left more : List ℕ) (wanted : ℕ) (ended : Ended) → left ≡ input ++ more → Consumes from reader more
-      → AreWanted input wanted → length left < wanted → IsAtEnd reader → ((ended ≡ Clean) × (left ≡ [])) ⊎ ((ended ≡ Cut) × ¬ (left ≡ [])) → HasEnded step old old from reader writer writer input ended
-  ended_with_input old from reader writer input left more wanted ended is consumed w short at_end how = record {
+  pub ended_with_input : (desk : S) (from reader writer : Option (List ℕ)) (before after : ℕ) (input left more : List ℕ) (wanted : ℕ) (ended : Ended)
+      → left ≡ input ++ more → Consumes from reader more → ComesInReads more before after → AreWanted input wanted → length left < wanted → IsAtEnd reader
+      → ((ended ≡ Clean) × (left ≡ [])) ⊎ ((ended ≡ Cut) × ¬ (left ≡ []))
+      → HasEnded step (moment desk from writer before input) (moment desk reader writer after left) ended
+  ended_with_input desk from reader writer before after input left more wanted ended is consumed came w short at_end how = record {
     more = more;
     text = [];
-    consumed = consumed;
-    appended = appends_nothing writer;
+    moved = moved_reading desk desk from reader writer before after input left more consumed came;
     through = elim how [
       | inl p ↦ subst (λ (e : Ended). IsReadThrough e reader) (sym p.0) at_end
       | inr p ↦ subst (λ (e : Ended). IsReadThrough e reader) (sym p.0) at_end
@@ -226,19 +192,19 @@ module _ {S : Type 0} (step : S → Call → Reply → S → Type 0) where
       whole = refl;
       ends = elim how [
         | inl p ↦ subst (Ends left []) (sym p.0) (p.1, refl)
-        | inr p ↦ subst (Ends left []) (sym p.0) (p.1, subst IsUnfinished (sym is) (w.until more (subst (λ (t : List ℕ). length t < wanted) is short)), refl)
+        | inr p ↦ subst (Ends left []) (sym p.0) (p.1, still_unfinished input left more wanted is w short, refl)
       ];
     };
   }
 
   -- A message was refused.
-  pub ended_refusing : (old : S) (reader into writer : Option (List ℕ)) (input : List ℕ) (refusal : Refusal) → framing_refusal input refusal
-      → Appends into writer (reply_text (refused (refusal_value refusal)) closing_form) → HasEnded step old old reader reader into writer input Refused
-  ended_refusing old reader into writer input refusal is appended = record {
+  pub ended_refusing : (desk : S) (reader into writer : Option (List ℕ)) (reads : ℕ) (input : List ℕ) (refusal : Refusal) → framing_refusal input refusal
+      → Appends into writer (reply_text (refused (refusal_value refusal)) closing_form)
+      → HasEnded step (moment desk reader into reads input) (moment desk reader writer reads input) Refused
+  ended_refusing desk reader into writer reads input refusal is appended = record {
     more = [];
     text = reply_text (refused (refusal_value refusal)) closing_form;
-    consumed = consumes_nothing reader;
-    appended = appended;
+    moved = moved_writing desk desk reader into writer reads input input (reply_text (refused (refusal_value refusal)) closing_form) appended;
     through = tt;
     converses = record {
       rest = input;
@@ -250,100 +216,80 @@ module _ {S : Type 0} (step : S → Call → Reply → S → Type 0) where
     };
   }
 
-  -- A fault between messages, after more was read.
-  pub broken_reading : (old : S) (from reader writer : Option (List ℕ)) (input more : List ℕ) (fault : ServeFault) (used : ℕ) → Consumes from reader more
-      → (fault ≡ TooManyReads → used ≡ 1048576) → HasBroken step old old from reader writer writer input fault used
-  broken_reading old from reader writer input more fault used consumed many = record {
+  -- A fault while more was read.
+  pub broken_reading : (desk : S) (from reader writer : Option (List ℕ)) (before after : ℕ) (input left more : List ℕ) (wanted : ℕ) (fault : ServeFault)
+      → left ≡ input ++ more → Consumes from reader more → ComesInReads more before after → AreWanted input wanted → length left < wanted
+      → FailsReading fault before after → HasBroken step (moment desk from writer before input) (moment desk reader writer after left) fault
+  broken_reading desk from reader writer before after input left more wanted fault is consumed came w short fails = record {
     more = more;
     text = [];
-    consumed = consumed;
-    appended = appends_nothing writer;
-    breaks = record { rest = input ++ more; served = []; last = []; lost = []; has_served = ([], (refl, refl, refl)); end = inl refl; prefix = refl; comes_at = comes_between fault used many };
+    moved = moved_reading desk desk from reader writer before after input left more consumed came;
+    breaks = record {
+      left = record { rest = left; exchanges = []; last = []; lost = [] };
+      served = [];
+      serves = (sym is, refl, refl);
+      end = inl refl;
+      prefix = refl;
+      comes_at = comes_reading fault left [] before after fails (still_unfinished input left more wanted is w short);
+    };
   }
 
   -- Want of memory between messages.
-  pub broken_at_once : (old : S) (reader writer : Option (List ℕ)) (input : List ℕ) (used : ℕ) → HasBroken step old old reader reader writer writer input NoMemory used
-  broken_at_once old reader writer input used = broken_reading old reader reader writer input [] NoMemory used (consumes_nothing reader) (λ e. cc)
+  pub broken_at_once : (a : Moment S) → MayGoOn a.input → HasBroken step a a NoMemory
+  broken_at_once a may = record {
+    more = [];
+    text = [];
+    moved = moved_nowhere a.desk a.desk a.reader a.writer a.reads a.input a.input;
+    breaks = record {
+      left = record { rest = a.input; exchanges = []; last = []; lost = [] };
+      served = [];
+      serves = (append-nil a.input, refl, refl);
+      end = inl refl;
+      prefix = refl;
+      comes_at = inl ((refl, refl), may);
+    };
+  }
 
   -- A fault while a reply was written.
-  pub broken_answering : (old new : S) (reader into writer : Option (List ℕ)) (input : List ℕ) (r : RequestValue) (used : ℕ) (reply : ReplyValue) (fault : ServeFault) (reads : ℕ) → BeginsWith input r used
-      → AnswersRequest step old r reply new → WritesPart into writer (reply_text reply (form_of r)) fault → HasBroken step old new reader reader into writer input fault reads
-  broken_answering old new reader into writer input r used reply fault reads b answers w = record {
-    more = [];
-    text = w.part;
-    consumed = consumes_nothing reader;
-    appended = w.appended;
-    breaks = record {
-      rest = b.rest;
-      served = reply_text reply (form_of r);
-      last = [];
-      lost = w.rest;
-      has_served = (
-        record { request = r; reply = reply } ∷ [],
-        (b.frame, b.rest, append-nil input ∙ b.parts, b.reads, new, answers, [], sym (append-nil (reply_text reply (form_of r))), (refl, refl, refl)),
-      );
-      end = inl refl;
-      comes_at = comes_writing fault reads [] w.rest w.one_of;
-      prefix = append-nil (reply_text reply (form_of r)) ∙ w.split;
-    };
-  }
+  pub broken_answering : (old new : S) (reader into writer : Option (List ℕ)) (reads : ℕ) (input left : List ℕ) (r : RequestValue) (used : ℕ)
+      (reply : ReplyValue)
+      (fault : ServeFault) → BeginsWith input r used → left ≡ drop used input → AnswersRequest step old r reply new
+      → WritesPart into writer (reply_text reply (form_of r)) fault → HasBroken step (moment old reader into reads input)
+      (moment new reader writer reads left) fault
+  broken_answering old new reader into writer reads input left r used reply fault b is answers w =
+      let x : Exchange = record { request = r; reply = reply } in
+      let l : Leaves = record { rest = left; exchanges = x ∷ []; last = []; lost = w.rest } in
+      record {
+        more = [];
+        text = w.part;
+        moved = moved_writing old new reader into writer reads input left w.part w.appended;
+        breaks = record {
+          left = l;
+          served = reply_text reply (form_of r);
+          serves = serves_one old new input left r used reply b is answers;
+          end = inl refl;
+          prefix = append-nil (reply_text reply (form_of r)) ∙ w.split;
+          comes_at = comes_writing fault l (reply_text reply (form_of r)) w.part reads reads (inr ([], x, refl, refl, refl)) w.split w.one_of;
+        };
+      }
 
-  pub broken_refusing : (old : S) (reader into writer : Option (List ℕ)) (input : List ℕ) (refusal : Refusal) (fault : ServeFault) (reads : ℕ) → framing_refusal input refusal
-      → WritesPart into writer (reply_text (refused (refusal_value refusal)) closing_form) fault → HasBroken step old old reader reader into writer input fault reads
-  broken_refusing old reader into writer input refusal fault reads is w = record {
-    more = [];
-    text = w.part;
-    consumed = consumes_nothing reader;
-    appended = w.appended;
-    breaks = record {
-      rest = input;
-      served = [];
-      last = reply_text (refused (refusal_value refusal)) closing_form;
-      lost = w.rest;
-      has_served = ([], (append-nil input, refl, refl));
-      end = inr (refusal, is, refl);
-      comes_at = comes_writing fault reads (reply_text (refused (refusal_value refusal)) closing_form) w.rest w.one_of;
-      prefix = w.split;
-    };
-  }
-
--- ---- the work that is left
-
--- A message has a byte at least.
-head_is_no_empty_text : (front text : List ℕ) (end : LineEnd) → text ≡ front ++ line_feed ∷ print_end end → 0 < length text
-head_is_no_empty_text front text end is =
-    let long : length text ≡ length front + suc (length (print_end end)) = ap (λ (t : List ℕ). length t) is ∙ length-append front (line_feed ∷ print_end end) in
-    omega arith
-
-pub frame_is_no_empty_text : (frame : List ℕ) (r : RequestValue) → ReadsMessage frame r → 0 < length frame
-frame_is_no_empty_text frame r m =
-    let some : 0 < length m.head = head_is_no_empty_text m.has_head.is_head.ends.0 m.head m.has_head.is_head.ends.1 m.has_head.is_head.ends.2 in
-    let long : length frame ≡ length (print_blank m.skipped) + length (m.head ++ r.body) = ap (λ (t : List ℕ). length t) m.has_head.parts ∙ length-append (print_blank m.skipped) (m.head ++ r.body) in
-    let parts : length (m.head ++ r.body) ≡ length m.head + length r.body = length-append m.head r.body in
-    omega arith
-
--- No bytes have no refusal.
-pub no_refusal_of_no_bytes : (refusal : Refusal) → framing_refusal [] refusal → ⊥
-no_refusal_of_no_bytes refusal (inl few) = omega (arith, few.0)
-no_refusal_of_no_bytes refusal (inr h) =
-    let ends = h.has_head.is_head.ends in
-    let some : 0 < length h.head = head_is_no_empty_text ends.0 h.head ends.1 ends.2 in
-    let long : 0 ≡ length (print_blank h.skipped) + length (h.head ++ h.rest) = ap (λ (t : List ℕ). length t) h.has_head.parts ∙ length-append (print_blank h.skipped) (h.head ++ h.rest) in
-    let parts : length (h.head ++ h.rest) ≡ length h.head + length h.rest = length-append h.head h.rest in
-    omega arith
-
-pub less_answering : (reads used : ℕ) (input left : List ℕ) (r : RequestValue) → BeginsWith input r used → left ≡ drop used input → work_left reads left < work_left reads input
-less_answering reads used input left r b is =
-    let rest : left ≡ b.rest = is ∙ ap (λ t. drop used t) b.parts ∙ ap (λ n. drop n (b.frame ++ b.rest)) (sym b.used_is) ∙ drop-append_seam b.frame b.rest in
-    let same : length left ≡ length b.rest = ap (λ (t : List ℕ). length t) rest in
-    let long : length input ≡ length b.frame + length b.rest = ap (λ (t : List ℕ). length t) b.parts ∙ length-append b.frame b.rest in
-    let some : 0 < length b.frame = frame_is_no_empty_text b.frame r b.reads in
-    by_sums ((1048576 - reads) * (65536 + 1)) (length left) (length input) (omega arith)
-  where
-    by_sums : (a m n : ℕ) → m < n → a + m < a + n
-    by_sums a m n l = omega arith
-
--- A read counts for more than a piece.
-pub less_reading : (before after : ℕ) (input left : List ℕ) → before < after → after ≤ 1048576 → length left + 65536 * before ≤ length input + 65536 * after
-    → work_left after left < work_left before input
-less_reading before after input left one most pace = omega arith
+  -- A fault while the refusal was written that was to end the conversation.
+  pub broken_refusing : (desk : S) (reader into writer : Option (List ℕ)) (reads : ℕ) (input : List ℕ) (refusal : Refusal) (fault : ServeFault)
+      → framing_refusal input refusal → WritesPart into writer (reply_text (refused (refusal_value refusal)) closing_form) fault
+      → HasBroken step (moment desk reader into reads input) (moment desk reader writer reads input) fault
+  broken_refusing desk reader into writer reads input refusal fault is w =
+      let text : List ℕ = reply_text (refused (refusal_value refusal)) closing_form in
+      let l : Leaves = record { rest = input; exchanges = []; last = text; lost = w.rest } in
+      record {
+        more = [];
+        text = w.part;
+        moved = moved_writing desk desk reader into writer reads input input w.part w.appended;
+        breaks = record {
+          left = l;
+          served = [];
+          serves = (append-nil input, refl, refl);
+          end = inr (refusal, is, refl);
+          prefix = w.split;
+          comes_at = comes_writing fault l text w.part reads reads (inl (refl, λ none. cc)) w.split w.one_of;
+        };
+      }

@@ -1,5 +1,6 @@
 pub mod RowLemmas
 pub mod MemoryDeskLemmas
 pub mod IoLemmas
+pub mod FaultLemmas
 pub mod ConversationLemmas
 pub mod OutputLemmas

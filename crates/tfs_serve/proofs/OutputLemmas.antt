@@ -1,6 +1,5 @@
 -- Bytes have one output.
-use Rattle.std.proofs.Common.{◌≡◌, ◌<◌, ◌+◌, ℕ, List, [], ◌∷◌, ◌++◌, length, drop, Result, Ok, Err, refl, sym, ◌∙◌, ap, subst, arith, inl, inr, append_assoc}
-use Rattle.std.proofs.Math.Seq.{drop-append_seam}
+use Rattle.std.proofs.Common.{◌≡◌, ◌<◌, ◌+◌, ℕ, List, [], ◌∷◌, ◌++◌, length, Result, Ok, Err, refl, sym, ◌∙◌, ap, subst, arith, inl, inr, append_assoc}
 use Rattle.std.proofs.lemmas.List.{length-append}
 use Rattle.tfs_journal.specs.Journal.{Journal}
 use Rattle.tfs_table.specs.declared.call.Call.{Call}
@@ -11,7 +10,7 @@ use Rattle.tfs_table.specs.Reply.{ReplyValue, refused, reply_value}
 use Rattle.tfs_table.specs.Transition.{TableModel}
 use Rattle.tfs_http.specs.Request.{RequestValue}
 use Rattle.tfs_http.specs.Form.{form_of}
-use Rattle.tfs_http.specs.Framing.{Frames, BeginsWith, ReadsMessage, framing_refusal}
+use Rattle.tfs_http.specs.Framing.{Frames, ReadsMessage, framing_refusal}
 use Rattle.tfs_http.specs.Routing.{RoutesTo}
 use Rattle.tfs_http.specs.ReplyText.{reply_text}
 use Rattle.tfs_http.specs.declared.taken.Take.{Take}
@@ -21,7 +20,7 @@ use Rattle.tfs_serve.specs.Conversation.{AnswersRequest, Exchange, Serves, Ends,
 use Rattle.tfs_serve.specs.Output.{HadMemory, HasOutput}
 use Rattle.tfs_serve.specs.declared.ended.Ended.{Ended}
 use Rattle.tfs_serve.specs.declared.ended.Ended.TheVariants.{Clean, Cut, Asked, Refused}
-use Rattle.tfs_serve.proofs.ConversationLemmas.{frame_is_no_empty_text, no_refusal_of_no_bytes}
+use Rattle.tfs_http.proofs.MessageLemmas.{frame_is_no_empty_text, no_refusal_of_no_bytes, begins, first_message_once}
 
 -- ---- the answer to a request
 
@@ -33,7 +32,9 @@ memory_step j k l call given also (inr a) b had has = absurd (had a.0)
 memory_step j k l call given also (inl a) (inr b) had has = absurd (has b.0)
 
 module _ (routed : (r : RequestValue) (x y : Result Call Refusal) → RoutesTo r x → RoutesTo r y → x ≡ y) where
-  answers_once : (j k l : Journal) (r : RequestValue) (reply also : ReplyValue) → AnswersRequest AnswersCall j r reply k → AnswersRequest AnswersCall j r also l
+  -- A request has one answer of a desk that had memory.
+  answers_once : (j k l : Journal) (r : RequestValue) (reply also : ReplyValue) → AnswersRequest AnswersCall j r reply k
+      → AnswersRequest AnswersCall j r also l
       → ¬ (reply ≡ refused out_of_memory) → ¬ (also ≡ refused out_of_memory) → (reply ≡ also) × (k ≡ l)
   answers_once j k l r reply also (inr (inl a)) b had has = absurd (had a.0)
   answers_once j k l r reply also a (inr (inl b)) had has = absurd (has b.0)
@@ -74,7 +75,8 @@ module _ (framed : (bytes : List ℕ) (t u : Take) → Frames bytes t → Frames
   ends_once rest last also Refused Asked a b = absurd b
 
   -- A conversation doesn't end before a message.
-  no_end_before : (bytes rest last frame after : List ℕ) (d : Ended) (r : RequestValue) → bytes ≡ rest → Ends rest last d → bytes ≡ frame ++ after → ReadsMessage frame r → ⊥
+  no_end_before : (bytes rest last frame after : List ℕ) (d : Ended) (r : RequestValue) → bytes ≡ rest → Ends rest last d → bytes ≡ frame ++ after
+      → ReadsMessage frame r → ⊥
   no_end_before bytes rest last frame after Clean r is end parts m =
       let some : 0 < length frame = frame_is_no_empty_text frame r m in
       let none : 0 ≡ length frame + length after = ap (λ (t : List ℕ). length t) (sym end.0 ∙ sym is ∙ parts) ∙ length-append frame after in
@@ -82,26 +84,15 @@ module _ (framed : (bytes : List ℕ) (t u : Take) → Frames bytes t → Frames
   no_end_before bytes rest last frame after Cut r is end parts m = end.1.no_message frame after r (sym is ∙ parts) m
   no_end_before bytes rest last frame after Asked r is end parts m = end
   no_end_before bytes rest last frame after Refused r is end parts m =
-      let begins : BeginsWith rest r (length frame) = record { frame = frame; rest = after; parts = sym is ∙ parts; used_is = refl; reads = m } in
-      let same : Fault end.0 ≡ Got r (length frame) = framed rest (Fault end.0) (Got r (length frame)) end.1 begins in
+      let same : Fault end.0 ≡ Got r (length frame) = framed rest (Fault end.0) (Got r (length frame)) end.1 (begins rest frame after r (sym is ∙ parts) m) in
       cc
-
-  -- Bytes begin with one message, and have one rest behind it.
-  message_once : (bytes frame after other behind : List ℕ) (r s : RequestValue) → bytes ≡ frame ++ after → bytes ≡ other ++ behind → ReadsMessage frame r → ReadsMessage other s
-      → (r ≡ s) × (after ≡ behind)
-  message_once bytes frame after other behind r s parts pieces m n =
-      let begins : BeginsWith bytes r (length frame) = record { frame = frame; rest = after; parts = parts; used_is = refl; reads = m } in
-      let starts : BeginsWith bytes s (length other) = record { frame = other; rest = behind; parts = pieces; used_is = refl; reads = n } in
-      let same : Got r (length frame) ≡ Got s (length other) = framed bytes (Got r (length frame)) (Got s (length other)) begins starts in
-      let request : r ≡ s = cc in
-      let long : length frame ≡ length other = cc in
-      (request, sym (drop-append_seam frame after) ∙ ap (λ (t : List ℕ). drop (length frame) t) (sym parts ∙ pieces) ∙ ap (λ n. drop n (other ++ behind)) long ∙ drop-append_seam other behind)
 
   -- ---- the whole conversation
 
   module _ (routed : (r : RequestValue) (x y : Result Call Refusal) → RoutesTo r x → RoutesTo r y → x ≡ y) where
     output_once : (j k l : Journal) (bytes rest left text also last end : List ℕ) (d e : Ended) (xs ys : List Exchange)
-        → Serves AnswersCall j bytes xs k rest text → Serves AnswersCall j bytes ys l left also → Ends rest last d → Ends left end e → HadMemory xs → HadMemory ys
+        → Serves AnswersCall j bytes xs k rest text → Serves AnswersCall j bytes ys l left also → Ends rest last d → Ends left end e → HadMemory xs
+        → HadMemory ys
         → (k ≡ l) × (text ++ last ≡ also ++ end) × (d ≡ e)
     output_once j k l bytes rest left text also last end d e [] [] s t ends stops had has =
         let same = ends_once rest last end d e ends (subst (λ (b : List ℕ). Ends b end e) (sym t.0 ∙ s.0) stops) in
@@ -111,21 +102,26 @@ module _ (framed : (bytes : List ℕ) (t u : Take) → Frames bytes t → Frames
     output_once j k l bytes rest left text also last end d e (x ∷ xs) [] s t ends stops had has =
         absurd (no_end_before bytes left end s.0 s.1 e x.request t.0 stops s.2 s.3)
     output_once j k l bytes rest left text also last end d e (x ∷ xs) (y ∷ ys) s t ends stops had has =
-        let message = message_once bytes s.0 s.1 t.0 t.1 x.request y.request s.2 t.2 s.3 t.3 in
-        let answer = answers_once routed j s.4 t.4 y.request x.reply y.reply (subst (λ (r : RequestValue). AnswersRequest AnswersCall j r x.reply s.4) message.0 s.5) t.5 had.0 has.0 in
+        let message = first_message_once bytes s.0 s.1 t.0 t.1 x.request y.request s.2 t.2 s.3 t.3 in
+        let answer = answers_once routed j s.4 t.4 y.request x.reply y.reply
+        (subst (λ (r : RequestValue). AnswersRequest AnswersCall j r x.reply s.4) message.0 s.5) t.5 had.0 has.0 in
         let later = output_once s.4 k l s.1 rest left s.6 t.6 last end d e xs ys s.8
-        (subst (λ (b : List ℕ). Serves AnswersCall s.4 b ys l left t.6) (sym message.1) (subst (λ (m : Journal). Serves AnswersCall m t.1 ys l left t.6) (sym answer.1) t.8)) ends stops had.1 has.1 in
+        (subst (λ (b : List ℕ). Serves AnswersCall s.4 b ys l left t.6) (sym message.1)
+        (subst (λ (m : Journal). Serves AnswersCall m t.1 ys l left t.6) (sym answer.1) t.8)) ends stops had.1 has.1 in
         let front : reply_text x.reply (form_of x.request) ≡ reply_text y.reply (form_of y.request) =
         ap (λ (v : ReplyValue). reply_text v (form_of x.request)) answer.0 ∙ ap (λ (r : RequestValue). reply_text y.reply (form_of r)) message.0 in (
           later.0,
           ap (λ (w : List ℕ). w ++ last) s.7 ∙ append_assoc (reply_text x.reply (form_of x.request)) s.6 last ∙ ap (λ (w : List ℕ). w ++ (s.6 ++ last)) front
-              ∙ ap (λ (w : List ℕ). reply_text y.reply (form_of y.request) ++ w) later.1 ∙ sym (append_assoc (reply_text y.reply (form_of y.request)) t.6 end) ∙ ap (λ (w : List ℕ). w ++ end) (sym t.7),
+              ∙ ap (λ (w : List ℕ). reply_text y.reply (form_of y.request) ++ w) later.1 ∙ sym (append_assoc (reply_text y.reply (form_of y.request)) t.6 end)
+              ∙ ap (λ (w : List ℕ). w ++ end) (sym t.7),
           later.2,
         )
 
-    pub one_output : (j k l : Journal) (bytes text also : List ℕ) (d e : Ended) → HasOutput j k bytes text d → HasOutput j l bytes also e → (k ≡ l) × (text ≡ also) × (d ≡ e)
+    pub one_output : (j k l : Journal) (bytes text also : List ℕ) (d e : Ended) → HasOutput j k bytes text d → HasOutput j l bytes also e → (k ≡ l)
+        × (text ≡ also) × (d ≡ e)
     one_output j k l bytes text also d e a b =
         let x = a.converses in
         let y = b.converses in
-        let same = output_once j k l bytes x.rest y.rest x.served y.served x.last y.last d e x.has_served.0 y.has_served.0 x.has_served.1 y.has_served.1 x.ends y.ends a.had_memory b.had_memory in
+        let same = output_once j k l bytes x.rest y.rest x.served y.served x.last y.last d e x.has_served.0 y.has_served.0
+        x.has_served.1 y.has_served.1 x.ends y.ends a.had_memory b.had_memory in
         (same.0, x.whole ∙ same.1 ∙ sym y.whole, same.2)

@@ -1,5 +1,5 @@
 -- Conversations: the messages of a list of bytes one after another, the desk's answers, and the texts of the replies.
-use Rattle.std.specs.Prelude.{◌≡◌, ◌⊎◌, ℕ, Option, List, [], ◌∷◌, ◌++◌, true, false}
+use Rattle.std.specs.Prelude.{◌≡◌, ◌≢◌, ◌≤◌, ◌<◌, ◌-◌, ◌*◌, ◌⊎◌, ℕ, Option, List, [], ◌∷◌, ◌++◌, length, true, false}
 use Rattle.std.specs.Io.KnownBytes.{IsAtEnd}
 use Rattle.tfs_table.specs.declared.call.Call.{Call}
 use Rattle.tfs_table.specs.declared.reply.Reply.{Reply}
@@ -9,7 +9,7 @@ use Rattle.tfs_table.specs.Reply.{ReplyValue, refused, reply_value}
 use Rattle.tfs_http.specs.declared.form.Form.{Form}
 use Rattle.tfs_http.specs.Request.{RequestValue}
 use Rattle.tfs_http.specs.Form.{form_of}
-use Rattle.tfs_http.specs.Framing.{ReadsMessage, IsUnfinished, framing_refusal}
+use Rattle.tfs_http.specs.Framing.{ReadsMessage, BeginsWith, IsUnfinished, framing_refusal}
 use Rattle.tfs_http.specs.Routing.{HasCall, routing_refusal}
 use Rattle.tfs_http.specs.ReplyText.{reply_text}
 use Rattle.tfs_serve.specs.declared.ended.Ended.{Ended}
@@ -70,22 +70,49 @@ pub record Converses {S : Type 0} (step : S → Call → Reply → S → Type 0)
   pub ends : Ends rest last ended
   pub whole : text ≡ served ++ last
 
--- Where a fault comes, after so many reads: the reader's between messages, with nothing lost, and that of too many reads only
--- after all of them; the writer's and want of memory also while a reply is written.
-abbrev pub ComesAt : ServeFault → ℕ → List ℕ → List ℕ → Type 0
-ComesAt Read used last lost = (last ≡ []) × (lost ≡ [])
-ComesAt TooManyReads used last lost = (last ≡ []) × (lost ≡ []) × (used ≡ 1048576)
-ComesAt Write used last lost = Unit {0}
-ComesAt NoMemory used last lost = Unit {0}
+-- The bytes came in the reads from one count to another, each of which gives at most 65,536.
+pub record ComesInReads (bytes : List ℕ) (before after : ℕ) : Type 0 where
+  pub counted : before ≤ after
+  pub pace : length bytes ≤ 65536 * (after - before)
 
--- A conversation of these bytes, with this text, that a fault broke off after so many reads: some of the end of the replies'
--- text may be lost.
-pub record BreaksOff {S : Type 0} (step : S → Call → Reply → S → Type 0) (old new : S) (bytes text : List ℕ) (fault : ServeFault) (used : ℕ) : Type 0 where
+-- What a fault leaves: the bytes that have no answer, the exchanges, the text of the refusal that was to end the conversation,
+-- empty without one, and the end of all this text that wasn't written.
+pub record Leaves : Type 0 where
   pub rest : List ℕ
-  pub served : List ℕ
+  pub exchanges : List Exchange
   pub last : List ℕ
   pub lost : List ℕ
-  pub has_served : HasServed step old new bytes rest served
-  pub end : (last ≡ []) ⊎ Ends rest last Refused
-  pub prefix : served ++ last ≡ text ++ lost
-  pub comes_at : ComesAt fault used last lost
+
+-- Each reply was written, and none was to end the conversation.
+abbrev pub IsBetween : Leaves → Type 0
+IsBetween l = (l.last ≡ []) × (l.lost ≡ [])
+
+-- The bytes have no refusal: they are unfinished, or begin with a message.
+abbrev pub MayGoOn : List ℕ → Type 0
+MayGoOn rest = IsUnfinished rest ⊎ ((r : RequestValue) × (used : ℕ) × BeginsWith rest r used)
+
+-- The text is that of the last reply: of the refusal that was to end the conversation, or of the last exchange without one.
+abbrev pub IsLastReply : Leaves → List ℕ → Type 0
+IsLastReply l text =
+    ((text ≡ l.last) × (l.last ≢ []))
+    ⊎ ((before : List Exchange) × (x : Exchange) × (l.exchanges ≡ before ++ x ∷ []) × (l.last ≡ []) × (text ≡ reply_text x.reply (form_of x.request)))
+
+-- Where a fault comes, between two counts of reads. The reader's comes after a read, and that of too many reads after 1,048,576;
+-- the bytes that are left are unfinished. The writer's comes while a reply is written, whose end is lost. Want of memory comes
+-- between messages, or the whole text of a reply is lost.
+abbrev pub ComesAt : ServeFault → Leaves → ℕ → ℕ → Type 0
+ComesAt Read l before after = IsBetween l × IsUnfinished l.rest × (before < after)
+ComesAt TooManyReads l before after = IsBetween l × IsUnfinished l.rest × (after ≡ 1048576)
+ComesAt Write l before after = (part : List ℕ) × IsLastReply l (part ++ l.lost) × (l.lost ≢ [])
+ComesAt NoMemory l before after = (IsBetween l × MayGoOn l.rest) ⊎ IsLastReply l l.lost
+
+-- A conversation of these bytes, with this text, that a fault broke off between two counts of reads: what was written is the
+-- text of the replies but for the end that is lost.
+pub record BreaksOff {S : Type 0} (step : S → Call → Reply → S → Type 0) (old new : S) (bytes text : List ℕ) (fault : ServeFault)
+    (before after : ℕ) : Type 0 where
+  pub left : Leaves
+  pub served : List ℕ
+  pub serves : Serves step old bytes left.exchanges new left.rest served
+  pub end : (left.last ≡ []) ⊎ Ends left.rest left.last Refused
+  pub prefix : served ++ left.last ≡ text ++ left.lost
+  pub comes_at : ComesAt fault left before after

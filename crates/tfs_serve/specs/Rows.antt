@@ -1,20 +1,20 @@
 -- The rows of a desk that keeps its journal in memory: each is what its journal gives.
-use Rattle.std.specs.Prelude.{◌≡◌, ℕ, List, [], ◌∷◌, ◌++◌, length, map, Bool, true, false, if◌then◌else◌}
+use Rattle.std.specs.Prelude.{◌≡◌, ℕ, List, [], ◌∷◌, ◌++◌, length, Bool, true, false, if◌then◌else◌}
 use Rattle.std.specs.List.{list_any}
 use Rattle.std.specs.Str.{bytes_eq}
 use Rattle.tfs_rules.specs.History.{Standing, standing_of}
-use Rattle.tfs_journal.specs.declared.entry.Entry.{Entry}
-use Rattle.tfs_journal.specs.Journal.{Journal, empty_base, entry_value, acts_of, names_of}
+use Rattle.tfs_journal.specs.Journal.{Journal, EntryValue, empty_base, acts_of, names_of}
 use Rattle.tfs_serve.specs.declared.row.Row.{Row}
 
 -- The journal of a desk's entries: it has the empty base.
-abbrev pub journal_of : List Entry → Journal
-journal_of entries = record { base = empty_base; entries = map entry_value entries }
+abbrev pub journal_of : List EntryValue → Journal
+journal_of entries = record { base = empty_base; entries = entries }
 
 -- The row is that of a name.
 abbrev pub is_row_of : List ℕ → Row → Bool
 is_row_of name row = bytes_eq row.name name
 
+-- Some row is that of a name.
 abbrev pub has_row : List ℕ → List Row → Bool
 has_row name rows = list_any (is_row_of name) rows
 

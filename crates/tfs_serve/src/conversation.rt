@@ -5,8 +5,8 @@ ghost use Rattle.std.specs.Io.KnownBytes.{Appends, Consumes};
 ghost use Rattle.tfs_table.specs.Reply.{ReplyValue, reply_value};
 ghost use Rattle.tfs_http.specs.Form.{form_of};
 ghost use Rattle.tfs_http.specs.ReplyText.{reply_text};
-ghost use Rattle.tfs_serve.specs.Conversation.{AnswersRequest, Converses, BreaksOff, IsReadThrough};
-ghost use Rattle.tfs_serve.specs.Turns.{WritesPart, Went, HasEnded, HasBroken, work_left};
+ghost use Rattle.tfs_serve.specs.Conversation.{AnswersRequest, ComesInReads, Converses, BreaksOff, IsReadThrough};
+ghost use Rattle.tfs_serve.specs.Turns.{WritesPart, moment, Went, HasEnded, HasBroken, work_left};
 ghost use Rattle.tfs_serve.specs.declared.ended.Ended.TheVariants.{Clean, Cut};
 
 use crate::desk::Desk;
@@ -38,12 +38,14 @@ pub fn converse<R: Read, W: Write, D: Desk>(
     ensures ended { IfOk result (λ ended. (bytes : List ℕ) × (text : List ℕ)
         × Consumes (R.remaining reader.old) (R.remaining reader.new) bytes
         × Appends (W.contents writer.old) (W.contents writer.new) text
+        × ComesInReads bytes reads.old reads.new
         × Converses D.step desk.old desk.new bytes text ended) }
     ensures through { IfOk result (λ ended. IsReadThrough ended (R.remaining reader.new)) }
     ensures fault { IfErr result (λ fault. (bytes : List ℕ) × (text : List ℕ)
         × Consumes (R.remaining reader.old) (R.remaining reader.new) bytes
         × Appends (W.contents writer.old) (W.contents writer.new) text
-        × BreaksOff D.step desk.old desk.new bytes text fault reads.new) }
+        × ComesInReads bytes reads.old reads.new
+        × BreaksOff D.step desk.old desk.new bytes text fault reads.old reads.new) }
 {
     let Ok(routes) = Routes::new(alloc) else {
         return Err(ServeFault::NoMemory);
@@ -64,10 +66,10 @@ fn run<R: Read, W: Write, D: Desk>(
     desk: &mut D,
     reads: &mut Reads,
 ) -> Result<Ended, ServeFault>
-    ensures ended { IfOk result (HasEnded D.step desk.old desk.new (R.remaining reader.old) (R.remaining reader.new)
-        (W.contents writer.old) (W.contents writer.new) input.old) }
-    ensures fault { IfErr result (λ fault. HasBroken D.step desk.old desk.new (R.remaining reader.old) (R.remaining reader.new)
-        (W.contents writer.old) (W.contents writer.new) input.old fault reads.new) }
+    ensures ended { IfOk result (HasEnded D.step (moment desk.old (R.remaining reader.old) (W.contents writer.old) reads.old input.old)
+        (moment desk.new (R.remaining reader.new) (W.contents writer.new) reads.new input.new)) }
+    ensures fault { IfErr result (HasBroken D.step (moment desk.old (R.remaining reader.old) (W.contents writer.old) reads.old input.old)
+        (moment desk.new (R.remaining reader.new) (W.contents writer.new) reads.new input.new)) }
 {
     loop {
         match turn(alloc, routes, input, reader, writer, desk, reads) {
@@ -92,13 +94,13 @@ fn turn<R: Read, W: Write, D: Desk>(
     desk: &mut D,
     reads: &mut Reads,
 ) -> Result<Option<Ended>, ServeFault>
-    ensures went { result ≡ Ok None → Went D.step desk.old desk.new (R.remaining reader.old) (R.remaining reader.new)
-        (W.contents writer.old) (W.contents writer.new) input.old input.new }
+    ensures went { result ≡ Ok None → Went D.step (moment desk.old (R.remaining reader.old) (W.contents writer.old) reads.old input.old)
+        (moment desk.new (R.remaining reader.new) (W.contents writer.new) reads.new input.new) }
     ensures less { result ≡ Ok None → work_left reads.new input.new < work_left reads.old input.old }
-    ensures ended { IfOk result (λ end. IfSome end (HasEnded D.step desk.old desk.new (R.remaining reader.old) (R.remaining reader.new)
-        (W.contents writer.old) (W.contents writer.new) input.old)) }
-    ensures fault { IfErr result (λ fault. HasBroken D.step desk.old desk.new (R.remaining reader.old) (R.remaining reader.new)
-        (W.contents writer.old) (W.contents writer.new) input.old fault reads.new) }
+    ensures ended { IfOk result (λ end. IfSome end (HasEnded D.step (moment desk.old (R.remaining reader.old) (W.contents writer.old) reads.old input.old)
+        (moment desk.new (R.remaining reader.new) (W.contents writer.new) reads.new input.new))) }
+    ensures fault { IfErr result (HasBroken D.step (moment desk.old (R.remaining reader.old) (W.contents writer.old) reads.old input.old)
+        (moment desk.new (R.remaining reader.new) (W.contents writer.new) reads.new input.new)) }
 {
     let framed = match frame(alloc, input.unused()) {
         Ok(framed) => framed,

@@ -13,6 +13,6 @@ pub trait Desk {
 
     /// Answers a call, whose body has at most 16 MiB.
     fn answer(&mut self, call: Call) -> Reply
-        requires { CarriesFittingState call }
-        ensures { step self.old call result self.new };
+        requires fitting { CarriesFittingState call }
+        ensures answered { step self.old call result self.new };
 }

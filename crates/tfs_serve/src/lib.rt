@@ -22,8 +22,4 @@ pub use laws::bytes_have_one_output;
 pub use reads::{MAX_READS, Reads};
 
 #[cfg(test)]
-mod conversation_tests;
-#[cfg(test)]
-mod lock_tests;
-#[cfg(test)]
 mod tests;

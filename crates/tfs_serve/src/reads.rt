@@ -26,7 +26,7 @@ impl Model for Reads {
 impl Reads {
     /// No reads.
     pub fn new() -> Reads
-        ensures { result ≡ 0 }
+        ensures value { result ≡ 0 }
     {
         Reads { used: 0 }
     }

@@ -1,133 +1,90 @@
-//! A desk in memory, asked over small journals, with answers worked out by hand.
+//! Conversations and their desk, with replies worked out by hand.
+
+mod cuts;
+mod desks;
+mod faults;
+mod locks;
+mod pipes;
+mod replies;
 
 use super::*;
-use crate::conversation_tests::S1;
 use crate::memory_desk::MemoryDesk;
 use std::alloc::Global;
+use std::io;
 use std::process::Abort;
 use std::test::Fail;
 use tfs_rules::Name;
-use tfs_state::MAX_STATE_BYTES;
-use tfs_table::{Bytes, Call, MAX_ENTRIES, MAX_NAMES, Raw, Refusal, Reply};
+use tfs_table::{Bytes, Call, Raw, Reply};
 
-const S2: &str = "{\"version\":4, \"serial\":2 ,\"lineage\":\"L1\"}";
+const S1: &str = "{\"version\":4, \"serial\":1 ,\"lineage\":\"L1\"}";
 
-fn name_of(rt: &(impl Alloc<A = Global> + Abort), text: &str) -> Result<Name, Fail> {
-    match Name::read(String::from_str(rt.alloc(), text)?) {
-        Some(name) => Ok(name),
-        None => panic!(rt; "the text is a name"),
-    }
-}
+/// A push of S1 to `a` and a read of `a`, 130 bytes.
+const PUSH_AND_READ: &str =
+    "POST /state/a HTTP/1.1\r\nHost: h\r\nContent-Length: 41\r\n\r\n{\"version\":4, \"serial\":1 ,\"lineage\":\"L1\"}GET /state/a HTTP/1.1\r\nHost: h\r\n\r\n";
 
-fn push(
-    rt: &(impl Alloc<A = Global> + Abort),
-    desk: &mut MemoryDesk,
-    name: &str,
-    text: &str,
-) -> Result<Reply, Fail> {
-    assert!(rt; text.len() <= MAX_STATE_BYTES);
-    let body = Bytes::new(text.as_bytes().to_vec(rt.alloc())?);
-    let name = name_of(rt, name)?;
-    Ok(desk.answer(Call::Change(name, Raw::Push(None, body))))
-}
+/// The reply to the push is 38 bytes, and that to the read 112.
+const BOTH_REPLIES: &str = "HTTP/1.1 200 OK\r\nContent-Length: 0\r\n\r\n\
+     HTTP/1.1 200 OK\r\nContent-Type: application/json\r\nContent-Length: 41\r\n\r\n{\"version\":4, \"serial\":1 ,\"lineage\":\"L1\"}";
 
-fn expect_done(rt: &impl Abort, reply: Reply, position: u64) {
-    match reply {
-        Reply::Done(found) => assert_eq!(rt; found, position),
+const PUSH_REPLY_BYTES: usize = 38;
+
+/// The reply to an accepted change.
+const DONE: &str = "HTTP/1.1 200 OK\r\nContent-Length: 0\r\n\r\n";
+
+/// How many entries the desk has: a further push tells the position that it gets.
+fn entries_of(rt: &(impl Alloc<A = Global> + Abort), desk: &mut MemoryDesk) -> Result<u64, Fail> {
+    let Some(name) = Name::read(String::from_str(rt.alloc(), "count")?) else {
+        panic!(rt; "the text is a name");
+    };
+    let body = Bytes::new(S1.as_bytes().to_vec(rt.alloc())?);
+    match desk.answer(Call::Change(name, Raw::Push(None, body))) {
+        Reply::Done(position) => Ok(position - 1),
         _ => panic!(rt; "the push is accepted"),
     }
 }
 
-fn expect_refused(rt: &impl Abort, reply: Reply, refusal: Refusal) {
-    match reply {
-        Reply::Refused(found) => assert_eq!(rt; found.name(), refusal.name()),
-        _ => panic!(rt; "the call is refused"),
-    }
+/// A conversation with no reads so far.
+fn talk<R: io::Read, W: io::Write>(
+    alloc: Global,
+    reader: &mut R,
+    writer: &mut W,
+    desk: &mut MemoryDesk,
+) -> Result<Ended, ServeFault> {
+    converse(alloc, reader, writer, desk, &mut Reads::new())
 }
 
-fn expect_state(
+/// The input in one piece is answered with this output and this end.
+fn expect_end(
     rt: &(impl Alloc<A = Global> + Abort),
     desk: &mut MemoryDesk,
-    name: &str,
-    text: &str,
-) -> Result<(), Fail> {
-    let name = name_of(rt, name)?;
-    match desk.answer(Call::Read(name)) {
-        Reply::State(doc) => assert!(rt; doc.bytes() == text.as_bytes()),
-        _ => panic!(rt; "there is a state"),
-    }
-    Ok(())
+    input: &str,
+    output: &str,
+    end: Ended,
+) {
+    let mut reader = input.as_bytes();
+    let mut writer = Vec::new(rt.alloc());
+    let ended = talk(rt.alloc(), &mut reader, &mut writer, desk);
+    assert!(rt; ended == Ok(end), "{input}");
+    assert!(rt; writer.as_slice() == output.as_bytes(), "{input}");
 }
 
-#[test]
-fn what_was_pushed_is_read(rt: HostRuntime) -> Result<(), Fail> {
-    let mut desk = MemoryDesk::new(rt.alloc());
-    let name = name_of(&rt, "a")?;
-    expect_refused(&rt, desk.answer(Call::Read(name)), Refusal::NoState);
-    expect_done(&rt, push(&rt, &mut desk, "a", S1)?, 1);
-    expect_done(&rt, push(&rt, &mut desk, "a", S1)?, 2);
-    let spaced = format!(in rt.alloc(); "{S1} ")?;
-    let reply = push(&rt, &mut desk, "a", spaced.as_str())?;
-    expect_refused(&rt, reply, Refusal::SerialReused);
-    expect_state(&rt, &mut desk, "a", S1)
+/// The input in one piece is answered with this output, and the conversation is Clean.
+fn expect(rt: &(impl Alloc<A = Global> + Abort), desk: &mut MemoryDesk, input: &str, output: &str) {
+    expect_end(rt, desk, input, output, Ended::Clean);
 }
 
-#[test]
-fn names_have_states_of_their_own(rt: HostRuntime) -> Result<(), Fail> {
-    let mut desk = MemoryDesk::new(rt.alloc());
-    expect_done(&rt, push(&rt, &mut desk, "a", S2)?, 1);
-    expect_done(&rt, push(&rt, &mut desk, "b", S1)?, 2);
-    expect_refused(&rt, push(&rt, &mut desk, "a", S1)?, Refusal::SerialTooLow);
-    expect_done(&rt, push(&rt, &mut desk, "b", S2)?, 3);
-    expect_state(&rt, &mut desk, "a", S2)?;
-    expect_state(&rt, &mut desk, "b", S2)?;
-    let other = "{\"version\":4,\"serial\":9,\"lineage\":\"L2\"}";
-    let reply = push(&rt, &mut desk, "a", other)?;
-    expect_refused(&rt, reply, Refusal::LineageDiffers);
-    expect_done(&rt, push(&rt, &mut desk, "c", other)?, 4);
-    expect_refused(&rt, push(&rt, &mut desk, "c", "abc")?, Refusal::BadState);
-    expect_state(&rt, &mut desk, "c", other)
+/// A push of the text to `a`.
+fn push_of(rt: &impl Alloc<A = Global>, text: &str) -> Result<String, Fail> {
+    let len = text.len();
+    Ok(format!(in rt.alloc();
+        "POST /state/a HTTP/1.1\r\nHost: h\r\nContent-Length: {len}\r\n\r\n{text}"
+    )?)
 }
 
-#[test]
-fn a_new_name_is_refused_where_there_are_1024(rt: HostRuntime) -> Result<(), Fail> {
-    let mut desk = MemoryDesk::new(rt.alloc());
-    for i in 0..MAX_NAMES as u64 {
-        let name = format!(in rt.alloc(); "n{i}")?;
-        expect_done(&rt, push(&rt, &mut desk, name.as_str(), S1)?, i + 1);
-    }
-    expect_refused(&rt, push(&rt, &mut desk, "n1024", S1)?, Refusal::TableFull);
-    expect_done(&rt, push(&rt, &mut desk, "n0", S2)?, MAX_NAMES as u64 + 1);
-    Ok(())
-}
-
-#[test]
-fn another_entry_is_refused_where_there_are_65536(rt: HostRuntime) -> Result<(), Fail> {
-    let mut desk = MemoryDesk::new(rt.alloc());
-    for i in 0..MAX_ENTRIES as u64 {
-        expect_done(&rt, push(&rt, &mut desk, "a", S1)?, i + 1);
-    }
-    expect_refused(&rt, push(&rt, &mut desk, "a", S1)?, Refusal::JournalFull);
-    expect_state(&rt, &mut desk, "a", S1)
-}
-
-#[test]
-fn a_refused_growth_is_told_and_changes_nothing(rt: HostRuntime) -> Result<(), Fail> {
-    let Ok(bytes) = S1.as_bytes().to_vec(rt.alloc()) else {
-        return Ok(());
-    };
-    let Ok(text) = String::from_str(rt.alloc(), "a") else {
-        return Ok(());
-    };
-    let Some(name) = Name::read(text) else {
-        panic!(rt; "the text is a name");
-    };
-    assert!(rt; bytes.len() <= MAX_STATE_BYTES);
-    let mut desk = MemoryDesk::new(rt.alloc());
-    match desk.answer(Call::Change(name, Raw::Push(None, Bytes::new(bytes)))) {
-        Reply::Done(position) => assert_eq!(rt; position, 1),
-        Reply::Refused(refusal) => assert_eq!(rt; refusal.name(), "OutOfMemory"),
-        Reply::State(_) => panic!(rt; "a push has no state"),
-    }
-    Ok(())
+/// The reply of a refusal after which the conversation goes on.
+fn refusal_of(rt: &impl Alloc<A = Global>, status: &str, name: &str) -> Result<String, Fail> {
+    let len = name.len() + 12;
+    Ok(format!(in rt.alloc();
+        "HTTP/1.1 {status}\r\nContent-Type: application/json\r\nContent-Length: {len}\r\n\r\n{{\"error\":\"{name}\"}}"
+    )?)
 }

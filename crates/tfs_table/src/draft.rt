@@ -4,7 +4,7 @@ ghost use Rattle.std.specs.Prelude.{◌≡◌, ◌≢◌, ◌≤◌, ◌<◌, �
 ghost use Rattle.std.specs.Arc.{arc_value};
 ghost use Rattle.tfs_state.specs.StateText.{document_of};
 ghost use Rattle.tfs_lock.specs.LockText.{lock_info_of};
-ghost use Rattle.tfs_rules.specs.Act.{act_value};
+ghost use Rattle.tfs_rules.specs.Act.{act_value, IsRead};
 ghost use Rattle.tfs_table.specs.Draft.{act_of, draft_refusal, lock_refusal, state_refusal, lock_text_refusal, state_text_refusal, id_given, is_too_long, HasFittingState, TakesNoMemory};
 ghost use Rattle.tfs_table.specs.Refusal.{refusal_value, bad_lock_info, out_of_memory};
 ghost use Rattle.tfs_table.specs.declared.call.Raw.TheVariants.{Lock, Unlock, Push, Delete};
@@ -20,18 +20,20 @@ use tfs_lock::{Id, LockFault, LockInfo, bytes_spell_lock_info_or_have_a_fault};
 use tfs_rules::Act;
 use tfs_state::{Doc, StateFault, bytes_spell_a_document_or_have_a_fault};
 
-/// An act that was read from a raw change, and that no table has judged yet.
+/// An act that was read from a raw change, and that no table has judged yet. What it holds was read from its bytes.
 #[derive(Drop)]
 pub struct Draft {
     act: Act,
 }
 
 impl Model for Draft {
-    ghost use Rattle.tfs_rules.specs.Act.{ActValue, act_value};
+    ghost use Rattle.tfs_rules.specs.Act.{ActValue, act_value, IsRead};
 
     ghost Value = { ActValue };
 
     ghost view = { λ d. act_value d.act };
+
+    ghost invariant = { λ d. IsRead (act_value d.act) };
 }
 
 impl Draft {
@@ -51,12 +53,14 @@ impl Draft {
             Raw::Push(text, body) => read_push(alloc, text, body)?,
             Raw::Delete(text) => read_delete(text)?,
         };
+        act.is_read();
         Ok(Draft { act })
     }
 
     /// The act, lent.
     pub fn act(&self) -> &Act
         ensures value { act_value result.now ≡ self.now }
+        ensures read { IsRead self.now }
     {
         &self.act
     }

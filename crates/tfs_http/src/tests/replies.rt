@@ -67,7 +67,8 @@ fn a_refusal_is_spelled(rt: HostRuntime) -> Result<(), Fail> {
             close: true,
             bare: true,
         },
-        "HTTP/1.1 405 Method Not Allowed\r\nAllow: DELETE, GET, LOCK, POST, UNLOCK\r\nConnection: close\r\nContent-Type: application/json\r\nContent-Length: 28\r\n\r\n",
+        "HTTP/1.1 405 Method Not Allowed\r\nAllow: DELETE, GET, LOCK, POST, UNLOCK\r\n\
+         Connection: close\r\nContent-Type: application/json\r\nContent-Length: 28\r\n\r\n",
     )
 }
 

@@ -1,6 +1,6 @@
 -- The call of a request whose body fits carries a body that fits.
-use Rattle.tfs_serve.proofs.ConversationLemmas.{call_fits}
+use Rattle.tfs_http.proofs.MessageLemmas.{call_fits}
 use Rattle.tfs_serve.proofs.conversation.answer.Goals as goal
 
 pub answer-requires : goal.answer-requires
-answer-requires g c = call_fits c.args.request c.in-Ok.call c.in-Ok.ensures.ok c.requires
+answer-requires g c = record { fitting = call_fits c.args.request c.in-Ok.call c.in-Ok.ensures.ok c.requires }

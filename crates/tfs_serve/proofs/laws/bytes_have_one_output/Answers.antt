@@ -4,12 +4,18 @@ use Rattle.tfs_serve.proofs.laws.bytes_have_one_output.Goals as goal
 
 pub returns-clause-journal : goal.returns-clause-journal
 returns-clause-journal c old new other bytes text also ended end a b =
-    (one_output c.what_bytes_begin_with_is_one_thing_and_stays.ensures.once c.what_becomes_of_a_request_is_one_thing.ensures.once old new other bytes text also ended end a b).0
+    let framed = c.what_bytes_begin_with_is_one_thing_and_stays.ensures.once in
+    let routed = c.what_becomes_of_a_request_is_one_thing.ensures.once in
+    (one_output framed routed old new other bytes text also ended end a b).0
 
 pub returns-clause-text : goal.returns-clause-text
 returns-clause-text c old new other bytes text also ended end a b =
-    (one_output c.what_bytes_begin_with_is_one_thing_and_stays.ensures.once c.what_becomes_of_a_request_is_one_thing.ensures.once old new other bytes text also ended end a b).1
+    let framed = c.what_bytes_begin_with_is_one_thing_and_stays.ensures.once in
+    let routed = c.what_becomes_of_a_request_is_one_thing.ensures.once in
+    (one_output framed routed old new other bytes text also ended end a b).1
 
 pub returns-clause-ended : goal.returns-clause-ended
 returns-clause-ended c old new other bytes text also ended end a b =
-    (one_output c.what_bytes_begin_with_is_one_thing_and_stays.ensures.once c.what_becomes_of_a_request_is_one_thing.ensures.once old new other bytes text also ended end a b).2
+    let framed = c.what_bytes_begin_with_is_one_thing_and_stays.ensures.once in
+    let routed = c.what_becomes_of_a_request_is_one_thing.ensures.once in
+    (one_output framed routed old new other bytes text also ended end a b).2

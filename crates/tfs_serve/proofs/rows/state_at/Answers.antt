@@ -6,7 +6,7 @@ use Rattle.tfs_serve.proofs.rows.state_at.Goals as goal
 
 pub returns-in-Some : goal.returns-in-Some
 returns-in-Some c =
-    c.state.ensures ∙ ap (λ (s : Standing). s.state) (sym (standing_at_place _ _ _ c.index-rows-place.result c.in-Some.ensures.found))
+    c.state.ensures.value ∙ ap (λ (s : Standing). s.state) (sym (standing_at_place _ _ _ c.index-rows-place.result c.in-Some.ensures.found))
 
 pub returns-in-None : goal.returns-in-None
 returns-in-None c = sym (ap (λ (s : Standing). s.state) (standing_absent c.args.name.now c.args.rows.now c.in-None.ensures.absent))

@@ -1,11 +1,6 @@
 //! Locks, unlocks and deletions in conversations, with replies worked out by hand.
 
 use super::*;
-use crate::conversation_tests::{DONE, S1, expect, push_of, refusal_of};
-use crate::memory_desk::MemoryDesk;
-use std::alloc::Global;
-use std::process::Abort;
-use std::test::Fail;
 
 const A: &str = "{\"ID\":\"A\" ,\"Who\":\"\"}";
 
@@ -113,15 +108,14 @@ fn lock_information_that_cannot_be_read_is_refused(rt: HostRuntime) -> Result<()
         ask(&rt, &mut desk, "LOCK", "/state/a", body, bad.as_str())?;
     }
     let target = format!(in rt.alloc(); "/state/a?ID={id}i")?;
-    ask(&rt, &mut desk, "POST", target.as_str(), S1, bad.as_str())?;
-    ask(
-        &rt,
-        &mut desk,
-        "POST",
-        target.as_str(),
-        "no state",
-        bad.as_str(),
-    )?;
+    for (method, body) in [
+        ("POST", S1),
+        ("POST", "no state"),
+        ("DELETE", ""),
+        ("UNLOCK", ""),
+    ] {
+        ask(&rt, &mut desk, method, target.as_str(), body, bad.as_str())?;
+    }
     let most = format!(in rt.alloc(); "{{\"ID\":\"{id}\"}}")?;
     ask(&rt, &mut desk, "LOCK", "/state/a", most.as_str(), DONE)
 }

@@ -1,0 +1,116 @@
+-- Laws of messages: how long they and their bodies are, and that bytes begin with one alone.
+use Rattle.std.proofs.Common.{◌≡◌, suc, ◌≤◌, ◌<◌, ◌+◌, ℕ, List, [], ◌∷◌, ◌++◌, length, drop, Bool, true, false, ◌&&◌, nat_le, nat_lt, cond}
+use Rattle.std.proofs.Common.{Ok, Err, refl, sym, ◌∙◌, ap, subst, arith, inl, inr, length-append, map, codes}
+use Rattle.std.specs.List.{list_all}
+use Rattle.std.specs.Char.{is_ascii_digit}
+use Rattle.std.specs.Str.Parse.{digits_value}
+use Rattle.std.proofs.Math.Seq.{drop-append_seam}
+use Rattle.std.proofs.lemmas.Bool.{leb-true}
+use Rattle.httparse.specs.Ascii.{line_feed}
+use Rattle.httparse.specs.Grammar.{LineEnd, print_end, print_blank}
+use Rattle.httparse.specs.Spans.{name_and_value}
+use Rattle.tfs_table.specs.Draft.{CarriesFittingState}
+use Rattle.tfs_table.specs.declared.call.Call.{Call}
+use Rattle.tfs_table.specs.declared.call.Call.TheVariants.{Read, Change}
+use Rattle.tfs_table.specs.declared.call.Raw.TheVariants.{Lock, Unlock, Push, Delete}
+use Rattle.tfs_table.specs.declared.refusal.Refusal.{Refusal}
+use Rattle.tfs_table.specs.declared.refusal.Refusal.TheVariants.{BadLength, BodyTooLarge}
+use Rattle.tfs_http.specs.Request.{RequestValue}
+use Rattle.tfs_http.specs.Framing.{length_of_text, length_told, values_named, ReadsMessage, BeginsWith, IsUnfinished, framing_refusal}
+use Rattle.tfs_http.specs.Routing.{HasCall, HasChange}
+use Rattle.tfs_http.proofs.FramingLemmas.{message_once}
+
+-- A length that a text gives is of a body that fits.
+text_fits : (text : List ℕ) (n : ℕ) → length_of_text text ≡ Ok n → n ≤ 16777216
+text_fits text n e = by_digits (nat_lt 0 (length text) && list_all is_ascii_digit text) e
+  where
+    by_size : (b : Bool) → nat_le (digits_value 10 text) 16777216 ≡ b
+        → cond b (Ok (digits_value 10 text)) (Err BodyTooLarge) ≡ Ok n → n ≤ 16777216
+    by_size true t f = let same : digits_value 10 text ≡ n = cc in let small = leb-true (digits_value 10 text) 16777216 t in omega arith
+    by_size false t f = cc
+
+    by_digits : (b : Bool) → cond b (cond (nat_le (digits_value 10 text) 16777216) (Ok (digits_value 10 text)) (Err BodyTooLarge)) (Err BadLength) ≡ Ok n
+        → n ≤ 16777216
+    by_digits true f = by_size (nat_le (digits_value 10 text) 16777216) refl f
+    by_digits false f = cc
+
+-- A length that is told is of a body that fits.
+told_fits : (lengths codings : List (List ℕ)) (n : ℕ) → length_told lengths codings ≡ Ok n → n ≤ 16777216
+told_fits [] [] n e = let same : 0 ≡ n = cc in omega arith
+told_fits [] (coding ∷ codings) n e = cc
+told_fits (text ∷ []) [] n e = text_fits text n e
+told_fits (text ∷ other ∷ texts) [] n e = cc
+told_fits (text ∷ []) (coding ∷ codings) n e = cc
+told_fits (text ∷ other ∷ texts) (coding ∷ codings) n e = cc
+
+-- A message's body has at most 16 MiB.
+pub body_fits : (bytes : List ℕ) (r : RequestValue) (used : ℕ) → BeginsWith bytes r used → length r.body ≤ 16777216
+body_fits bytes r used b =
+    let fields = map name_and_value b.reads.reads.h.fields in
+    told_fits (values_named (codes "content-length") fields) (values_named (codes "transfer-encoding") fields) (length r.body) b.reads.reads.body
+
+-- The call of a request whose body fits carries a state that fits.
+pub call_fits : (r : RequestValue) (call : Call) → HasCall r call → length r.body ≤ 16777216 → CarriesFittingState call
+call_fits r (Read name) has fits = tt
+call_fits r (Change name (Push id body)) has fits =
+    let change : HasChange r (Push id body) = has.2 in
+    subst (λ (t : List ℕ). length t ≤ 16777216) (sym change.2) fits
+call_fits r (Change name (Delete id)) has fits = tt
+call_fits r (Change name (Lock body)) has fits = tt
+call_fits r (Change name (Unlock body id)) has fits = tt
+
+-- A text that ends with an empty line isn't empty.
+head_is_no_empty_text : (front text : List ℕ) (end : LineEnd) → text ≡ front ++ line_feed ∷ print_end end → 0 < length text
+head_is_no_empty_text front text end is =
+    let long : length text ≡ length front + suc (length (print_end end)) =
+    ap (λ (t : List ℕ). length t) is ∙ length-append front (line_feed ∷ print_end end) in
+    omega arith
+
+-- A message has a byte at least.
+pub frame_is_no_empty_text : (frame : List ℕ) (r : RequestValue) → ReadsMessage frame r → 0 < length frame
+frame_is_no_empty_text frame r m =
+    let some : 0 < length m.head = head_is_no_empty_text m.has_head.is_head.ends.0 m.head m.has_head.is_head.ends.1 m.has_head.is_head.ends.2 in
+    let long : length frame ≡ length (print_blank m.skipped) + length (m.head ++ r.body) =
+    ap (λ (t : List ℕ). length t) m.has_head.parts ∙ length-append (print_blank m.skipped) (m.head ++ r.body) in
+    let parts : length (m.head ++ r.body) ≡ length m.head + length r.body = length-append m.head r.body in
+    omega arith
+
+-- No bytes have no refusal.
+pub no_refusal_of_no_bytes : (refusal : Refusal) → ¬ (framing_refusal [] refusal)
+no_refusal_of_no_bytes refusal (inl few) = omega (arith, few.0)
+no_refusal_of_no_bytes refusal (inr h) =
+    let ends = h.has_head.is_head.ends in
+    let some : 0 < length h.head = head_is_no_empty_text ends.0 h.head ends.1 ends.2 in
+    let long : 0 ≡ length (print_blank h.skipped) + length (h.head ++ h.rest) =
+    ap (λ (t : List ℕ). length t) h.has_head.parts ∙ length-append (print_blank h.skipped) (h.head ++ h.rest) in
+    let parts : length (h.head ++ h.rest) ≡ length h.head + length h.rest = length-append h.head h.rest in
+    omega arith
+
+-- No bytes are unfinished.
+pub no_bytes_are_unfinished : IsUnfinished []
+no_bytes_are_unfinished = record {
+  no_message = λ frame rest r e m.
+      let some = frame_is_no_empty_text frame r m in
+      let none : 0 ≡ length frame + length rest = ap (λ (t : List ℕ). length t) e ∙ length-append frame rest in
+      omega arith;
+  no_refusal = no_refusal_of_no_bytes;
+}
+
+-- What is left behind the message that comes first.
+pub rest_behind : (bytes left : List ℕ) (r : RequestValue) (used : ℕ) → (b : BeginsWith bytes r used) → left ≡ drop used bytes → left ≡ b.rest
+rest_behind bytes left r used b is =
+    is ∙ ap (λ t. drop used t) b.parts ∙ ap (λ n. drop n (b.frame ++ b.rest)) (sym b.used_is) ∙ drop-append_seam b.frame b.rest
+
+-- A message at the beginning of bytes.
+pub begins : (bytes frame rest : List ℕ) (r : RequestValue) → bytes ≡ frame ++ rest → ReadsMessage frame r → BeginsWith bytes r (length frame)
+begins bytes frame rest r parts m = record { frame = frame; rest = rest; parts = parts; used_is = refl; reads = m }
+
+-- Bytes begin with one message, and have one rest behind it.
+pub first_message_once : (bytes frame after other behind : List ℕ) (r s : RequestValue) → bytes ≡ frame ++ after → bytes ≡ other ++ behind
+    → ReadsMessage frame r → ReadsMessage other s → (r ≡ s) × (after ≡ behind)
+first_message_once bytes frame after other behind r s parts pieces m n =
+    let same = message_once bytes r s (length frame) (length other) (begins bytes frame after r parts m) (begins bytes other behind s pieces n) in (
+      same.0,
+      sym (drop-append_seam frame after) ∙ ap (λ (t : List ℕ). drop (length frame) t) (sym parts ∙ pieces)
+          ∙ ap (λ n. drop n (other ++ behind)) same.1 ∙ drop-append_seam other behind,
+    )
