@@ -5,17 +5,17 @@ use Rattle.tfs_addr.specs.declared.resource.Mode.{Mode}
 use Rattle.tfs_addr.specs.Address.{IsStripped, stripped_text, module_part, resource_part, configuration_address}
 use Rattle.tfs_addr.proofs.ReadingLemmas.{IsStripped-unique}
 
--- the root module has no characters, and none are left
+-- The root module has no characters, and none are left.
 pub module_part-root : (path bare : List ℕ) → length path ≡ 0 → IsStripped path bare → bare ≡ module_part path bare
 module_part-root [] bare e h = IsStripped-unique [] bare [] h ([], record { valid = tt; printed = refl }, refl)
 module_part-root (b ∷ path) bare e h = absurd (omega arith)
 
--- a module below the root has its path and a dot
+-- A module below the root has its path and a dot.
 pub module_part-inner : (path bare : List ℕ) → length path ≢ 0 → bare ++ codes "." ≡ module_part path bare
 module_part-inner [] bare some = absurd (some refl)
 module_part-inner (b ∷ path) bare some = refl
 
--- the parts in a row are the address
+-- The parts in a row are the address.
 pub configuration_address-some : (path : List ℕ) (mode : Mode) (kind name bare front text : List ℕ) → stripped_text path ≡ Some bare
     → front ≡ module_part path bare → text ≡ front ++ resource_part mode kind name
     → configuration_address path mode kind name ≡ Some text

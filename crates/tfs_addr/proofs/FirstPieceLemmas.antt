@@ -11,30 +11,30 @@ use Rattle.std.proofs.lemmas.Bool.{cases_Bool, cases_eq}
 use Rattle.std.proofs.lemmas.Bool.Decides.{nat_tests}
 use Rattle.tfs_addr.specs.Address.{opening, closing, quote, backslash, KeyUnit, plain, escaped, Piece, character, number_key, text_key, print_unit, print_piece, IsUnit, IsPiece, close_key, first_digits, put_unit, first_units, first_key, first_piece}
 
--- a test that fails
+-- A test that fails.
 differs : (a b : ℕ) → a ≢ b → eqb a b ≡ false
 differs a b ne = grind (arith, nat_tests)
 
 -- ---- units
 
--- a quote ends the units
+-- A quote ends the units.
 pub first_units-quote : (cs : List ℕ) → first_units (quote ∷ cs) ≡ Some ([], cs)
 unfolding first_units
 first_units-quote [] = refl
 first_units-quote (d ∷ cs) = refl
 
--- a character that is no quote and no backslash is a unit
+-- A character that is no quote and no backslash is a unit.
 pub first_units-plain : (c : ℕ) (cs : List ℕ) → c ≢ quote → c ≢ backslash → first_units (c ∷ cs) ≡ put_unit (plain c) (first_units cs)
 unfolding first_units
 first_units-plain c [] q b = rw (differs c quote q) refl
 first_units-plain c (d ∷ cs) q b = rw (differs c quote q, differs c backslash b) refl
 
--- a backslash makes the next character a unit
+-- A backslash makes the next character a unit.
 pub first_units-escaped : (c : ℕ) (cs : List ℕ) → first_units (backslash ∷ c ∷ cs) ≡ put_unit (escaped c) (first_units cs)
 unfolding first_units
 first_units-escaped c cs = refl
 
--- units and a quote are read as they stand
+-- Units and a quote are read as they stand.
 pub first_units-print : (units : List KeyUnit) (rest : List ℕ) → AllByRecursion IsUnit units
     → first_units (flat_map print_unit units ++ quote ∷ rest) ≡ Some (units, rest)
 first_units-print [] rest h = first_units-quote rest
@@ -45,15 +45,15 @@ first_units-print (escaped c ∷ units) rest h =
     first_units-escaped c (flat_map print_unit units ++ quote ∷ rest)
     ∙ ap (put_unit (escaped c)) (first_units-print units rest h.1)
 
--- what was read is the units and the quote at the front of cs
+-- What was read is the units and the quote at the front of cs.
 abbrev pub HasUnits : List ℕ → List KeyUnit × List ℕ → Type 0
 HasUnits cs r = AllByRecursion IsUnit r.0 × (cs ≡ flat_map print_unit r.0 ++ quote ∷ r.1)
 
--- if there are units, they stand at the front
+-- If there are units, they stand at the front.
 abbrev UnitsAre : List ℕ → Option (List KeyUnit × List ℕ) → Type 0
 UnitsAre cs o = MatchOption o ⊤ (HasUnits cs)
 
--- one unit more stands before them
+-- One unit more stands before them.
 UnitsAre-put : (unit : KeyUnit) (cs : List ℕ) (o : Option (List KeyUnit × List ℕ)) → IsUnit unit → UnitsAre cs o
     → UnitsAre (print_unit unit ++ cs) (put_unit unit o)
 UnitsAre-put unit cs None u h = tt
@@ -63,17 +63,17 @@ UnitsAre-put unit cs (Some r) u h = (
       ∙ sym (append_assoc (print_unit unit) (flat_map print_unit r.0) (quote ∷ r.1)),
 )
 
--- one character ends units only if it is the quote
+-- One character ends units only if it is the quote.
 pub first_units-one : (c : ℕ) → c ≢ quote → first_units (c ∷ []) ≡ None
 unfolding first_units
 first_units-one c q = rw (differs c quote q) refl
 
--- no character ends none
+-- No character ends none.
 pub first_units-nil : first_units [] ≡ None
 unfolding first_units
 first_units-nil = refl
 
--- units that were read stand at the front
+-- Units that were read stand at the front.
 pub first_units-reads : (cs : List ℕ) → UnitsAre cs (first_units cs)
 first_units-reads [] = rw first_units-nil tt
 first_units-reads (c ∷ []) =
@@ -92,15 +92,15 @@ first_units-reads (c ∷ d ∷ cs) =
 
 -- ---- keys
 
--- what was read is the key at the front of cs, after its opening bracket
+-- What was read is the key at the front of cs, after its opening bracket.
 abbrev pub HasKey : List ℕ → Piece × List ℕ → Type 0
 HasKey cs r = IsPiece r.0 × (opening ∷ cs ≡ print_piece r.0 ++ r.1)
 
--- if there is a key, it stands at the front
+-- If there is a key, it stands at the front.
 abbrev KeyIs : List ℕ → Option (Piece × List ℕ) → Type 0
 KeyIs cs o = MatchOption o ⊤ (HasKey cs)
 
--- the bracket is there, and the key is closed by it
+-- The bracket is there, and the key is closed by it.
 close_key-reads : (key : Piece) (cs : List ℕ) → MatchOption (close_key key cs) ⊤ (λ r. (r.0 ≡ key) × (cs ≡ closing ∷ r.1))
 close_key-reads key [] = tt
 close_key-reads key (c ∷ cs) =
@@ -109,7 +109,7 @@ close_key-reads key (c ∷ cs) =
       | inr ne ↦ rw (differs c closing ne) tt
     ]
 
--- a front and its bracket are the key that they print
+-- A front and its bracket are the key that they print.
 KeyIs-close : (front cs : List ℕ) (key : Piece) (o : Option (Piece × List ℕ)) → IsPiece key
     → print_piece key ≡ opening ∷ (front ++ closing ∷ [])
     → MatchOption o ⊤ (λ r. (r.0 ≡ key) × (cs ≡ closing ∷ r.1)) → KeyIs (front ++ cs) o
@@ -119,11 +119,11 @@ KeyIs-close front cs key (Some r) valid printed h = rw h.0 (
   rw (printed, h.1) (ap (λ (t : List ℕ). opening ∷ t) (sym (append_assoc front (closing ∷ []) r.1))),
 )
 
--- each character is a digit
+-- Each character is a digit.
 abbrev AllDigits : List ℕ → Type 0
 AllDigits cs = AllByRecursion (λ c. is_ascii_digit c ≡ true) cs
 
--- the digits in front are digits
+-- The digits in front are digits.
 take-digits : (cs : List ℕ) → AllDigits (take (prefix_len is_ascii_digit cs) cs)
 take-digits [] = tt
 take-digits (c ∷ cs) =
@@ -134,28 +134,28 @@ take-digits (c ∷ cs) =
       | inr e ↦ rw e tt
     ]
 
--- they end at a closing bracket
+-- They end at a closing bracket.
 prefix_len-digits : (digits rest : List ℕ) → AllDigits digits
     → prefix_len is_ascii_digit (digits ++ closing ∷ rest) ≡ length digits
 prefix_len-digits [] rest h = refl
 prefix_len-digits (c ∷ digits) rest h = rw (h.0, prefix_len-digits digits rest h.1) (omega arith)
 
--- no digit in front: none are read
+-- No digit in front: none are read.
 first_digits-none : (cs : List ℕ) → prefix_len is_ascii_digit cs ≡ 0 → first_digits cs ≡ None
 unfolding first_digits
 first_digits-none cs e = rw e refl
 
--- else all of them are read
+-- Else all of them are read.
 first_digits-some : (cs : List ℕ) → prefix_len is_ascii_digit cs ≢ 0 → first_digits cs
     ≡ Some (take (prefix_len is_ascii_digit cs) cs, drop (prefix_len is_ascii_digit cs) cs)
 unfolding first_digits
 first_digits-some cs ne = rw (differs (prefix_len is_ascii_digit cs) 0 ne) refl
 
--- the digits as a key
+-- The digits as a key.
 abbrev close_number : Option (List ℕ × List ℕ) → Option (Piece × List ℕ)
 close_number o = option_and_then (λ r. close_key (number_key r.0) r.1) o
 
--- a key of digits that was read stands at the front
+-- A key of digits that was read stands at the front.
 KeyIs-number : (cs : List ℕ) → KeyIs cs (close_number (first_digits cs))
 KeyIs-number cs =
     let n = prefix_len is_ascii_digit cs in
@@ -168,7 +168,7 @@ KeyIs-number cs =
           rw (first_digits-some cs ne) (rw (take-append-drop n cs) at whole)
     ]
 
--- digits and a bracket are read as they stand
+-- Digits and a bracket are read as they stand.
 first_digits-print : (digits rest : List ℕ) → 0 < length digits → AllDigits digits
     → first_digits (digits ++ closing ∷ rest) ≡ Some (digits, closing ∷ rest)
 first_digits-print digits rest some h =
@@ -176,15 +176,15 @@ first_digits-print digits rest some h =
     let ne : prefix_len is_ascii_digit (digits ++ closing ∷ rest) ≢ 0 = omega (arith, n) in
     rw (first_digits-some (digits ++ closing ∷ rest) ne, n, take-append_seam digits (closing ∷ rest), drop-append_seam digits (closing ∷ rest)) refl
 
--- a digit begins no text
+-- A digit begins no text.
 digit_is_no_quote : (c : ℕ) → is_ascii_digit c ≡ true → c ≢ quote
 digit_is_no_quote c h = grind (arith, nat_tests)
 
--- a key that begins with no quote is read as digits
+-- A key that begins with no quote is read as digits.
 first_key-digits : (c : ℕ) (cs : List ℕ) → c ≢ quote → first_key (c ∷ cs) ≡ close_number (first_digits (c ∷ cs))
 first_key-digits c cs ne = rw (differs c quote ne) refl
 
--- a key of digits is read as it stands
+-- A key of digits is read as it stands.
 first_key-number : (digits rest : List ℕ) → 0 < length digits → AllDigits digits
     → first_key (digits ++ closing ∷ rest) ≡ Some (number_key digits, rest)
 first_key-number [] rest some h = absurd (omega arith)
@@ -192,16 +192,16 @@ first_key-number (c ∷ digits) rest some h =
     first_key-digits c (digits ++ closing ∷ rest) (digit_is_no_quote c h.0)
     ∙ ap close_number (first_digits-print (c ∷ digits) rest some h)
 
--- the units as a key
+-- The units as a key.
 abbrev close_text : Option (List KeyUnit × List ℕ) → Option (Piece × List ℕ)
 close_text o = option_and_then (λ r. close_key (text_key r.0) r.1) o
 
--- a key of units is read as it stands
+-- A key of units is read as it stands.
 first_key-text : (units : List KeyUnit) (rest : List ℕ) → AllByRecursion IsUnit units
     → first_key (quote ∷ (flat_map print_unit units ++ quote ∷ closing ∷ rest)) ≡ Some (text_key units, rest)
 first_key-text units rest h = ap close_text (first_units-print units (closing ∷ rest) h)
 
--- a key of units that was read stands at the front
+-- A key of units that was read stands at the front.
 KeyIs-text : (cs : List ℕ) (o : Option (List KeyUnit × List ℕ)) → UnitsAre cs o → KeyIs (quote ∷ cs) (close_text o)
 KeyIs-text cs None h = tt
 KeyIs-text cs (Some r) h =
@@ -214,7 +214,7 @@ KeyIs-text cs (Some r) h =
     ap (λ (t : List ℕ). quote ∷ t) (append_assoc (flat_map print_unit r.0) (quote ∷ []) r.1 ∙ sym h.1) in
     rw joined at whole
 
--- a key that was read stands at the front
+-- A key that was read stands at the front.
 pub first_key-reads : (cs : List ℕ) → KeyIs cs (first_key cs)
 first_key-reads [] = tt
 first_key-reads (c ∷ cs) =
@@ -225,27 +225,27 @@ first_key-reads (c ∷ cs) =
 
 -- ---- pieces
 
--- an empty text begins with no piece
+-- An empty text begins with no piece.
 pub first_piece-nil : first_piece [] ≡ None
 unfolding first_piece
 first_piece-nil = refl
 
--- an opening bracket begins a key
+-- An opening bracket begins a key.
 pub first_piece-opening : (cs : List ℕ) → first_piece (opening ∷ cs) ≡ first_key cs
 unfolding first_piece
 first_piece-opening cs = refl
 
--- a closing bracket begins nothing
+-- A closing bracket begins nothing.
 pub first_piece-closing : (cs : List ℕ) → first_piece (closing ∷ cs) ≡ None
 unfolding first_piece
 first_piece-closing cs = refl
 
--- any other character is a piece
+-- Any other character is a piece.
 pub first_piece-character : (c : ℕ) (cs : List ℕ) → c ≢ opening → c ≢ closing → first_piece (c ∷ cs) ≡ Some (character c, cs)
 unfolding first_piece
 first_piece-character c cs o e = rw (differs c opening o, differs c closing e) refl
 
--- a piece is read as it stands
+-- A piece is read as it stands.
 pub first_piece-print : (piece : Piece) (rest : List ℕ) → IsPiece piece → first_piece (print_piece piece ++ rest) ≡ Some (piece, rest)
 first_piece-print (character c) rest h = first_piece-character c rest h.0 h.1
 first_piece-print (number_key digits) rest h =
@@ -257,11 +257,11 @@ first_piece-print (text_key units) rest h =
     ∙ ap (λ (t : List ℕ). first_key (quote ∷ t)) (append_assoc (flat_map print_unit units) (quote ∷ closing ∷ []) rest)
     ∙ first_key-text units rest h
 
--- what was read is the piece at the front of cs
+-- What was read is the piece at the front of cs.
 abbrev pub HasPiece : List ℕ → Piece × List ℕ → Type 0
 HasPiece cs r = IsPiece r.0 × (cs ≡ print_piece r.0 ++ r.1)
 
--- a piece that was read stands at the front
+-- A piece that was read stands at the front.
 pub first_piece-reads : (cs : List ℕ) → MatchOption (first_piece cs) ⊤ (HasPiece cs)
 first_piece-reads [] = rw first_piece-nil tt
 first_piece-reads (c ∷ cs) =

@@ -1,70 +1,112 @@
 -- The key, or the fault, at a text's first bracket.
-use Rattle.std.proofs.Common.{◌≡◌, ℕ, ◌<◌, eqb, true, false, List, [], ◌∷◌, length, Option, Some, None, Bor, sym, ap, inl, inr, arith}
-use Rattle.std.specs.Prelude.{chars, IsUtf8, encode_utf8_all, option_map, ok_or, IfOk, IfErr, OnErr}
-use Rattle.std.proofs.lemmas.Str.{encodes-chars}
+use Rattle.std.proofs.Common.{◌≡◌, ◌≢◌, ◌-◌, ℕ, ◌<◌, ◌≤◌, List, [], ◌∷◌, ◌++◌, length, drop, Option, Some, None, refl, sym, ap, ◌∙◌, inl, inr, arith, length-append}
+use Rattle.std.specs.Prelude.{chars, IsUtf8, IsCharBoundary, encode_utf8, encode_utf8_all}
+use Rattle.std.proofs.Math.Seq.{drop-append_seam}
+use Rattle.std.proofs.lemmas.Str.{encode_ascii, encodes-append, encodes-chars, chars_from_encodes, chars_past_char, IsUtf8-past_char, IsCharBoundary-at_seam}
 use Rattle.std.proofs.lemmas.Option.{same_Some, none-some}
-use Rattle.std.proofs.lemmas.Bool.{cases_eq}
-use Rattle.std.proofs.lemmas.Bool.Decides.{nat_tests}
-use Rattle.tfs_addr.specs.declared.fault.AddrFault.TheVariants.{Unclosed}
-use Rattle.tfs_addr.specs.Address.{opening, closing, BeginsNoPiece}
-use Rattle.tfs_addr.specs.Steps.{MayBeginWith, IsKeyThen, IsFaultAt, rest_after}
-use Rattle.tfs_addr.proofs.EndLemmas.{after_key}
+use Rattle.tfs_addr.specs.Address.{opening, closing, print_piece, BeginsNoPiece}
+use Rattle.tfs_addr.specs.Steps.{MayBeginWith, IsKeyThen, key_rest}
+use Rattle.tfs_addr.proofs.ByteLemmas.{encoded, key_rest-encodes}
 use Rattle.tfs_addr.proofs.PieceLemmas.{IsKeyThen-from_end, BeginsNoPiece-opening, BeginsNoPiece-closing}
 
--- what follows a character stands after it
-pub rest_after-some : (mark : ℕ) (cs rest : List ℕ) → rest_after mark cs ≡ Some rest → cs ≡ mark ∷ rest
-rest_after-some mark [] rest e = absurd (none-some rest e)
-rest_after-some mark (c ∷ cs) rest e =
-    elim (cases_eq c mark) [
-      | inl same ↦
-          let test : eqb c mark ≡ true = grind (arith, nat_tests) in
-          let tail : cs ≡ rest = same_Some cs rest (rw test at e) in
-          cc
-      | inr other ↦
-          let test : eqb c mark ≡ false = grind (arith, nat_tests) in
-          absurd (none-some rest (rw test at e))
-    ]
+-- ---- a closing bracket
 
--- a bracket that opens nothing closes
-closing_bracket : (cs : List ℕ) → 0 < length cs → MayBeginWith opening closing cs → rest_after opening cs ≡ None → (rest : List ℕ) × (cs ≡ closing ∷ rest)
-closing_bracket [] some h e = absurd (omega arith)
-closing_bracket (c ∷ cs) some (inl is) e =
-    let test : eqb c opening ≡ true = grind (arith, nat_tests) in
-    absurd (none-some cs (sym (rw test at e)))
-closing_bracket (c ∷ cs) some (inr is) e = (cs, ap (λ (x : ℕ). x ∷ cs) is)
+-- A bracket that is no opening one closes.
+closing_bracket : (cs bs : List ℕ) → encode_utf8_all cs ≡ bs → 0 < length bs → MayBeginWith opening closing cs
+    → ((rest : List ℕ) → bs ≢ opening ∷ rest) → (rest : List ℕ) × (cs ≡ closing ∷ rest)
+closing_bracket [] bs e some h no_opening = absurd (omega (arith, ap length e))
+closing_bracket (c ∷ cs) bs e some (inl is) no_opening =
+    absurd (no_opening (encode_utf8_all cs)
+    (sym e ∙ ap (λ (x : ℕ). encode_utf8 x ++ encode_utf8_all cs) is
+    ∙ ap (λ (t : List ℕ). t ++ encode_utf8_all cs) (encode_ascii opening (omega arith))))
+closing_bracket (c ∷ cs) bs e some (inr is) no_opening = (cs, ap (λ (x : ℕ). x ∷ cs) is)
 
--- a text with bytes has characters
-some_character : (cs bs : List ℕ) → encode_utf8_all cs ≡ bs → 0 < length bs → 0 < length cs
-some_character [] bs e some = absurd (omega (arith, ap length e))
-some_character (c ∷ cs) bs e some = omega arith
+-- A text that begins with a bracket, and not with an opening one, begins with a closing one.
+pub closes : (bs : List ℕ) → IsUtf8 bs → 0 < length bs → MayBeginWith opening closing (chars bs)
+    → ((rest : List ℕ) → bs ≢ opening ∷ rest) → (rest : List ℕ) × (chars bs ≡ closing ∷ rest)
+closes bs u some h no_opening = closing_bracket (chars bs) bs (encodes-chars bs u) some h no_opening
 
--- a text that begins with a bracket, and not with an opening one, begins with a closing one
-pub closes : (bs : List ℕ) → IsUtf8 bs → 0 < length bs → MayBeginWith opening closing (chars bs) → rest_after opening (chars bs) ≡ None
-    → (rest : List ℕ) × (chars bs ≡ closing ∷ rest)
-closes bs u some h e = closing_bracket (chars bs) (some_character (chars bs) bs (encodes-chars bs u) some) h e
-
--- and so with no piece
+-- And so with no piece.
 pub closes-no_piece : (cs : List ℕ) → (rest : List ℕ) × (cs ≡ closing ∷ rest) → BeginsNoPiece cs
 closes-no_piece cs h = rw h.1 (BeginsNoPiece-closing h.0)
 
--- ---- after an opening bracket, where r is what follows the key
+-- ---- an opening bracket
 
--- cs is an opening bracket and key, and r is what follows the key in it
-abbrev pub Opened : List ℕ → List ℕ → Option (Bor (List ℕ)) → Type 0
-Opened cs key r = (cs ≡ opening ∷ key) × (option_map (λ x. chars x.now) r ≡ after_key key)
+-- A text after its opening bracket.
+opens : (bs key : List ℕ) → IsUtf8 bs → bs ≡ opening ∷ key → (chars bs ≡ opening ∷ chars key) × IsUtf8 key
+opens bs key u e =
+    let front : bs ≡ encode_utf8 opening ++ key = e ∙ ap (λ (t : List ℕ). t ++ key) (sym (encode_ascii opening (omega arith))) in
+    (chars_past_char bs key opening u front, IsUtf8-past_char bs key opening u front)
 
--- a key that ends is a key
-pub opened-ok : (cs key : List ℕ) (r : Option (Bor (List ℕ))) → Opened cs key r
-    → IfOk (ok_or r Unclosed) (λ rest. IsKeyThen cs (chars rest.now))
-opened-ok cs key None h = tt
-opened-ok cs key (Some x) h = rw h.0 (IsKeyThen-from_end key (chars x.now) (sym h.1))
+-- The key of a text ends where that of its characters does.
+key_rest-text : (key : List ℕ) → IsUtf8 key → key_rest key ≡ encoded (key_rest (chars key))
+key_rest-text key u = ap key_rest (sym (encodes-chars key u)) ∙ key_rest-encodes (chars key)
 
--- one that does not is no piece
-pub opened-err : (cs key : List ℕ) (r : Option (Bor (List ℕ))) → Opened cs key r → OnErr (ok_or r Unclosed) (BeginsNoPiece cs)
-opened-err cs key None h = rw h.0 (BeginsNoPiece-opening key (sym h.1))
-opened-err cs key (Some x) h = tt
+-- Bytes that follow are those of characters that follow.
+encoded-some : (o : Option (List ℕ)) (rest : List ℕ) → encoded o ≡ Some rest → (cs : List ℕ) × (o ≡ Some cs) × (encode_utf8_all cs ≡ rest)
+encoded-some None rest e = absurd (none-some rest e)
+encoded-some (Some cs) rest e = (cs, refl, same_Some (encode_utf8_all cs) rest e)
 
--- and its fault is that of an opening bracket
-pub opened-fault : (cs key : List ℕ) (r : Option (Bor (List ℕ))) → Opened cs key r → IfErr (ok_or r Unclosed) (λ e. IsFaultAt e cs)
-opened-fault cs key None h = (key, h.0)
-opened-fault cs key (Some x) h = tt
+-- Where none follow, no characters do.
+encoded-none : (o : Option (List ℕ)) → encoded o ≡ None → o ≡ None
+encoded-none None e = refl
+encoded-none (Some cs) e = absurd (none-some (encode_utf8_all cs) (sym e))
+
+-- What follows characters of a text is a text.
+utf8-back : (xs ys : List ℕ) → IsUtf8 (encode_utf8_all (xs ++ ys)) → IsUtf8 (encode_utf8_all ys)
+utf8-back [] ys u = u
+utf8-back (c ∷ xs) ys u = utf8-back xs ys (IsUtf8-past_char (encode_utf8_all (c ∷ (xs ++ ys))) (encode_utf8_all (xs ++ ys)) c u refl)
+
+-- The text is a key, whose bytes are front, and then rest, which is a text too.
+pub record KeyEnds (text rest : List ℕ) : Type 0 where
+  pub front : List ℕ
+  pub split : text ≡ front ++ rest
+  pub utf8 : IsUtf8 rest
+  pub key : IsKeyThen (chars text) (chars rest)
+
+-- A key whose end is known.
+pub KeyEnds-from_rest : (text key rest : List ℕ) → IsUtf8 text → text ≡ opening ∷ key → key_rest key ≡ Some rest → KeyEnds text rest
+KeyEnds-from_rest text key rest u e k =
+    let inside = opens text key u e in
+    let end = encoded-some (key_rest (chars key)) rest (sym (key_rest-text key inside.1) ∙ k) in
+    let read = IsKeyThen-from_end (chars key) end.0 end.1 in
+    let whole : chars text ≡ print_piece read.0 ++ end.0 = inside.0 ∙ read.3 in
+    let bytes : text ≡ encode_utf8_all (print_piece read.0 ++ end.0) = sym (encodes-chars text u) ∙ ap encode_utf8_all whole in
+    let after : IsUtf8 (encode_utf8_all end.0) = utf8-back (print_piece read.0) end.0 (rw bytes at u) in
+    let utf8 : IsUtf8 rest = rw end.2 at after in
+    let same : end.0 ≡ chars rest = chars_from_encodes end.0 rest utf8 end.2 in
+    record {
+      front = encode_utf8_all (print_piece read.0);
+      split =
+          bytes ∙ encodes-append (print_piece read.0) end.0
+          ∙ ap (λ (t : List ℕ). encode_utf8_all (print_piece read.0) ++ t) end.2;
+      utf8 = utf8;
+      key = (read.0, read.1, read.2, whole ∙ ap (λ (t : List ℕ). print_piece read.0 ++ t) same);
+    }
+
+-- The rest is no longer than the text.
+pub KeyEnds-shorter : (text rest : List ℕ) → KeyEnds text rest → length rest ≤ length text
+KeyEnds-shorter text rest h = omega (arith, ap length h.split, length-append h.front rest)
+
+-- Where the rest begins.
+KeyEnds-place : (text rest : List ℕ) (h : KeyEnds text rest) → length text - length rest ≡ length h.front
+KeyEnds-place text rest h = omega (arith, ap length h.split, length-append h.front rest)
+
+-- The text may be cut there.
+pub KeyEnds-boundary : (text rest : List ℕ) → KeyEnds text rest → IsCharBoundary text (length text - length rest)
+KeyEnds-boundary text rest h = rw (KeyEnds-place text rest h) (IsCharBoundary-at_seam text h.front rest h.split h.utf8)
+
+-- And what comes from there on is the rest.
+pub KeyEnds-back : (text rest : List ℕ) → KeyEnds text rest → drop (length text - length rest) text ≡ rest
+KeyEnds-back text rest h =
+    rw (KeyEnds-place text rest h) (ap (drop (length h.front)) h.split ∙ drop-append_seam h.front rest)
+
+-- Where no key ends, no piece begins.
+pub opens-no_piece : (text key : List ℕ) → IsUtf8 text → text ≡ opening ∷ key → key_rest key ≡ None → BeginsNoPiece (chars text)
+opens-no_piece text key u e none =
+    let inside = opens text key u e in
+    rw inside.0 (BeginsNoPiece-opening (chars key) (encoded-none (key_rest (chars key)) (sym (key_rest-text key inside.1) ∙ none)))
+
+-- Though a bracket is there.
+pub opens-bracket : (text key : List ℕ) → IsUtf8 text → text ≡ opening ∷ key → (rest : List ℕ) × (chars text ≡ opening ∷ rest)
+opens-bracket text key u e = (chars key, (opens text key u e).0)

@@ -1,97 +1,57 @@
--- A text has one reading or one first place where no piece begins, and `stripped_text` tells which.
-use Rattle.std.proofs.Common.{◌≡◌, ℕ, zero, suc, ◌≤◌, ◌⊎◌, List, [], ◌∷◌, ◌++◌, length, Option, Some, None, Result, Err, refl, sym, ap, ◌∙◌, inl, inr, arith, append_assoc, append-nil, length-append}
+-- A text reads or stops, and `stripped_text` tells which.
+use Rattle.std.proofs.Common.{◌≡◌, ℕ, zero, suc, ◌+◌, ◌-◌, ◌≤◌, ◌⊎◌, List, [], ◌∷◌, ◌++◌, length, Option, Some, None, Result, Err, refl, sym, ap, ◌∙◌, inl, inr, arith, append_assoc, length-append}
 use Rattle.std.specs.Prelude.{IsUtf8, chars, encode_utf8_all}
 use Rattle.std.specs.Option.{IsSome, option_map, MatchOption}
 use Rattle.std.specs.List.{AllByRecursion}
-use Rattle.std.proofs.lemmas.Option.{some_pair_parts}
-use Rattle.std.proofs.lemmas.Str.{encodes-chars, encodes_same}
+use Rattle.std.proofs.lemmas.Str.{chars-nil, encodes-chars}
 use Rattle.std.proofs.lemmas.Bool.{cases_eq}
 use Rattle.tfs_addr.specs.declared.fault.AddrFault.{AddrFault}
 use Rattle.tfs_addr.specs.declared.fault.AddrFault.TheVariants.{Unclosed, StrayBracket, NoMemory}
-use Rattle.tfs_addr.specs.Address.{opening, closing, Piece, character, print_piece, print_pieces, without_keys, IsPiece, ReadsPieces, IsStripped, HasNoReading, BeginsNoPiece, StopsAt, first_piece, pieces_within, stripped_text, GivesText}
+use Rattle.tfs_addr.specs.Address.{opening, closing, Piece, character, print_piece, print_pieces, without_keys, IsPiece, IsStripped, HasNoReading, BeginsNoPiece, StopsAt, first_piece, pieces_within, stripped_text, GivesText}
 use Rattle.tfs_addr.specs.Steps.{IsFaultAt, FaultOf}
-use Rattle.tfs_addr.proofs.FirstPieceLemmas.{HasPiece, first_piece-reads, first_piece-print}
-use Rattle.tfs_addr.proofs.PieceLemmas.{print_piece-some, BeginsNoPiece-nil, BeginsNoPiece-from_none, HasRead, StopsAt-from_read, IsStripped-from_read}
-use Rattle.tfs_addr.proofs.CharLemmas.{chars-empty}
-
--- ---- one reading, one stop
-
--- two readings of one text go the same way, up to the first place where no piece begins
-pub pieces_agree : (ps qs : List Piece) (xs ys : List ℕ) → AllByRecursion IsPiece ps → AllByRecursion IsPiece qs
-    → BeginsNoPiece xs → BeginsNoPiece ys → print_pieces ps ++ xs ≡ print_pieces qs ++ ys → (ps ≡ qs) × (xs ≡ ys)
-pieces_agree [] [] xs ys hp hq nx ny e = (refl, e)
-pieces_agree [] (q ∷ qs) xs ys hp hq nx ny e =
-    absurd (nx q (print_pieces qs ++ ys) hq.0 (e ∙ append_assoc (print_piece q) (print_pieces qs) ys))
-pieces_agree (p ∷ ps) [] xs ys hp hq nx ny e =
-    absurd (ny p (print_pieces ps ++ xs) hp.0 (sym e ∙ append_assoc (print_piece p) (print_pieces ps) xs))
-pieces_agree (p ∷ ps) (q ∷ qs) xs ys hp hq nx ny e =
-    let whole : print_piece p ++ (print_pieces ps ++ xs) ≡ print_piece q ++ (print_pieces qs ++ ys) =
-    sym (append_assoc (print_piece p) (print_pieces ps) xs) ∙ e ∙ append_assoc (print_piece q) (print_pieces qs) ys in
-    let same = some_pair_parts p q (print_pieces ps ++ xs) (print_pieces qs ++ ys)
-    (sym (first_piece-print p (print_pieces ps ++ xs) hp.0) ∙ ap first_piece whole ∙ first_piece-print q (print_pieces qs ++ ys) hq.0) in
-    let rest = pieces_agree ps qs xs ys hp.1 hq.1 nx ny same.1 in
-    (cc, rest.1)
-
--- a text has one reading at most
-pub reading_is_unique : (text : List ℕ) (first second : List Piece) → ReadsPieces text first → ReadsPieces text second → first ≡ second
-reading_is_unique text first second f s =
-    let same = encodes_same (print_pieces first) (print_pieces second) (sym f.printed ∙ s.printed) in
-    let ended = append-nil (print_pieces first) ∙ same ∙ sym (append-nil (print_pieces second)) in
-    (pieces_agree first second [] [] f.valid s.valid BeginsNoPiece-nil BeginsNoPiece-nil ended).0
-
--- a text that stops has none
-pub stop_has_no_reading : (text : List ℕ) (c : ℕ) → StopsAt text c → HasNoReading text
-stop_has_no_reading text c h pieces r =
-    let same = encodes_same (print_pieces pieces) (print_pieces h.0 ++ c ∷ h.1) (sym r.printed ∙ h.3) in
-    let ended = append-nil (print_pieces pieces) ∙ same in
-    let agree = pieces_agree pieces h.0 [] (c ∷ h.1) r.valid h.2 BeginsNoPiece-nil h.4 ended in
-    absurd (omega (arith, ap length agree.1))
-
--- it stops at one character
-pub stop_is_unique : (text : List ℕ) (c d : ℕ) → StopsAt text c → StopsAt text d → c ≡ d
-stop_is_unique text c d h k =
-    let same = encodes_same (print_pieces h.0 ++ c ∷ h.1) (print_pieces k.0 ++ d ∷ k.1) (sym h.3 ∙ k.3) in
-    let agree = pieces_agree h.0 k.0 (c ∷ h.1) (d ∷ k.1) h.2 k.2 h.4 k.4 same in
-    cc agree.1
+use Rattle.tfs_addr.proofs.FirstPieceLemmas.{HasPiece, first_piece-reads}
+use Rattle.tfs_addr.proofs.PieceLemmas.{print_piece-some, BeginsNoPiece-from_none, HasRead, HasRead-nothing, IsStripped-from_read}
+use Rattle.tfs_addr.proofs.StopLemmas.{StopsAt-from_pieces, StopsAt-from_read, HasRead-size, reading_is_unique, stop_has_no_reading}
+use Rattle.tfs_addr.proofs.ByteLemmas.{chars-empty}
 
 -- ---- the function
 
--- an empty text has no pieces
+-- An empty text has no pieces.
 pieces_within-nil : (limit : ℕ) → pieces_within limit [] ≡ Some []
 unfolding pieces_within
 pieces_within-nil zero = refl
 pieces_within-nil (suc limit) = refl
 
--- one piece more
+-- One piece more.
 abbrev put_piece : Piece → Option (List Piece) → Option (List Piece)
 put_piece piece others = option_map (λ os. piece ∷ os) others
 
--- after the first piece come the others
+-- After the first piece come the others.
 pieces_within-some : (limit : ℕ) (c : ℕ) (cs : List ℕ) (r : Piece × List ℕ) → first_piece (c ∷ cs) ≡ Some r
     → pieces_within (suc limit) (c ∷ cs) ≡ put_piece r.0 (pieces_within limit r.1)
 unfolding pieces_within
 pieces_within-some limit c cs r e = rw e refl
 
--- where no first piece is read, none are
+-- Where no first piece is read, none are.
 pieces_within-none : (limit : ℕ) (c : ℕ) (cs : List ℕ) → first_piece (c ∷ cs) ≡ None → pieces_within limit (c ∷ cs) ≡ None
 unfolding pieces_within
 pieces_within-none zero c cs e = refl
 pieces_within-none (suc limit) c cs e = rw e refl
 
--- the characters stop at c, after these pieces
+-- The characters stop at c, after these pieces.
 abbrev Stops : List ℕ → Type 0
 Stops cs = (pieces : List Piece) × (c : ℕ) × (rest : List ℕ) × AllByRecursion IsPiece pieces × (cs ≡ print_pieces pieces ++ c ∷ rest) × BeginsNoPiece (c ∷ rest)
 
--- the characters are these pieces
+-- The characters are these pieces.
 abbrev Reads : List ℕ → List Piece → Type 0
 Reads cs pieces = AllByRecursion IsPiece pieces × (cs ≡ print_pieces pieces)
 
--- a first piece is read, or none is
+-- A first piece is read, or none is.
 first_cases : (o : Option (Piece × List ℕ)) → (o ≡ None) ⊎ ((r : Piece × List ℕ) × (o ≡ Some r))
 first_cases None = inl refl
 first_cases (Some r) = inr (r, refl)
 
--- one piece more stands before what was read
+-- One piece more stands before what was read.
 put-reads : (piece : Piece) (cs rest : List ℕ) (o : Option (List Piece)) → IsPiece piece → cs ≡ print_piece piece ++ rest
     → MatchOption o (Stops rest) (Reads rest) → MatchOption (put_piece piece o) (Stops cs) (Reads cs)
 put-reads piece cs rest None valid e h = (
@@ -104,7 +64,7 @@ put-reads piece cs rest None valid e h = (
 )
 put-reads piece cs rest (Some ps) valid e h = ((valid, h.0), e ∙ ap (λ (t : List ℕ). print_piece piece ++ t) h.1)
 
--- pieces that were read are the characters, and else the characters stop
+-- Pieces that were read are the characters, and else the characters stop.
 pub pieces_within-reads : (limit : ℕ) (cs : List ℕ) → length cs ≤ limit → MatchOption (pieces_within limit cs) (Stops cs) (Reads cs)
 pieces_within-reads zero [] few = rw (pieces_within-nil zero) (tt, refl)
 pieces_within-reads zero (c ∷ cs) few = absurd (omega arith)
@@ -121,16 +81,16 @@ pieces_within-reads (suc limit) (c ∷ cs) few =
 
 -- ---- texts
 
--- the bytes that are left of pieces
+-- The bytes that are left of pieces.
 abbrev strips : Option (List Piece) → Option (List ℕ)
 strips o = option_map (λ pieces. encode_utf8_all (without_keys pieces)) o
 
--- the function is that of the pieces
+-- The function is that of the pieces.
 stripped_text-unfolds : (text : List ℕ) → stripped_text text ≡ strips (pieces_within (length (chars text)) (chars text))
 unfolding stripped_text
 stripped_text-unfolds text = refl
 
--- where no piece begins stands a bracket
+-- Where no piece begins stands a bracket.
 stop_is_bracket : (c : ℕ) (rest : List ℕ) → BeginsNoPiece (c ∷ rest) → (c ≡ opening) ⊎ (c ≡ closing)
 stop_is_bracket c rest none =
     elim (cases_eq c opening) [
@@ -141,130 +101,158 @@ stop_is_bracket c rest none =
       ]
     ]
 
--- the text stops at a bracket
+-- The text stops at a bracket.
 abbrev pub HasStop : List ℕ → Type 0
-HasStop text = StopsAt text opening ⊎ StopsAt text closing
+HasStop text = ((at : ℕ) × StopsAt text opening at) ⊎ ((at : ℕ) × StopsAt text closing at)
 
--- a text that stops has no reading
+-- A text that stops has no reading.
 pub HasStop-no_reading : (text : List ℕ) → HasStop text → HasNoReading text
-HasStop-no_reading text (inl h) = stop_has_no_reading text opening h
-HasStop-no_reading text (inr h) = stop_has_no_reading text closing h
+HasStop-no_reading text (inl h) = stop_has_no_reading text opening h.0 h.1
+HasStop-no_reading text (inr h) = stop_has_no_reading text closing h.0 h.1
 
--- a text stops where its characters do
+-- A text stops where its characters do.
 text-stops : (text : List ℕ) → IsUtf8 text → Stops (chars text) → HasStop text
 text-stops text u h =
-    let stop : StopsAt text h.1 = (h.0, h.2, h.3, sym (encodes-chars text u) ∙ ap encode_utf8_all h.4, h.5) in
+    let at = length (encode_utf8_all (print_pieces h.0)) in
+    let stop : StopsAt text h.1 at =
+    StopsAt-from_pieces text h.2 h.1 at h.0 h.3 (sym (encodes-chars text u) ∙ ap encode_utf8_all h.4) h.5 refl in
     elim (stop_is_bracket h.1 h.2 h.5) [
-      | inl e ↦ inl (rw e at stop)
-      | inr e ↦ inr (rw e at stop)
+      | inl e ↦ inl (at, rw e at stop)
+      | inr e ↦ inr (at, rw e at stop)
     ]
 
--- the same for a text, which is stripped or stops
+-- The same for a text, which is stripped or stops.
 text-outcome : (text : List ℕ) (o : Option (List Piece)) → IsUtf8 text → MatchOption o (Stops (chars text)) (Reads (chars text))
     → MatchOption (strips o) (HasStop text) (IsStripped text)
 text-outcome text None u h = text-stops text u h
 text-outcome text (Some ps) u h =
     (ps, record { valid = h.0; printed = sym (encodes-chars text u) ∙ ap encode_utf8_all h.1 }, refl)
 
--- what the function gives is the text without its keys, and None is a stop
+-- What the function gives is the text without its keys, and None is a stop.
 pub stripped_text-tells : (text : List ℕ) → IsUtf8 text → MatchOption (stripped_text text) (HasStop text) (IsStripped text)
 stripped_text-tells text u =
     rw (stripped_text-unfolds text)
     (text-outcome text (pieces_within (length (chars text)) (chars text)) u (pieces_within-reads (length (chars text)) (chars text) (omega arith)))
 
--- one text is left
+-- One text is left.
 pub IsStripped-unique : (text a b : List ℕ) → IsStripped text a → IsStripped text b → a ≡ b
 IsStripped-unique text a b h k =
     h.2 ∙ ap (λ ps. encode_utf8_all (without_keys ps)) (reading_is_unique text h.0 k.0 h.1 k.1) ∙ sym k.2
 
--- where a text is left, that is what the function gives
+-- Where a text is left, that is what the function gives.
 some-from : (text bare : List ℕ) (o : Option (List ℕ)) → MatchOption o (HasStop text) (IsStripped text) → IsStripped text bare → o ≡ Some bare
 some-from text bare None h k = absurd (HasStop-no_reading text h k.0 k.1)
 some-from text bare (Some b) h k = ap Some (IsStripped-unique text b bare h k)
 
--- where there is no reading, it gives none
+-- Where there is no reading, it gives none.
 none-from : (text : List ℕ) (o : Option (List ℕ)) → MatchOption o (HasStop text) (IsStripped text) → HasNoReading text → o ≡ None
 none-from text None h k = refl
 none-from text (Some b) h k = absurd (k h.0 h.1)
 
--- a text that reads is given without its keys
+-- A text that reads is given without its keys.
 pub stripped_text-some : (text bare : List ℕ) → IsUtf8 text → IsStripped text bare → stripped_text text ≡ Some bare
 stripped_text-some text bare u k = some-from text bare (stripped_text text) (stripped_text-tells text u) k
 
--- of a text that does not read there is none
+-- Of a text that does not read there is none.
 pub stripped_text-none : (text : List ℕ) → IsUtf8 text → HasNoReading text → stripped_text text ≡ None
 stripped_text-none text u k = none-from text (stripped_text text) (stripped_text-tells text u) k
 
 -- ---- the faults of `strip`
 
--- a text with a fault has no reading
+-- A text with a fault has no reading.
 pub FaultOf-no_reading : (text : List ℕ) (e : AddrFault) → FaultOf text e → HasNoReading text
-FaultOf-no_reading text Unclosed h = stop_has_no_reading text opening h
-FaultOf-no_reading text StrayBracket h = stop_has_no_reading text closing h
+FaultOf-no_reading text (Unclosed at) h = stop_has_no_reading text opening at h
+FaultOf-no_reading text (StrayBracket at) h = stop_has_no_reading text closing at h
 FaultOf-no_reading text NoMemory h = absurd h
 
--- where reading stops at a bracket, the text has its fault
-pub FaultOf-from_read : (text rest bare : List ℕ) (e : AddrFault) → IsUtf8 text → HasRead (chars text) rest bare
-    → BeginsNoPiece rest → IsFaultAt e rest → FaultOf text e
-FaultOf-from_read text rest bare Unclosed u h none at_bracket = StopsAt-from_read text rest at_bracket.0 bare opening u h at_bracket.1 none
-FaultOf-from_read text rest bare StrayBracket u h none at_bracket = StopsAt-from_read text rest at_bracket.0 bare closing u h at_bracket.1 none
-FaultOf-from_read text rest bare NoMemory u h none at_bracket = absurd at_bracket
+-- A key of the text is no longer than it.
+pub read-shorter : (text key bare : List ℕ) → IsUtf8 text → IsUtf8 key → HasRead (chars text) (chars key) bare → length key ≤ length text
+read-shorter text key bare u v h = omega (arith, HasRead-size text key bare u v h)
 
--- a fault that is Unclosed
-pub FaultOf-unclosed : {A : Type 0} (text : List ℕ) (e : AddrFault) → FaultOf text e
-    → ◌≡◌ {A = Result A AddrFault} (Err e) (Err Unclosed) → StopsAt text opening
-FaultOf-unclosed text Unclosed h is = h
-FaultOf-unclosed text StrayBracket h is = cc
-FaultOf-unclosed text NoMemory h is = absurd h
+-- Where reading stops at a bracket, the text has its fault.
+pub FaultOf-from_read : (text key bare : List ℕ) (e : AddrFault) → IsUtf8 text → IsUtf8 key → HasRead (chars text) (chars key) bare
+    → BeginsNoPiece (chars key) → IsFaultAt e (length text - length key) (chars key) → FaultOf text e
+FaultOf-from_read text key bare (Unclosed at) u v h none bracket =
+    StopsAt-from_read text (chars key) bracket.1 bare opening at u h bracket.2 none (omega (arith, bracket.0, HasRead-size text key bare u v h))
+FaultOf-from_read text key bare (StrayBracket at) u v h none bracket =
+    StopsAt-from_read text (chars key) bracket.1 bare closing at u h bracket.2 none (omega (arith, bracket.0, HasRead-size text key bare u v h))
+FaultOf-from_read text key bare NoMemory u v h none bracket = absurd bracket
 
--- a fault that is StrayBracket
-pub FaultOf-stray : {A : Type 0} (text : List ℕ) (e : AddrFault) → FaultOf text e
-    → ◌≡◌ {A = Result A AddrFault} (Err e) (Err StrayBracket) → StopsAt text closing
-FaultOf-stray text Unclosed h is = cc
-FaultOf-stray text StrayBracket h is = h
-FaultOf-stray text NoMemory h is = absurd h
+-- A fault that is Unclosed.
+pub FaultOf-unclosed : {A : Type 0} (text : List ℕ) (e : AddrFault) (at : ℕ) → FaultOf text e
+    → ◌≡◌ {A = Result A AddrFault} (Err e) (Err (Unclosed at)) → StopsAt text opening at
+FaultOf-unclosed text (Unclosed n) at h is = let same : n ≡ at = cc in rw same at h
+FaultOf-unclosed text (StrayBracket n) at h is = cc
+FaultOf-unclosed text NoMemory at h is = absurd h
 
--- the text is read, since nothing of it is left
+-- A fault that is StrayBracket.
+pub FaultOf-stray : {A : Type 0} (text : List ℕ) (e : AddrFault) (at : ℕ) → FaultOf text e
+    → ◌≡◌ {A = Result A AddrFault} (Err e) (Err (StrayBracket at)) → StopsAt text closing at
+FaultOf-stray text (Unclosed n) at h is = cc
+FaultOf-stray text (StrayBracket n) at h is = let same : n ≡ at = cc in rw same at h
+FaultOf-stray text NoMemory at h is = absurd h
+
+-- The text is read, since nothing of it is left.
 pub IsStripped-at_end : (text key grown bare : List ℕ) → IsUtf8 text → HasRead (chars text) (chars key) grown → length key ≡ 0
     → bare ≡ grown → IsStripped text bare
 IsStripped-at_end text key grown bare u h none e =
     rw e (IsStripped-from_read text grown u (rw (chars-empty key none) at h))
 
+-- ---- the empty text
+
+-- No characters have no bytes.
+no_characters : (bs cs : List ℕ) → length cs ≡ 0 → encode_utf8_all cs ≡ bs → length bs ≡ 0
+no_characters bs [] none e = ap length (sym e)
+no_characters bs (c ∷ cs) none e = absurd (omega arith)
+
+-- Of the empty text nothing is left, nothing is kept, and nothing stands in front.
+pub nothing_read : (text front rest back bare : List ℕ) → text ≡ [] → HasRead (chars text) (chars rest) bare → IsUtf8 front → IsUtf8 back
+    → chars rest ≡ chars front ++ chars back → (length bare ≡ 0) × (length front ≡ 0) × (length back ≡ 0)
+nothing_read text front rest back bare e h u v whole =
+    let empty : HasRead [] (chars rest) bare = rw (ap chars e ∙ chars-nil) at h in
+    let nothing = HasRead-nothing (chars rest) bare empty in
+    let parts : length (chars front) + length (chars back) ≡ 0 =
+    sym (length-append (chars front) (chars back)) ∙ ap length (sym whole ∙ nothing.0) in (
+      ap length nothing.1,
+      no_characters front (chars front) (omega arith) (encodes-chars front u),
+      no_characters back (chars back) (omega arith) (encodes-chars back v),
+    )
+
 -- ---- the function as a law
 
--- a text reads where the function gives one
+-- A text reads where the function gives one.
 stop_or_reading : (text : List ℕ) (o : Option (List ℕ)) → MatchOption o (HasStop text) (IsStripped text)
     → ((bare : List ℕ) × IsStripped text bare) ⊎ HasStop text
 stop_or_reading text None h = inr h
 stop_or_reading text (Some bare) h = inl (bare, h)
 
--- a text reads or stops
+-- A text reads or stops.
 pub reading_or_stop : (text : List ℕ) → IsUtf8 text → ((bare : List ℕ) × IsStripped text bare) ⊎ HasStop text
 reading_or_stop text u = stop_or_reading text (stripped_text text) (stripped_text-tells text u)
 
--- what the function gives is left
+-- What the function gives is left.
 pub IsStripped-from_some : (text bare : List ℕ) → IsUtf8 text → stripped_text text ≡ Some bare → IsStripped text bare
 IsStripped-from_some text bare u e = rw e at (stripped_text-tells text u)
 
--- where it gives none, there is no reading
+-- Where it gives none, there is no reading.
 pub HasNoReading-from_none : (text : List ℕ) → IsUtf8 text → stripped_text text ≡ None → HasNoReading text
 HasNoReading-from_none text u e =
     let stop : HasStop text = rw e at (stripped_text-tells text u) in
     HasStop-no_reading text stop
 
--- a text that reads is one that the function gives
+-- A text that reads is one that the function gives.
 pub stripped_text-is_some : (text bare : List ℕ) → IsUtf8 text → IsStripped text bare → IsSome (stripped_text text)
 stripped_text-is_some text bare u h = rw (stripped_text-some text bare u h) refl
 
 -- ---- what `strip` says of a fault
 
--- of a text with a fault there is none
+-- Of a text with a fault there is none.
 pub FaultOf-none : (text : List ℕ) (e : AddrFault) → IsUtf8 text → FaultOf text e → stripped_text text ≡ None
 FaultOf-none text e u h = stripped_text-none text u (FaultOf-no_reading text e h)
 
--- so the fault tells that
+-- So the fault tells that.
 pub GivesText-fault : (A : Type 0) (text : List ℕ) (e : AddrFault) → IsUtf8 text → FaultOf text e
     → GivesText {A = A} (Err e) (stripped_text text)
-GivesText-fault A text Unclosed u h = FaultOf-none text Unclosed u h
-GivesText-fault A text StrayBracket u h = FaultOf-none text StrayBracket u h
+GivesText-fault A text (Unclosed at) u h = FaultOf-none text (Unclosed at) u h
+GivesText-fault A text (StrayBracket at) u h = FaultOf-none text (StrayBracket at) u h
 GivesText-fault A text NoMemory u h = absurd h

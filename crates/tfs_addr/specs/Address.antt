@@ -1,7 +1,7 @@
 -- Terraform's addresses of resource instances (Terraform documentation: resource address reference):
 -- a text in pieces, what is left of it without its keys, and the addresses of a configuration block
 -- and of one instance. A text is its bytes in UTF-8, and pieces are of characters, each its code.
-use Rattle.std.specs.Prelude.{◌≡◌, ◌≢◌, ℕ, zero, suc, ◌<◌, true, ◌==◌, if◌then◌else◌, List, [], ◌∷◌, ◌++◌, length, take, drop, flat_map, Option, Some, None, IsSome, option_map, option_and_then, chars, encode_utf8_all, Result, Ok, Err, String, string_bytes, codes, decimal, ⊤}
+use Rattle.std.specs.Prelude.{◌≡◌, ◌≢◌, ℕ, zero, suc, ◌<◌, ◌≤◌, true, ◌==◌, if◌then◌else◌, List, [], ◌∷◌, ◌++◌, length, take, drop, flat_map, Option, Some, None, IsSome, option_map, option_and_then, chars, encode_utf8_all, Result, Ok, Err, String, string_bytes, codes, decimal, ⊤}
 use Rattle.std.specs.List.{AllByRecursion, prefix_len}
 use Rattle.std.specs.Char.{is_ascii_digit}
 use Rattle.serde_json.specs.Data.{string}
@@ -29,95 +29,102 @@ quote = 34
 abbrev pub backslash : ℕ
 backslash = 92
 
--- a unit of a text key: a character, or a backslash with the character after it
+-- A unit of a text key: a character, or a backslash with the character after it.
 pub data KeyUnit : Type 0 where
   plain : ℕ → KeyUnit
   escaped : ℕ → KeyUnit
 
--- a piece of a text: a character, a key of digits, or a key of a quoted text
+-- A piece of a text: a character, a key of digits, or a key of a quoted text.
 pub data Piece : Type 0 where
   character : ℕ → Piece
   number_key : List ℕ → Piece
   text_key : List KeyUnit → Piece
 
--- the characters of a unit
+-- The characters of a unit.
 abbrev pub print_unit : KeyUnit → List ℕ
 print_unit (plain c) = c ∷ []
 print_unit (escaped c) = backslash ∷ c ∷ []
 
--- the characters of a piece
+-- The characters of a piece.
 abbrev pub print_piece : Piece → List ℕ
 print_piece (character c) = c ∷ []
 print_piece (number_key digits) = opening ∷ (digits ++ closing ∷ [])
 print_piece (text_key units) = opening ∷ quote ∷ (flat_map print_unit units ++ quote ∷ closing ∷ [])
 
--- the characters of a list of pieces
+-- The characters of a list of pieces.
 abbrev pub print_pieces : List Piece → List ℕ
 print_pieces pieces = flat_map print_piece pieces
 
--- a quote and a backslash stand in a key only after a backslash
+-- A quote and a backslash stand in a key only after a backslash.
 abbrev pub IsUnit : KeyUnit → Type 0
 IsUnit (plain c) = (c ≢ quote) × (c ≢ backslash)
 IsUnit (escaped c) = ⊤
 
--- brackets stand in keys alone, and a number has one or more ASCII digits
+-- Brackets stand in keys alone, and a number has one or more ASCII digits.
 abbrev pub IsPiece : Piece → Type 0
 IsPiece (character c) = (c ≢ opening) × (c ≢ closing)
 IsPiece (number_key digits) = (0 < length digits) × AllByRecursion (λ c. is_ascii_digit c ≡ true) digits
 IsPiece (text_key units) = AllByRecursion IsUnit units
 
--- the text is these pieces
+-- The text is these pieces.
 pub record ReadsPieces (text : List ℕ) (pieces : List Piece) : Type 0 where
   pub valid : AllByRecursion IsPiece pieces
   pub printed : text ≡ encode_utf8_all (print_pieces pieces)
 
--- the character, where the piece is no key
+-- The character, where the piece is no key.
 abbrev pub bare_part : Piece → List ℕ
 bare_part (character c) = c ∷ []
 bare_part (number_key digits) = []
 bare_part (text_key units) = []
 
--- the characters of the pieces that are no keys
+-- The characters of the pieces that are no keys.
 abbrev pub without_keys : List Piece → List ℕ
 without_keys pieces = flat_map bare_part pieces
 
--- the text reads in pieces, and bare is its characters without the keys
+-- The text reads in pieces, and bare is its characters without the keys.
 abbrev pub IsStripped : List ℕ → List ℕ → Type 0
 IsStripped text bare =
     (pieces : List Piece) × ReadsPieces text pieces × (bare ≡ encode_utf8_all (without_keys pieces))
 
--- the text is no list of pieces
+-- The text is no list of pieces.
 abbrev pub HasNoReading : List ℕ → Type 0
 HasNoReading text = (pieces : List Piece) → ¬ (ReadsPieces text pieces)
 
--- no piece stands at the front
+-- No piece stands at the front.
 abbrev pub BeginsNoPiece : List ℕ → Type 0
 BeginsNoPiece cs = (piece : Piece) (rest : List ℕ) → IsPiece piece → cs ≢ print_piece piece ++ rest
 
--- the first place of the text where no piece begins has this character
-abbrev pub StopsAt : List ℕ → ℕ → Type 0
-StopsAt text c =
-    (pieces : List Piece) × (rest : List ℕ) × AllByRecursion IsPiece pieces
-    × (text ≡ encode_utf8_all (print_pieces pieces ++ c ∷ rest)) × BeginsNoPiece (c ∷ rest)
+-- The text begins with a sequence of pieces that has this many bytes, and these characters follow.
+pub record BeginsWithPieces (text : List ℕ) (size : ℕ) (rest : List ℕ) : Type 0 where
+  pub pieces : List Piece
+  pub valid : AllByRecursion IsPiece pieces
+  pub printed : text ≡ encode_utf8_all (print_pieces pieces ++ rest)
+  pub bytes : size ≡ length (encode_utf8_all (print_pieces pieces))
+
+-- The longest sequence of pieces that the text begins with has `at` bytes, and the character c follows.
+pub record StopsAt (text : List ℕ) (c at : ℕ) : Type 0 where
+  pub rest : List ℕ
+  pub begins : BeginsWithPieces text at (c ∷ rest)
+  pub longest : (size : ℕ) (more : List ℕ) → BeginsWithPieces text size more → size ≤ at
 
 -- ---- the same as functions: each gives what stands at the front, and what follows it
 
--- the key, where its bracket comes next
+-- The key, where its bracket comes next.
 abbrev pub close_key : Piece → List ℕ → Option (Piece × List ℕ)
 close_key key [] = None
 close_key key (c ∷ cs) = if c == closing then Some (key, cs) else None
 
--- the digits, of which there is one at least
+-- The digits, of which there is one at least.
 unfoldable pub first_digits : List ℕ → Option (List ℕ × List ℕ)
 first_digits cs =
     let count = prefix_len is_ascii_digit cs in
     if count == 0 then None else Some (take count cs, drop count cs)
 
--- one unit more
+-- One unit more.
 abbrev pub put_unit : KeyUnit → Option (List KeyUnit × List ℕ) → Option (List KeyUnit × List ℕ)
 put_unit unit others = option_map (λ r. (unit ∷ r.0, r.1)) others
 
--- the units up to the quote that ends them
+-- The units up to the quote that ends them.
 unfoldable pub first_units : List ℕ → Option (List KeyUnit × List ℕ)
 first_units [] = None
 first_units (c ∷ []) = if c == quote then Some ([], []) else None
@@ -125,81 +132,81 @@ first_units (c ∷ d ∷ cs) =
     if c == quote then Some ([], d ∷ cs)
     else (if c == backslash then put_unit (escaped d) (first_units cs) else put_unit (plain c) (first_units (d ∷ cs)))
 
--- the key, after its opening bracket
+-- The key, after its opening bracket.
 abbrev pub first_key : List ℕ → Option (Piece × List ℕ)
 first_key [] = None
 first_key (c ∷ cs) =
     if c == quote then option_and_then (λ r. close_key (text_key r.0) r.1) (first_units cs)
     else option_and_then (λ r. close_key (number_key r.0) r.1) (first_digits (c ∷ cs))
 
--- the piece
+-- The piece.
 unfoldable pub first_piece : List ℕ → Option (Piece × List ℕ)
 first_piece [] = None
 first_piece (c ∷ cs) =
     if c == opening then first_key cs else (if c == closing then None else Some (character c, cs))
 
--- all of the pieces, if they are no more than this
+-- All of the pieces, if they are no more than this.
 unfoldable pub pieces_within : ℕ → List ℕ → Option (List Piece)
 pieces_within limit [] = Some []
 pieces_within zero (c ∷ cs) = None
 pieces_within (suc limit) (c ∷ cs) =
     option_and_then (λ r. option_map (λ others. r.0 ∷ others) (pieces_within limit r.1)) (first_piece (c ∷ cs))
 
--- the text without its keys: a piece has a character, so there are no more pieces than characters
+-- The text without its keys: a piece has a character, so there are no more pieces than characters.
 unfoldable pub stripped_text : List ℕ → Option (List ℕ)
 stripped_text text =
     option_map (λ pieces. encode_utf8_all (without_keys pieces)) (pieces_within (length (chars text)) (chars text))
 
--- a text that was returned is this one, at a fault there is none, and where memory ran out there is one
+-- A text that was returned is this one, at a fault there is none, and where memory ran out there is one.
 abbrev pub GivesText : {A : Type 0} → Result (String A) AddrFault → Option (List ℕ) → Type 0
 GivesText (Ok s) text = text ≡ Some (string_bytes s)
 GivesText (Err NoMemory) text = IsSome text
-GivesText (Err Unclosed) text = text ≡ None
-GivesText (Err StrayBracket) text = text ≡ None
+GivesText (Err (Unclosed at)) text = text ≡ None
+GivesText (Err (StrayBracket at)) text = text ≡ None
 
 -- ---- the addresses of a resource
 
--- the key of one instance among those of its block
+-- The key of one instance among those of its block.
 pub data InstanceKey : Type 0 where
   by_number : ℕ → InstanceKey
   by_text : List ℕ → InstanceKey
 
--- a key without where its text lies in memory
+-- A key without where its text lies in memory.
 abbrev pub key_of : Key → InstanceKey
 key_of (Number n) = by_number n
 key_of (Text t) = by_text t.now
 
--- what is printed of a module's path, and a dot; nothing of the root, whose path is empty
+-- What is printed of a module's path, and a dot; nothing of the root, whose path is empty.
 abbrev pub module_part : List ℕ → List ℕ → List ℕ
 module_part [] printed = []
 module_part (b ∷ path) printed = printed ++ codes "."
 
--- the word before a resource that Terraform only reads
+-- The word before a resource that Terraform only reads.
 abbrev pub mode_part : Mode → List ℕ
 mode_part Managed = []
 mode_part DataSource = codes "data."
 
--- the resource within its module
+-- The resource within its module.
 abbrev pub resource_part : Mode → List ℕ → List ℕ → List ℕ
 resource_part mode kind name = mode_part mode ++ kind ++ codes "." ++ name
 
--- the key in brackets: a number in decimal, a text as JSON
+-- The key in brackets: a number in decimal, a text as JSON.
 abbrev pub key_part : Option InstanceKey → List ℕ
 key_part None = []
 key_part (Some (by_number n)) = codes "[" ++ decimal n ++ codes "]"
 key_part (Some (by_text t)) = codes "[" ++ compact_text (string t) ++ codes "]"
 
--- the key of a deposed object
+-- The key of a deposed object.
 abbrev pub deposed_part : Option (List ℕ) → List ℕ
 deposed_part None = []
 deposed_part (Some key) = codes " (deposed " ++ key ++ codes ")"
 
--- the address of the configuration block, where the module's path reads in pieces
+-- The address of the configuration block, where the module's path reads in pieces.
 abbrev pub configuration_address : List ℕ → Mode → List ℕ → List ℕ → Option (List ℕ)
 configuration_address path mode kind name =
     option_map (λ bare. module_part path bare ++ resource_part mode kind name) (stripped_text path)
 
--- the address of one instance
+-- The address of one instance.
 abbrev pub instance_address : List ℕ → Mode → List ℕ → List ℕ → Option InstanceKey → Option (List ℕ) → List ℕ
 instance_address path mode kind name key deposed =
     module_part path path ++ resource_part mode kind name ++ key_part key ++ deposed_part deposed

@@ -1,41 +1,59 @@
--- What the private steps of `strip` give, in characters.
-use Rattle.std.specs.Prelude.{◌≡◌, ◌≢◌, ℕ, ◌⊎◌, ◌==◌, if◌then◌else◌, List, [], ◌∷◌, ◌++◌, drop, Option, Some, None, ⊤}
+-- What the private functions give. A list of numbers is the characters of a text, or its bytes: keys end alike in both.
+use Rattle.std.specs.Prelude.{◌≡◌, ◌≢◌, ℕ, ◌⊎◌, ◌==◌, if◌then◌else◌, List, [], ◌∷◌, ◌++◌, drop, Option, Some, None, option_map, ⊤}
 use Rattle.std.specs.List.{AllByRecursion, prefix_len}
 use Rattle.std.specs.Char.{is_ascii_digit}
+use Rattle.serde_json.specs.Data.{string}
+use Rattle.serde_json.specs.Written.{compact_text}
 use Rattle.tfs_addr.specs.declared.fault.AddrFault.{AddrFault}
 use Rattle.tfs_addr.specs.declared.fault.AddrFault.TheVariants.{Unclosed, StrayBracket, NoMemory}
-use Rattle.tfs_addr.specs.Address.{opening, closing, Piece, IsPiece, print_piece, bare_part, StopsAt}
+use Rattle.tfs_addr.specs.Address.{opening, closing, Piece, IsPiece, print_piece, bare_part, StopsAt, first_units, first_key}
 
--- neither character is among these
+-- Neither character is among these.
 abbrev pub HasNeither : ℕ → ℕ → List ℕ → Type 0
 HasNeither a b cs = AllByRecursion (λ c. (c ≢ a) × (c ≢ b)) cs
 
--- what follows the character, where the text begins with it
+-- What follows the character, where the text begins with it.
 abbrev pub rest_after : ℕ → List ℕ → Option (List ℕ)
 rest_after mark [] = None
 rest_after mark (c ∷ cs) = if c == mark then Some cs else None
 
--- the text is empty or begins with one of the two
+-- The text is empty or begins with one of the two.
 abbrev pub MayBeginWith : ℕ → ℕ → List ℕ → Type 0
 MayBeginWith a b [] = ⊤
 MayBeginWith a b (c ∷ cs) = (c ≡ a) ⊎ (c ≡ b)
 
--- the characters are a key and then rest
+-- The characters are a key and then rest.
 abbrev pub IsKeyThen : List ℕ → List ℕ → Type 0
 IsKeyThen cs rest = (key : Piece) × IsPiece key × (bare_part key ≡ []) × (cs ≡ print_piece key ++ rest)
 
--- what follows the digits in front
+-- What follows the quote that ends the units.
+abbrev pub units_rest : List ℕ → Option (List ℕ)
+units_rest cs = option_map (λ r. r.1) (first_units cs)
+
+-- What follows the key, after its opening bracket.
+abbrev pub key_rest : List ℕ → Option (List ℕ)
+key_rest cs = option_map (λ r. r.1) (first_key cs)
+
+-- What follows the digits in front.
 abbrev pub without_digits : List ℕ → List ℕ
 without_digits cs = drop (prefix_len is_ascii_digit cs) cs
 
--- the fault of a text that begins with this bracket and with no key
-abbrev pub IsFaultAt : AddrFault → List ℕ → Type 0
-IsFaultAt Unclosed cs = (rest : List ℕ) × (cs ≡ opening ∷ rest)
-IsFaultAt StrayBracket cs = (rest : List ℕ) × (cs ≡ closing ∷ rest)
-IsFaultAt NoMemory cs = ⊥
+-- What follows the opening quote of a text as JSON.
+abbrev pub after_quote : List ℕ → List ℕ
+after_quote text = drop 1 (compact_text (string text))
 
--- where the text stops, for each fault of a text
+-- In a text as JSON the bytes are shown so.
+abbrev pub IsShown : List ℕ → List ℕ → Type 0
+IsShown bytes shown = (rest : List ℕ) → after_quote (bytes ++ rest) ≡ shown ++ after_quote rest
+
+-- The fault of a text whose byte `at` is this bracket, which begins no key.
+abbrev pub IsFaultAt : AddrFault → ℕ → List ℕ → Type 0
+IsFaultAt (Unclosed found) at cs = (found ≡ at) × (rest : List ℕ) × (cs ≡ opening ∷ rest)
+IsFaultAt (StrayBracket found) at cs = (found ≡ at) × (rest : List ℕ) × (cs ≡ closing ∷ rest)
+IsFaultAt NoMemory at cs = ⊥
+
+-- Where the text stops, for each fault of a text.
 abbrev pub FaultOf : List ℕ → AddrFault → Type 0
-FaultOf text Unclosed = StopsAt text opening
-FaultOf text StrayBracket = StopsAt text closing
+FaultOf text (Unclosed at) = StopsAt text opening at
+FaultOf text (StrayBracket at) = StopsAt text closing at
 FaultOf text NoMemory = ⊥

@@ -1,14 +1,12 @@
 //! The addresses of a configuration block and of one of its instances.
 
-ghost use Rattle.std.specs.Prelude.{◌≡◌, ◌++◌, IfOk, OnOk, string_bytes, option_map, option_copied};
-ghost use Rattle.serde_json.specs.Data.{string};
-ghost use Rattle.serde_json.specs.Written.{compact_text};
+ghost use Rattle.std.specs.Prelude.{◌≡◌, ◌++◌, ℕ, Some, IfOk, OnOk, string_bytes, option_map, option_copied};
 ghost use Rattle.tfs_addr.specs.Address.{opening, closing, StopsAt, GivesText, configuration_address, instance_address, key_of, resource_part, key_part, deposed_part};
 
 use crate::fault::AddrFault;
+use crate::json::push_json;
 use crate::resource::{Key, Mode};
 use crate::stripping::strip;
-use serde_json::Value;
 use std::alloc::{AllocError, Global};
 
 /// The address of a configuration block, which `dependencies` name: the module's path without keys
@@ -26,8 +24,10 @@ pub fn config_text(
     name: &str,
 ) -> Result<String, AddrFault>
     ensures value { GivesText result (configuration_address «module».now mode kind.now name.now) }
-    ensures unclosed { result ≡ Err AddrFault.Unclosed → StopsAt «module».now opening }
-    ensures stray_bracket { result ≡ Err AddrFault.StrayBracket → StopsAt «module».now closing }
+    ensures unclosed { (at : ℕ) → result ≡ Err (AddrFault.Unclosed at)
+        → StopsAt «module».now opening at }
+    ensures stray_bracket { (at : ℕ) → result ≡ Err (AddrFault.StrayBracket at)
+        → StopsAt «module».now closing at }
 {
     let mut text = strip(alloc, module)?;
     if !module.is_empty() {
@@ -41,6 +41,9 @@ pub fn config_text(
 /// source, type and name, the instance's key in brackets, and ` (deposed KEY)` for a deposed object.
 /// A number is written in decimal, and a text as JSON (RFC 8259, section 7). It fails only where
 /// memory runs out.
+///
+/// A deposed key that is empty is printed too, as `t.n (deposed )`: whoever reads states, in which
+/// an empty text stands for no deposed object, passes `None` for it.
 pub fn instance_text(
     alloc: Global,
     module: &str,
@@ -50,8 +53,9 @@ pub fn instance_text(
     key: Option<Key>,
     deposed: Option<&str>,
 ) -> Result<String, AllocError>
-    ensures { IfOk result (λ text. string_bytes text
-        ≡ instance_address «module».now mode kind.now name.now (option_map key_of key.entry) (option_copied deposed.entry)) }
+    ensures value { IfOk result (λ text. string_bytes text
+        ≡ instance_address «module».now mode kind.now name.now (option_map key_of key.entry)
+        (option_copied deposed.entry)) }
 {
     let mut text = String::from_str(alloc, module)?;
     if !module.is_empty() {
@@ -59,7 +63,7 @@ pub fn instance_text(
     }
     push_resource(&mut text, mode, kind, name)?;
     if let Some(key) = key {
-        push_key(alloc, &mut text, key)?;
+        push_key(&mut text, key)?;
     }
     if let Some(key) = deposed {
         push_deposed(&mut text, key)?;
@@ -67,9 +71,10 @@ pub fn instance_text(
     Ok(text)
 }
 
-// Appends the resource within its module.
+/// Appends the resource within its module.
 fn push_resource(text: &mut String, mode: Mode, kind: &str, name: &str) -> Result<(), AllocError>
-    ensures { OnOk result (string_bytes text.new ≡ string_bytes text.old ++ resource_part mode kind.now name.now) }
+    ensures { OnOk result
+        (string_bytes text.new ≡ string_bytes text.old ++ resource_part mode kind.now name.now) }
 {
     if mode == Mode::DataSource {
         text.push_str("data.")?;
@@ -79,29 +84,25 @@ fn push_resource(text: &mut String, mode: Mode, kind: &str, name: &str) -> Resul
     text.push_str(name)
 }
 
-// Appends the key in brackets.
-fn push_key(alloc: Global, text: &mut String, key: Key) -> Result<(), AllocError>
-    ensures { OnOk result (string_bytes text.new ≡ string_bytes text.old ++ key_part (Some (key_of key.entry))) }
+/// Appends the key in brackets.
+fn push_key(text: &mut String, key: Key) -> Result<(), AllocError>
+    ensures { OnOk result
+        (string_bytes text.new ≡ string_bytes text.old ++ key_part (Some (key_of key.entry))) }
 {
     match key {
         Key::Number(number) => write!(text, "[{number}]"),
         Key::Text(key) => {
-            let key = json_text(alloc, key)?;
-            write!(text, "[{key}]")
+            text.push('[')?;
+            push_json(text, key)?;
+            text.push(']')
         }
     }
 }
 
-// The text as JSON.
-fn json_text(alloc: Global, text: &str) -> Result<String, AllocError>
-    ensures { IfOk result (λ json. string_bytes json ≡ compact_text (string text.now)) }
-{
-    Value::String(String::from_str(alloc, text)?).to_string(alloc)
-}
-
-// Appends the key of a deposed object.
+/// Appends the key of a deposed object.
 fn push_deposed(text: &mut String, key: &str) -> Result<(), AllocError>
-    ensures { OnOk result (string_bytes text.new ≡ string_bytes text.old ++ deposed_part (Some key.now)) }
+    ensures { OnOk result
+        (string_bytes text.new ≡ string_bytes text.old ++ deposed_part (Some key.now)) }
 {
     write!(text, " (deposed {key})")
 }

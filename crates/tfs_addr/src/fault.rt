@@ -7,14 +7,17 @@ use std::alloc::AllocError;
 use thiserror::Error;
 
 /// Why a text isn't stripped, in the order of the checks.
+///
+/// A fault of the text has its place: how many bytes the longest sequence of characters and keys
+/// has that the text begins with.
 #[derive(Clone, Copy, Debug, PartialEq, Eq, Error)]
 pub enum AddrFault {
-    /// A `[` begins no key.
-    #[error("a bracket is opened, and no key follows that ends")]
-    Unclosed,
-    /// A `]` ends no key.
-    #[error("a bracket is closed that was not opened")]
-    StrayBracket,
+    /// The `[` at this byte begins no key.
+    #[error("the bracket at byte {0} is opened, and no key follows that ends")]
+    Unclosed(usize),
+    /// The `]` at this byte ends no key.
+    #[error("the bracket at byte {0} is closed, and was not opened")]
+    StrayBracket(usize),
     /// Memory ran out.
     #[error("out of memory")]
     NoMemory,

@@ -1,20 +1,24 @@
 //! Laws of the definitions. Each function does nothing, and its contract is the law.
 
-ghost use Rattle.std.specs.Prelude.{◌≡◌, ◌⊎◌, ◌↔◌, ℕ, List, Some, None, IsUtf8};
-ghost use Rattle.tfs_addr.specs.Address.{opening, closing, Piece, ReadsPieces, HasNoReading, IsStripped, StopsAt, stripped_text};
+ghost use Rattle.std.specs.Prelude.{◌≡◌, ◌⊎◌, ◌↔◌, ◌∷◌, ℕ, List, Some, None, IsUtf8};
+ghost use Rattle.tfs_addr.specs.Address.{opening, closing, Piece, ReadsPieces, HasNoReading, IsStripped, BeginsNoPiece, StopsAt, stripped_text};
 
 /// A text has at most one reading in pieces.
 pub fn reads_once()
-    ensures { (text : List ℕ) (first second : List Piece) → ReadsPieces text first → ReadsPieces text second
+    ensures unique { (text : List ℕ) (first second : List Piece) → ReadsPieces text first → ReadsPieces text second
         → first ≡ second }
 {}
 
-/// A text reads in pieces, or there is a first place where no piece begins, which has a bracket.
+/// A text reads in pieces, or there is one place where it stops: no piece begins there, and it has a
+/// bracket.
 pub fn reads_or_stops()
     ensures either { (text : List ℕ) → IsUtf8 text → ((bare : List ℕ) × IsStripped text bare)
-        ⊎ (StopsAt text opening ⊎ StopsAt text closing) }
-    ensures not_both { (text : List ℕ) (c : ℕ) → StopsAt text c → HasNoReading text }
-    ensures one_stop { (text : List ℕ) (c d : ℕ) → StopsAt text c → StopsAt text d → c ≡ d }
+        ⊎ (((at : ℕ) × StopsAt text opening at) ⊎ ((at : ℕ) × StopsAt text closing at)) }
+    ensures not_both { (text : List ℕ) (c at : ℕ) → StopsAt text c at → HasNoReading text }
+    ensures one_stop { (text : List ℕ) (c at d n : ℕ) → StopsAt text c at → StopsAt text d n
+        → (c ≡ d) × (at ≡ n) }
+    ensures no_piece { (text : List ℕ) (c at : ℕ) (stop : StopsAt text c at)
+        → BeginsNoPiece (c ∷ stop.rest) }
 {}
 
 /// The function of the text and the relation over its pieces say the same.
@@ -26,5 +30,5 @@ pub fn stripped_text_agrees()
 
 /// What was stripped has no keys left.
 pub fn strips_once()
-    ensures { (text bare : List ℕ) → IsStripped text bare → IsStripped bare bare }
+    ensures stays { (text bare : List ℕ) → IsStripped text bare → IsStripped bare bare }
 {}

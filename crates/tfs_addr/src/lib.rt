@@ -4,6 +4,7 @@
 
 mod address;
 mod fault;
+mod json;
 mod laws;
 mod resource;
 mod stripping;

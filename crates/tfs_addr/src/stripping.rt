@@ -1,12 +1,17 @@
-//! A text without its instance keys.
+//! A text without its instance keys. The steps of a key take a few nanoseconds each, so they are
+//! compiled into the loops that take them.
 
-ghost use Rattle.std.specs.Prelude.{◌≡◌, ◌≢◌, ◌++◌, ◌<◌, length, chars, IsUtf8, option_map, IfOk, IfErr, OnOk, OnErr, IsSome, string_bytes};
-ghost use Rattle.tfs_addr.specs.Address.{opening, closing, IsStripped, StopsAt, HasNoReading, BeginsNoPiece, GivesText, stripped_text, first_units, first_key};
-ghost use Rattle.tfs_addr.specs.Steps.{HasNeither, MayBeginWith, IsFaultAt, FaultOf, IsKeyThen, rest_after, without_digits};
+ghost use Rattle.std.specs.Prelude.{◌≡◌, ◌≢◌, ◌++◌, ◌*◌, ◌+◌, ◌<◌, ◌≤◌, ℕ, [], length, chars, IsUtf8, option_copied, IfOk, IfErr, IsOk, OnOk, OnErr, IsSome, string_bytes, string_len, string_capacity, false};
+ghost use Rattle.memchr.specs.Find.{IsFirstByte, is_byte2};
+ghost use Rattle.tfs_addr.specs.Address.{opening, closing, IsStripped, StopsAt, HasNoReading, BeginsNoPiece, GivesText, stripped_text, quote, backslash};
+ghost use Rattle.tfs_addr.specs.Steps.{HasNeither, MayBeginWith, IsFaultAt, FaultOf, IsKeyThen, rest_after, units_rest, key_rest, without_digits};
 
 use crate::fault::AddrFault;
 use memchr::memchr2;
-use std::alloc::Global;
+use std::alloc::{AllocError, Global};
+
+/// How many bytes are looked at one by one before a search by vectors begins.
+const NEAR: usize = 8;
 
 /// The text without its instance keys, as `a.b` of `a[0].b["k"]` (Terraform documentation: resource
 /// address reference).
@@ -18,14 +23,18 @@ use std::alloc::Global;
 /// # Errors
 ///
 /// At the first place where neither a key nor another character stands, `Unclosed` for a `[` and
-/// `StrayBracket` for a `]`. `NoMemory` where the new text gets no memory; a fault of the text comes
-/// first.
+/// `StrayBracket` for a `]`, with the place. `NoMemory` where the new text gets no memory; a fault
+/// of the text comes first.
 pub fn strip(alloc: Global, text: &str) -> Result<String, AddrFault>
     ensures ok { IfOk result (λ bare. IsStripped text.now (string_bytes bare)) }
-    ensures unclosed { result ≡ Err AddrFault.Unclosed → StopsAt text.now opening }
-    ensures stray_bracket { result ≡ Err AddrFault.StrayBracket → StopsAt text.now closing }
+    ensures room { IfOk result (λ bare. 4 * string_capacity bare ≤ 5 * string_len bare) }
+    ensures unclosed { (at : ℕ) → result ≡ Err (AddrFault.Unclosed at)
+        → StopsAt text.now opening at }
+    ensures stray_bracket { (at : ℕ) → result ≡ Err (AddrFault.StrayBracket at)
+        → StopsAt text.now closing at }
     ensures no_reading { IfErr result (λ e. e ≢ AddrFault.NoMemory → HasNoReading text.now) }
     ensures value { GivesText result (stripped_text text.now) }
+    ensures empty { text.now ≡ [] → IsOk result }
 {
     match bare_text(alloc, text) {
         Ok(bare) => Ok(bare),
@@ -38,114 +47,182 @@ pub fn strip(alloc: Global, text: &str) -> Result<String, AddrFault>
     }
 }
 
-// The text without its keys, if memory suffices up to its fault.
+/// The text without its keys, if memory suffices up to its fault.
 fn bare_text(alloc: Global, text: &str) -> Result<String, AddrFault>
     ensures ok { IfOk result (λ bare. IsStripped text.now (string_bytes bare)) }
+    ensures room { IfOk result (λ bare. 4 * string_capacity bare ≤ 5 * string_len bare) }
     ensures err { IfErr result (λ e. e ≢ AddrFault.NoMemory → FaultOf text.now e) }
+    ensures empty { text.now ≡ [] → IsOk result }
 {
     let mut bare = String::with_capacity(alloc, text.len())?;
     let mut rest = text;
     loop {
-        let (front, key) = split_at_either(rest, b'[', b']');
-        bare.push_str(front)?;
+        let (front, key) = split_at_bracket(rest);
+        keep(&mut bare, front)?;
         if key.is_empty() {
-            return Ok(bare);
+            return Ok(fitted(bare)?);
         }
-        rest = after_key(key)?;
+        rest = after_key(key, text.len() - key.len())?;
     }
 }
 
-// Whether the text reads in pieces.
+/// Appends what stands before a key, which is often nothing.
+#[inline(always)]
+fn keep(bare: &mut String, front: &str) -> Result<(), AllocError>
+    ensures bytes { OnOk result (string_bytes bare.new ≡ string_bytes bare.old ++ front.now) }
+    ensures len { OnOk result (string_len bare.new ≡ string_len bare.old + length front.now) }
+    ensures full { OnErr result (string_capacity bare.old < string_len bare.old + length front.now) }
+{
+    if front.is_empty() {
+        return Ok(());
+    }
+    bare.push_str(front)
+}
+
+/// The text with little room to spare, for which it may have to move to a smaller place.
+fn fitted(mut text: String) -> Result<String, AllocError>
+    ensures kept { IfOk result (λ fit. string_bytes fit ≡ string_bytes text) }
+    ensures room { IfOk result (λ fit. 4 * string_capacity fit ≤ 5 * string_len fit) }
+    ensures empty { string_len text ≡ 0 → IsOk result }
+{
+    if has_much_room(&text) {
+        text.shrink_to_fit();
+        if has_much_room(&text) {
+            return Err(AllocError);
+        }
+    }
+    Ok(text)
+}
+
+/// Whether the text keeps room for more than 1.25 times its length.
+fn has_much_room(text: &String) -> bool
+    ensures no { result ≡ false → 4 * string_capacity text.now ≤ 5 * string_len text.now }
+    ensures none { string_capacity text.now ≡ 0 → result ≡ false }
+{
+    text.capacity() - text.len() > text.len() / 4
+}
+
+/// Whether the text reads in pieces.
 fn check(text: &str) -> Result<(), AddrFault>
     ensures ok { OnOk result (IsSome (stripped_text text.now)) }
     ensures err { IfErr result (FaultOf text.now) }
 {
     let mut rest = text;
     loop {
-        let (_, key) = split_at_either(rest, b'[', b']');
+        let (_, key) = split_at_bracket(rest);
         if key.is_empty() {
             return Ok(());
         }
-        rest = after_key(key)?;
+        rest = after_key(key, text.len() - key.len())?;
     }
 }
 
-// The text up to the first of two ASCII characters, and the text from there.
-fn split_at_either(text: &str, first: u8, second: u8) -> (&str, &str)
-    requires first { first < 128 }
-    requires second { second < 128 }
+/// The text up to its first bracket, and the text from there.
+#[inline(always)]
+fn split_at_bracket(text: &str) -> (&str, &str)
     ensures texts { IsUtf8 result.0.now × IsUtf8 result.1.now }
     ensures whole { chars text.now ≡ chars result.0.now ++ chars result.1.now }
-    ensures front { HasNeither first second (chars result.0.now) }
-    ensures back { MayBeginWith first second (chars result.1.now) }
+    ensures front { HasNeither opening closing (chars result.0.now) }
+    ensures back { MayBeginWith opening closing (chars result.1.now) }
 {
-    let at = memchr2(first, second, text.as_bytes()).unwrap_or(text.len());
+    let at = find_either(text.as_bytes(), b'[', b']').unwrap_or(text.len());
     text.split_at(at)
 }
 
-// What follows the key that the text begins with.
-fn after_key(text: &str) -> Result<&str, AddrFault>
+/// The index of the first byte that is one of the two. In keys it is often near.
+#[inline(always)]
+fn find_either(bytes: &[u8], first: u8, second: u8) -> Option<usize>
+    ensures { IsFirstByte (is_byte2 first second) bytes.now result }
+{
+    let (near, far) = bytes.split_at(bytes.len().min(NEAR));
+    for (index, byte) in near.iter().enumerate() {
+        if *byte == first || *byte == second {
+            return Some(index);
+        }
+    }
+    memchr2(first, second, far).map(|index| near.len() + index)
+}
+
+/// What follows the key that the text begins with, or else the fault of its bracket, which is the
+/// byte `at` of the whole text.
+#[inline(always)]
+fn after_key(text: &str, at: usize) -> Result<&str, AddrFault>
     requires some { 0 < length text.now }
     requires bracket { MayBeginWith opening closing (chars text.now) }
     ensures ok { IfOk result (λ rest. IsKeyThen (chars text.now) (chars rest.now)) }
     ensures err { OnErr result (BeginsNoPiece (chars text.now)) }
-    ensures fault { IfErr result (λ e. IsFaultAt e (chars text.now)) }
+    ensures fault { IfErr result (λ e. IsFaultAt e at (chars text.now)) }
 {
     match text.strip_prefix('[') {
-        Some(key) => after_opening(key).ok_or(AddrFault::Unclosed),
-        None => Err(AddrFault::StrayBracket),
+        Some(key) => match after_opening(key.as_bytes()) {
+            Some(rest) => Ok(text.split_at(text.len() - rest.len()).1),
+            None => Err(AddrFault::Unclosed(at)),
+        },
+        None => Err(AddrFault::StrayBracket(at)),
     }
 }
 
-// What follows the key whose opening bracket stands before the text.
-fn after_opening(text: &str) -> Option<&str>
-    ensures { option_map (λ r. chars r.now) result
-        ≡ option_map (λ r. r.1) (first_key (chars text.now)) }
+/// What follows the key whose opening bracket stands before these bytes.
+#[inline(always)]
+fn after_opening(bytes: &[u8]) -> Option<&[u8]>
+    ensures { option_copied result ≡ key_rest bytes.now }
 {
-    let mut key = text.chars();
-    let end = match key.next()? {
-        '"' => after_units(key.as_str())?,
-        '0'..='9' => after_digits(key.as_str()),
+    let (first, key) = bytes.split_first()?;
+    let end = match *first {
+        b'"' => after_units(key)?,
+        b'0'..=b'9' => after_digits(key),
         _ => return None,
     };
     after_closing(end)
 }
 
-// What follows the closing bracket in front.
-fn after_closing(text: &str) -> Option<&str>
-    ensures { option_map (λ r. chars r.now) result ≡ rest_after closing (chars text.now) }
+/// What follows the closing bracket in front.
+#[inline(always)]
+fn after_closing(bytes: &[u8]) -> Option<&[u8]>
+    ensures { option_copied result ≡ rest_after closing bytes.now }
 {
-    text.strip_prefix(']')
+    match bytes {
+        [b']', rest @ ..] => Some(rest),
+        _ => None,
+    }
 }
 
-// What follows the quote that ends the units.
-fn after_units(text: &str) -> Option<&str>
-    ensures { option_map (λ r. chars r.now) result
-        ≡ option_map (λ r. r.1) (first_units (chars text.now)) }
+/// What follows the quote that ends the units. A backslash takes a character, of which the first
+/// byte is enough: the others are neither quote nor backslash.
+#[inline(always)]
+fn after_units(bytes: &[u8]) -> Option<&[u8]>
+    ensures { option_copied result ≡ units_rest bytes.now }
 {
-    let mut rest = text;
+    let mut rest = bytes;
     loop {
-        let (_, mark) = split_at_either(rest, b'"', b'\\');
-        let mut units = mark.chars();
-        if units.next()? == '"' {
-            return Some(units.as_str());
+        let (mark, after) = from_mark(rest).split_first()?;
+        if *mark == b'"' {
+            return Some(after);
         }
-        units.next()?;
-        rest = units.as_str();
+        rest = after.split_first()?.1;
     }
 }
 
-// What follows the digits in front.
-fn after_digits(text: &str) -> &str
-    ensures { chars result.now ≡ without_digits (chars text.now) }
+/// The bytes from the first quote or backslash on.
+#[inline(always)]
+fn from_mark(bytes: &[u8]) -> &[u8]
+    ensures same { units_rest bytes.now ≡ units_rest result.now }
+    ensures mark { MayBeginWith quote backslash result.now }
+    ensures shorter { length result.now ≤ length bytes.now }
 {
-    let mut rest = text;
-    let mut digits = text.chars();
-    while let Some(digit) = digits.next() {
-        if !digit.is_ascii_digit() {
-            return rest;
+    let mark = find_either(bytes, b'"', b'\\').unwrap_or(bytes.len());
+    &bytes[mark..]
+}
+
+/// What follows the digits in front.
+#[inline(always)]
+fn after_digits(bytes: &[u8]) -> &[u8]
+    ensures { result.now ≡ without_digits bytes.now }
+{
+    for (index, byte) in bytes.iter().enumerate() {
+        if !byte.is_ascii_digit() {
+            return &bytes[index..];
         }
-        rest = digits.as_str();
     }
-    rest
+    &bytes[bytes.len()..]
 }

@@ -1,36 +1,47 @@
-//! What no clause says: worked addresses, JSON of hard keys, and that calls succeed with ample memory.
+//! What no clause says: worked addresses, JSON of hard keys, large texts, and that calls succeed with
+//! ample memory.
 
 use super::*;
+use std::alloc::{AllocError, Global};
 use std::test::*;
 
-// A text and what is left of it.
-const STRIPPED: [(&str, &str); 9] = [
+/// A text and what is left of it.
+const STRIPPED: [(&str, &str); 11] = [
     ("", ""),
     ("a", "a"),
     ("a[0].b[\"x\\\"]\"]", "a.b"),
     ("a[00]", "a"),
     ("a[\"é\"].b", "a.b"),
     ("a[\"\\é\"]é", "aé"),
+    ("a[\"\\\\\"]b", "ab"),
     ("a[\"\"]\"b\"", "a\"b\""),
     ("module.m[\"p.q]\"].t.n", "module.m.t.n"),
+    (
+        "t.n[\"a key of more than sixteen bytes \\\" é\"].x",
+        "t.n.x",
+    ),
     ("[18446744073709551616][\"\\\\\"]", ""),
 ];
 
-// A text and its fault.
-const REFUSED: [(&str, AddrFault); 13] = [
-    ("]", AddrFault::StrayBracket),
-    ("a]", AddrFault::StrayBracket),
-    ("a]b[", AddrFault::StrayBracket),
-    ("a[0]]", AddrFault::StrayBracket),
-    ("[", AddrFault::Unclosed),
-    ("a[x]", AddrFault::Unclosed),
-    ("a[]", AddrFault::Unclosed),
-    ("a[\"", AddrFault::Unclosed),
-    ("a[\"x", AddrFault::Unclosed),
-    ("a[\"x\"", AddrFault::Unclosed),
-    ("a[\"x\\", AddrFault::Unclosed),
-    ("a[1x]", AddrFault::Unclosed),
-    ("a[1", AddrFault::Unclosed),
+/// A text and its fault, with the byte at which no piece begins.
+const REFUSED: [(&str, AddrFault); 17] = [
+    ("]", AddrFault::StrayBracket(0)),
+    ("a]", AddrFault::StrayBracket(1)),
+    ("a]b[", AddrFault::StrayBracket(1)),
+    ("a[0]]", AddrFault::StrayBracket(4)),
+    ("é]", AddrFault::StrayBracket(2)),
+    ("a[\"é😀\"]é]", AddrFault::StrayBracket(13)),
+    ("[", AddrFault::Unclosed(0)),
+    ("a[x]", AddrFault::Unclosed(1)),
+    ("a[]", AddrFault::Unclosed(1)),
+    ("a[\"", AddrFault::Unclosed(1)),
+    ("a[\"x", AddrFault::Unclosed(1)),
+    ("a[\"x\"", AddrFault::Unclosed(1)),
+    ("a[\"x\\", AddrFault::Unclosed(1)),
+    ("a[\"x\"y]", AddrFault::Unclosed(1)),
+    ("a[1x]", AddrFault::Unclosed(1)),
+    ("a[0].é[1", AddrFault::Unclosed(7)),
+    ("a[0][\"]\"].b[\"x\\\"]", AddrFault::Unclosed(11)),
 ];
 
 #[test]
@@ -81,7 +92,7 @@ fn a_module_that_is_not_stripped_has_no_configuration_address(rt: HostRuntime) {
     }
 }
 
-// The key of an instance of t.n, and its address.
+/// The key of an instance of t.n, and its address.
 const KEYED: [(Key<'static>, &str); 4] = [
     (Key::Number(0), "t.n[0]"),
     (Key::Number(u64::MAX), "t.n[18446744073709551615]"),
@@ -126,14 +137,80 @@ fn deposed_instances_have_their_deposed_key(rt: HostRuntime) -> Result<(), Fail>
     Ok(())
 }
 
-// RFC 8259, section 7: a quote and a backslash are escaped, and a control character has its code.
+/// The 28 bytes that a large text repeats, and what is left of them.
+const PART: &str = "module.m[\"a\\\"]\"].aws_é[10].";
+
+const BARE_PART: &str = "module.m.aws_é.";
+
+/// The part, so many times.
+fn repeated(alloc: Global, part: &str, count: usize) -> Result<String, AllocError> {
+    let mut text = String::new(alloc);
+    for _ in 0..count {
+        text.push_str(part)?;
+    }
+    Ok(text)
+}
+
+#[test]
+fn large_texts_are_stripped(rt: HostRuntime) -> Result<(), Fail> {
+    for size in [1024, 1024 * 1024, 16 * 1024 * 1024] {
+        let count = size / 28 + 1;
+        let mut text = repeated(rt.alloc(), PART, count)?;
+        assert!(rt; text.len() >= size);
+        let bare = strip(rt.alloc(), text.as_str())?;
+        let want = repeated(rt.alloc(), BARE_PART, count)?;
+        assert!(rt; bare == want, "at {size} bytes");
+        let end = text.len();
+        text.push(']')?;
+        let refused = strip(rt.alloc(), text.as_str());
+        assert!(rt;
+            matches!(refused, Err(AddrFault::StrayBracket(at)) if at == end),
+            "at {size} bytes"
+        );
+    }
+    Ok(())
+}
+
+#[test]
+fn large_texts_of_one_piece_are_stripped(rt: HostRuntime) -> Result<(), Fail> {
+    for size in [1024 * 1024, 16 * 1024 * 1024] {
+        let plain = repeated(rt.alloc(), "é.", size / 3 + 1)?;
+        let bare = strip(rt.alloc(), plain.as_str())?;
+        assert!(rt; bare == plain, "at {size} bytes");
+        let key = format!(in rt.alloc(); "a[\"{plain}\"]b")?;
+        let bare = strip(rt.alloc(), key.as_str())?;
+        assert!(rt; bare.as_str() == "ab", "at {size} bytes");
+        let config = config_text(rt.alloc(), key.as_str(), Mode::Managed, "t", "n")?;
+        assert!(rt; config.as_str() == "ab.t.n", "at {size} bytes");
+        let open = format!(in rt.alloc(); "ab[\"{plain}\"")?;
+        let refused = strip(rt.alloc(), open.as_str());
+        assert!(rt;
+            matches!(refused, Err(AddrFault::Unclosed(2))),
+            "at {size} bytes"
+        );
+    }
+    Ok(())
+}
+
+/// RFC 8259, section 7: a quote and a backslash are escaped, and a control character has its code.
 #[test]
 fn a_text_key_is_printed_as_json(rt: HostRuntime) -> Result<(), Fail> {
-    let key = Some(Key::Text("a\"b\\c\u{1}\u{8}\n\u{7f}é😀]"));
+    let key = Some(Key::Text("a\"b\\c\0\u{1}\u{8}\t\n\u{b}\u{c}\r\u{e}\u{1f} \u{7f}é😀]/"));
     let text = instance_text(rt.alloc(), "", Mode::Managed, "t", "n", key, None)?;
-    assert_eq!(rt; text.as_str(), "t.n[\"a\\\"b\\\\c\\u0001\\b\\n\u{7f}é😀]\"]");
+    let want = concat!(
+        "t.n[\"a\\\"b\\\\c\\u0000\\u0001\\b\\t\\n\\u000b\\f\\r\\u000e\\u001f ",
+        "\u{7f}é😀]/\"]"
+    );
+    assert_eq!(rt; text.as_str(), want);
     let bare = strip(rt.alloc(), text.as_str())?;
     assert_eq!(rt; bare.as_str(), "t.n");
+    Ok(())
+}
+
+#[test]
+fn an_empty_deposed_key_is_printed(rt: HostRuntime) -> Result<(), Fail> {
+    let text = instance_text(rt.alloc(), "", Mode::Managed, "t", "n", None, Some(""))?;
+    assert_eq!(rt; text.as_str(), "t.n (deposed )");
     Ok(())
 }
 
@@ -141,12 +218,12 @@ fn a_text_key_is_printed_as_json(rt: HostRuntime) -> Result<(), Fail> {
 fn faults_are_told_in_words(rt: HostRuntime) -> Result<(), Fail> {
     let cases = [
         (
-            AddrFault::Unclosed,
-            "a bracket is opened, and no key follows that ends",
+            AddrFault::Unclosed(7),
+            "the bracket at byte 7 is opened, and no key follows that ends",
         ),
         (
-            AddrFault::StrayBracket,
-            "a bracket is closed that was not opened",
+            AddrFault::StrayBracket(12),
+            "the bracket at byte 12 is closed, and was not opened",
         ),
         (AddrFault::NoMemory, "out of memory"),
     ];

@@ -3,4 +3,4 @@ use Rattle.tfs_addr.proofs.PieceLemmas.{IsStripped-again}
 use Rattle.tfs_addr.proofs.laws.strips_once.Goals as goal
 
 pub returns : goal.returns
-returns c = IsStripped-again
+returns c = record { stays = IsStripped-again }

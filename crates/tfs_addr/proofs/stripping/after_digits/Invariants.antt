@@ -1,13 +1,8 @@
--- What was passed are digits, and the iterator stands at the rest.
-use Rattle.std.proofs.Common.{◌≡◌}
-use Rattle.std.specs.Prelude.{chars}
-use Rattle.std.specs.Str.Iter.{chars_rest}
-use Rattle.tfs_addr.specs.Steps.{without_digits}
-use denote.Text.{Utf8}
-use denote.Shadow.{shadow}
+-- The bytes that were passed are digits.
+use Rattle.std.proofs.Common.{◌≡◌, ◌+◌, drop}
+use Rattle.std.specs.List.{prefix_len}
+use Rattle.std.specs.Char.{is_ascii_digit}
 use Rattle.tfs_addr.proofs.stripping.after_digits.Given as goal
 
-abbrev pub invariant-loop-digit : goal.invariant-loop-digit
-invariant-loop-digit l =
-    (goal.iterator-loop-digit).can_next l.digits × (goal.iterator-loop-digit).is_finite l.digits
-    × shadow (Utf8 l.rest) × (chars_rest l.digits ≡ l.rest) × (without_digits (chars l.text) ≡ without_digits (chars l.rest))
+abbrev pub invariant-loop-index : goal.invariant-loop-index
+invariant-loop-index l = prefix_len is_ascii_digit l.bytes ≡ l.index + prefix_len is_ascii_digit (drop l.index l.bytes)

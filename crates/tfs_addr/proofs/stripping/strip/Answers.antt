@@ -26,8 +26,10 @@ returns-in-Err c =
     let fault = c.in-Err.ensures.err of_text in
     record {
       ok = tt;
-      unclosed = FaultOf-unclosed _ c.in-Err.fault fault;
-      stray_bracket = FaultOf-stray _ c.in-Err.fault fault;
+      room = tt;
+      unclosed = λ at. FaultOf-unclosed _ c.in-Err.fault at fault;
+      stray_bracket = λ at. FaultOf-stray _ c.in-Err.fault at fault;
       no_reading = λ _. FaultOf-no_reading _ c.in-Err.fault fault;
       value = GivesText-fault Global _ c.in-Err.fault c.utf8.text fault;
+      empty = c.in-Err.ensures.empty;
     }

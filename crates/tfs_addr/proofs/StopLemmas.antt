@@ -1,0 +1,129 @@
+-- Where a text stops, and that a text has one reading or one stop at most.
+use Rattle.std.proofs.Common.{◌≡◌, ℕ, ◌+◌, ◌≤◌, List, [], ◌∷◌, ◌++◌, length, refl, sym, ap, ◌∙◌, arith, append_assoc, append-nil, length-append, drop}
+use Rattle.std.specs.Prelude.{IsUtf8, chars, encode_utf8_all}
+use Rattle.std.specs.List.{AllByRecursion}
+use Rattle.std.proofs.lemmas.Str.{encodes-append, encodes-chars, encodes_same, length-le-encodes}
+use Rattle.tfs_addr.specs.Address.{Piece, print_piece, print_pieces, IsPiece, BeginsNoPiece, StopsAt, ReadsPieces, HasNoReading, BeginsWithPieces}
+use Rattle.std.proofs.Math.Seq.{drop-append_seam}
+use Rattle.tfs_addr.proofs.PieceLemmas.{print_piece-some, same_first, size-append, BeginsNoPiece-nil, AllByRecursion-append, print-one_more, HasRead}
+
+-- ---- where a text stops
+
+-- Of the same characters, no pieces are longer than those after which no piece begins.
+pieces-longest : (ps qs : List Piece) (xs ys : List ℕ) → AllByRecursion IsPiece ps → AllByRecursion IsPiece qs → BeginsNoPiece xs
+    → print_pieces ps ++ xs ≡ print_pieces qs ++ ys → length (encode_utf8_all (print_pieces qs)) ≤ length (encode_utf8_all (print_pieces ps))
+pieces-longest ps [] xs ys hp hq none e = omega arith
+pieces-longest [] (q ∷ qs) xs ys hp hq none e =
+    absurd (none q (print_pieces qs ++ ys) hq.0 (e ∙ append_assoc (print_piece q) (print_pieces qs) ys))
+pieces-longest (p ∷ ps) (q ∷ qs) xs ys hp hq none e =
+    let whole : print_piece p ++ (print_pieces ps ++ xs) ≡ print_piece q ++ (print_pieces qs ++ ys) =
+    sym (append_assoc (print_piece p) (print_pieces ps) xs) ∙ e ∙ append_assoc (print_piece q) (print_pieces qs) ys in
+    let same = same_first p q (print_pieces ps ++ xs) (print_pieces qs ++ ys) hp.0 hq.0 whole in
+    let rest = pieces-longest ps qs xs ys hp.1 hq.1 none same.1 in
+    let one : length (encode_utf8_all (print_piece p)) ≡ length (encode_utf8_all (print_piece q)) =
+    ap (λ (r : Piece). length (encode_utf8_all (print_piece r))) same.0 in
+    omega (arith, size-append (print_piece p) (print_pieces ps), size-append (print_piece q) (print_pieces qs))
+
+-- Where no piece begins, the text stops.
+pub StopsAt-from_pieces : (text more : List ℕ) (c at : ℕ) (pieces : List Piece) → AllByRecursion IsPiece pieces
+    → text ≡ encode_utf8_all (print_pieces pieces ++ c ∷ more) → BeginsNoPiece (c ∷ more)
+    → at ≡ length (encode_utf8_all (print_pieces pieces)) → StopsAt text c at
+StopsAt-from_pieces text more c at pieces valid e none size = record {
+  rest = more;
+  begins = record { pieces = pieces; valid = valid; printed = e; bytes = size };
+  longest =
+      λ n rest h.
+      let same = encodes_same (print_pieces pieces ++ c ∷ more) (print_pieces h.pieces ++ rest) (sym e ∙ h.printed) in
+      let shorter = pieces-longest pieces h.pieces (c ∷ more) rest valid h.valid none same in
+      omega (arith, h.bytes);
+}
+
+-- The same of what has been read.
+pub StopsAt-from_read : (text rest more bare : List ℕ) (c at : ℕ) → IsUtf8 text → (h : HasRead (chars text) rest bare)
+    → rest ≡ c ∷ more → BeginsNoPiece rest → at ≡ length (encode_utf8_all (print_pieces h.pieces)) → StopsAt text c at
+StopsAt-from_read text rest more bare c at u h e none size =
+    StopsAt-from_pieces text more c at h.pieces h.valid
+    (sym (encodes-chars text u) ∙ ap encode_utf8_all (h.printed ∙ ap (λ (t : List ℕ). print_pieces h.pieces ++ t) e))
+    (rw e at none) size
+
+-- How much has been read is what the text has more than the rest.
+pub HasRead-size : (text rest bare : List ℕ) → IsUtf8 text → IsUtf8 rest → (h : HasRead (chars text) (chars rest) bare)
+    → length text ≡ length (encode_utf8_all (print_pieces h.pieces)) + length rest
+HasRead-size text rest bare u v h =
+    ap length (sym (encodes-chars text u) ∙ ap encode_utf8_all h.printed ∙ encodes-append (print_pieces h.pieces) (chars rest))
+    ∙ length-append (encode_utf8_all (print_pieces h.pieces)) (encode_utf8_all (chars rest))
+    ∙ ap (λ (t : List ℕ). length (encode_utf8_all (print_pieces h.pieces)) + length t) (encodes-chars rest v)
+
+-- ---- one reading, one stop
+
+-- Two readings of one text go the same way, up to the first place where no piece begins.
+pub pieces_agree : (ps qs : List Piece) (xs ys : List ℕ) → AllByRecursion IsPiece ps → AllByRecursion IsPiece qs
+    → BeginsNoPiece xs → BeginsNoPiece ys → print_pieces ps ++ xs ≡ print_pieces qs ++ ys → (ps ≡ qs) × (xs ≡ ys)
+pieces_agree [] [] xs ys hp hq nx ny e = (refl, e)
+pieces_agree [] (q ∷ qs) xs ys hp hq nx ny e =
+    absurd (nx q (print_pieces qs ++ ys) hq.0 (e ∙ append_assoc (print_piece q) (print_pieces qs) ys))
+pieces_agree (p ∷ ps) [] xs ys hp hq nx ny e =
+    absurd (ny p (print_pieces ps ++ xs) hp.0 (sym e ∙ append_assoc (print_piece p) (print_pieces ps) xs))
+pieces_agree (p ∷ ps) (q ∷ qs) xs ys hp hq nx ny e =
+    let whole : print_piece p ++ (print_pieces ps ++ xs) ≡ print_piece q ++ (print_pieces qs ++ ys) =
+    sym (append_assoc (print_piece p) (print_pieces ps) xs) ∙ e ∙ append_assoc (print_piece q) (print_pieces qs) ys in
+    let same = same_first p q (print_pieces ps ++ xs) (print_pieces qs ++ ys) hp.0 hq.0 whole in
+    let rest = pieces_agree ps qs xs ys hp.1 hq.1 nx ny same.1 in
+    (cc, rest.1)
+
+-- A text has one reading at most.
+pub reading_is_unique : (text : List ℕ) (first second : List Piece) → ReadsPieces text first → ReadsPieces text second → first ≡ second
+reading_is_unique text first second f s =
+    let same = encodes_same (print_pieces first) (print_pieces second) (sym f.printed ∙ s.printed) in
+    let ended = append-nil (print_pieces first) ∙ same ∙ sym (append-nil (print_pieces second)) in
+    (pieces_agree first second [] [] f.valid s.valid BeginsNoPiece-nil BeginsNoPiece-nil ended).0
+
+-- A text that stops has none: it would be a longer sequence of pieces.
+pub stop_has_no_reading : (text : List ℕ) (c at : ℕ) → StopsAt text c at → HasNoReading text
+stop_has_no_reading text c at h pieces r =
+    let whole : BeginsWithPieces text (length (encode_utf8_all (print_pieces pieces))) [] = record {
+      pieces = pieces;
+      valid = r.valid;
+      printed = r.printed ∙ ap encode_utf8_all (sym (append-nil (print_pieces pieces)));
+      bytes = refl;
+    } in
+    let few = h.longest (length (encode_utf8_all (print_pieces pieces))) [] whole in
+    let size : length (encode_utf8_all (print_pieces pieces)) ≡ at + length (encode_utf8_all (c ∷ h.rest)) =
+    ap length (sym r.printed ∙ h.begins.printed) ∙ size-append (print_pieces h.begins.pieces) (c ∷ h.rest)
+    ∙ ap (λ n. n + length (encode_utf8_all (c ∷ h.rest))) (sym h.begins.bytes) in
+    absurd (omega (arith, length-le-encodes (c ∷ h.rest)))
+
+-- What follows pieces of a text.
+after-pieces : (text : List ℕ) (size : ℕ) (rest : List ℕ) → BeginsWithPieces text size rest → drop size text ≡ encode_utf8_all rest
+after-pieces text size rest h =
+    ap (λ n. drop n text) h.bytes ∙ ap (drop (length (encode_utf8_all (print_pieces h.pieces)))) (h.printed ∙ encodes-append (print_pieces h.pieces) rest)
+    ∙ drop-append_seam (encode_utf8_all (print_pieces h.pieces)) (encode_utf8_all rest)
+
+-- It stops at one character, at one place.
+pub stop_is_unique : (text : List ℕ) (c at d n : ℕ) → StopsAt text c at → StopsAt text d n → (c ≡ d) × (at ≡ n)
+stop_is_unique text c at d n h k =
+    let low = h.longest n (d ∷ k.rest) k.begins in
+    let high = k.longest at (c ∷ h.rest) h.begins in
+    let same : at ≡ n = omega arith in
+    let bytes : encode_utf8_all (c ∷ h.rest) ≡ encode_utf8_all (d ∷ k.rest) =
+    sym (after-pieces text at (c ∷ h.rest) h.begins) ∙ ap (λ m. drop m text) same ∙ after-pieces text n (d ∷ k.rest) k.begins in
+    (cc (encodes_same (c ∷ h.rest) (d ∷ k.rest) bytes), same)
+
+-- A piece more makes a longer sequence.
+pub stop_begins_no_piece : (text : List ℕ) (c at : ℕ) (h : StopsAt text c at) → BeginsNoPiece (c ∷ h.rest)
+stop_begins_no_piece text c at h piece more valid e =
+    let pieces = h.begins.pieces in
+    let longer : BeginsWithPieces text (at + length (encode_utf8_all (print_piece piece))) more = record {
+      pieces = pieces ++ piece ∷ [];
+      valid = AllByRecursion-append IsPiece pieces (piece ∷ []) h.begins.valid (valid, tt);
+      printed =
+          h.begins.printed
+          ∙ ap encode_utf8_all (ap (λ (t : List ℕ). print_pieces pieces ++ t) e ∙ sym (append_assoc (print_pieces pieces) (print_piece piece) more)
+          ∙ ap (λ (t : List ℕ). t ++ more) (sym (print-one_more pieces piece)));
+      bytes =
+          ap (λ n. n + length (encode_utf8_all (print_piece piece))) h.begins.bytes
+          ∙ sym (size-append (print_pieces pieces) (print_piece piece))
+          ∙ ap (λ (t : List ℕ). length (encode_utf8_all t)) (sym (print-one_more pieces piece));
+    } in
+    let few = h.longest (at + length (encode_utf8_all (print_piece piece))) more longer in
+    absurd (omega (arith, print_piece-some piece, length-le-encodes (print_piece piece)))
