@@ -28,4 +28,5 @@ returns-in_ok-push-in-None-clause-ok c = λ j are.
 pub commit-requires-in-None : goal.commit-requires-in-None
 commit-requires-in-None c =
     let none : has_row c.args.name c.args.rows.now.items ≡ false = ap (has_row c.args.name) (sym c.deref.ensures.value) ∙ c.in-None.ensures.absent in
-    ap (λ s. verdict_over s (act_value c.args.act)) (c.empty-workspace.ensures.value ∙ sym (standing_absent c.args.name c.args.rows.now.items none)) ∙ c.requires
+    ap (λ s. verdict_over s (act_value c.args.act))
+    (c.empty-workspace.ensures.value ∙ sym (standing_absent c.args.name c.args.rows.now.items none)) ∙ c.requires

@@ -13,4 +13,5 @@ returns-in-Some c =
 pub returns-in-None : goal.returns-in-None
 returns-in-None c =
     c.verdict-in-None-2.ensures.over_standing
-    ∙ ap (λ s. verdict_over s (act_value c.args.act.now)) (c.empty.ensures.value ∙ sym (standing_absent c.args.name.now c.args.rows.now c.in-None.ensures.absent))
+    ∙ ap (λ s. verdict_over s (act_value c.args.act.now)) (c.empty.ensures.value
+    ∙ sym (standing_absent c.args.name.now c.args.rows.now c.in-None.ensures.absent))
