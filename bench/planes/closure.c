@@ -1,60 +1,106 @@
-/* The closure of a relation over rows of bits in plain C, beside which crates/planes_bench is measured: by the same
-   blocks of 64 rows, and by Warshall's single rounds. It prints microseconds, or with the argument `counts` how many
-   pairs each relation has before and after. */
+/* The closure of a relation over rows of bits in plain C, with vectors of 8 words, beside which crates/planes_bench is
+   measured: in an order of the rows where there is one, and by blocks of 64 rows. It prints nanoseconds, or with the
+   argument `counts` how many pairs each relation has before and after. */
 #include <stdint.h>
 #include <stdio.h>
 #include <stdlib.h>
 #include <string.h>
 #include <time.h>
 
+#define MAX 4096
+#define NONE 0xffff
+
+typedef uint64_t lanes __attribute__((vector_size(64), aligned(8)));
+
 static size_t stride_of(size_t size) { return (size + 511) / 512 * 8; }
 
-static int get(const uint64_t *words, size_t stride, size_t i, size_t j) {
-    return words[i * stride + j / 64] >> (j % 64) & 1;
+static int get(const uint64_t *words, size_t i) { return words[i / 64] >> (i % 64) & 1; }
+
+static void set(uint64_t *words, size_t i) { words[i / 64] |= (uint64_t)1 << (i % 64); }
+
+static void clear(uint64_t *words, size_t i) { words[i / 64] &= ~((uint64_t)1 << (i % 64)); }
+
+static size_t highest(uint64_t word) { return 63 - __builtin_clzll(word); }
+
+static void unite(uint64_t *row, const uint64_t *other, size_t stride) {
+    for (size_t i = 0; i < stride; i += 8) *(lanes *)(row + i) |= *(const lanes *)(other + i);
 }
 
-static void set(uint64_t *words, size_t stride, size_t i, size_t j) {
-    words[i * stride + j / 64] |= (uint64_t)1 << (j % 64);
+static int covers(const uint64_t *words, const uint64_t *others) {
+    lanes missing = *(const lanes *)words & ~*(const lanes *)others;
+    return !(missing[0] | missing[1] | missing[2] | missing[3] | missing[4] | missing[5] | missing[6] | missing[7]);
 }
 
-static uint64_t next_number(uint64_t number) {
-    number ^= number << 13;
-    number ^= number >> 7;
-    return number ^ number << 17;
+/* The order: each row waits for one target that isn't placed. */
+
+static uint16_t order[MAX], waiting[MAX], behind[MAX];
+static uint8_t from[MAX];
+static uint64_t placed[MAX / 64];
+static size_t order_len;
+
+static size_t missing(const uint64_t *own, size_t stride, size_t word) {
+    for (size_t block = word / 8 * 8; block < stride && covers(own + block, placed + block); block += 8) word = block + 8;
+    while (word < stride && !(own[word] & ~placed[word])) word++;
+    return word < stride ? word * 64 + highest(own[word] & ~placed[word]) : NONE;
 }
 
-static void relate(uint64_t *words, size_t size, const char *kind) {
-    size_t stride = stride_of(size);
-    uint64_t number = 1;
-    memset(words, 0, size * stride * 8);
-    if (!strcmp(kind, "chain")) {
-        for (size_t next = 1; next < size; next++) set(words, stride, next - 1, next);
-    } else if (!strcmp(kind, "layered")) {
-        size_t width = size / 32;
-        for (size_t i = 0; i < size; i++)
-            for (int edge = 0; edge < 4; edge++) {
-                number = next_number(number);
-                size_t j = (i / width + 1) * width + number % width;
-                if (j < size) set(words, stride, i, j);
-            }
-    } else {
-        for (size_t i = 0; i < size; i++)
-            for (size_t j = 0; j < size; j++) {
-                number = next_number(number);
-                if (number >> 63) set(words, stride, i, j);
-            }
+static void try_row(const uint64_t *words, size_t stride, size_t row, size_t latest) {
+    const uint64_t *own = words + row * stride;
+    size_t target = missing(own, stride, from[row]);
+    if (target == row) {
+        set(placed, row);
+        target = missing(own, stride, from[row]);
+        clear(placed, row);
+    }
+    if (target == NONE) {
+        set(placed, row);
+        order[order_len++] = row;
+        behind[row] = latest;
+        return;
+    }
+    from[row] = target / 64;
+    behind[row] = waiting[target];
+    waiting[target] = row;
+}
+
+static int find_order(const uint64_t *words, size_t size, size_t stride) {
+    order_len = 0;
+    memset(waiting, 0xff, sizeof *waiting * size);
+    memset(from, 0, size);
+    memset(placed, 0, sizeof placed);
+    for (size_t row = 0; row < size; row++) try_row(words, stride, row, NONE);
+    for (size_t k = 0; k < order_len; k++)
+        for (size_t row = waiting[order[k]], next; row != NONE; row = next) {
+            next = behind[row];
+            try_row(words, stride, row, order[k]);
+        }
+    return order_len == size;
+}
+
+static void gather_word(uint64_t *came, const uint64_t *words, size_t stride, size_t row, size_t word) {
+    uint64_t left = words[row * stride + word] & ~came[word];
+    if (word == row / 64) left &= ~((uint64_t)1 << (row % 64));
+    while (left) {
+        size_t k = highest(left);
+        unite(came, words + (word * 64 + k) * stride, stride);
+        left &= ~(came[word] | (uint64_t)1 << k);
     }
 }
 
-static void unite(uint64_t *row, const uint64_t *other, size_t stride) {
-    for (size_t i = 0; i < stride; i++) row[i] |= other[i];
+static void place(uint64_t *words, size_t stride, size_t row) {
+    uint64_t came[MAX / 64], *own = words + row * stride;
+    memset(came, 0, stride * 8);
+    if (behind[row] != NONE) {
+        unite(came, words + behind[row] * stride, stride);
+        set(came, behind[row]);
+    }
+    for (size_t block = stride; block; block -= 8)
+        if (!covers(own + block - 8, came + block - 8))
+            for (size_t word = block; word > block - 8; word--) gather_word(came, words, stride, row, word - 1);
+    unite(own, came, stride);
 }
 
-static void close_rounds(uint64_t *words, size_t size, size_t stride) {
-    for (size_t k = 0; k < size; k++)
-        for (size_t i = 0; i < size; i++)
-            if (i != k && get(words, stride, i, k)) unite(words + i * stride, words + k * stride, stride);
-}
+/* The blocks of 64 rows. */
 
 static void take_in(uint64_t *row, const uint64_t *block, size_t width, size_t stride, size_t first) {
     uint64_t bits = row[first / 64] & UINT64_MAX >> (64 - width);
@@ -72,9 +118,96 @@ static void close_blocks(uint64_t *words, size_t size, size_t stride) {
         uint64_t *block = words + first * stride;
         for (size_t k = 0; k < width; k++)
             for (size_t i = 0; i < width; i++)
-                if (i != k && get(block, stride, i, first + k)) unite(block + i * stride, block + k * stride, stride);
+                if (i != k && get(block + i * stride, first + k)) unite(block + i * stride, block + k * stride, stride);
         for (size_t i = 0; i < size; i++)
             if (i < first || i >= first + width) take_in(words + i * stride, block, width, stride, first);
+    }
+}
+
+static void close_order(uint64_t *words, size_t size, size_t stride) {
+    if (!find_order(words, size, stride)) {
+        close_blocks(words, size, stride);
+        return;
+    }
+    for (size_t k = 0; k < size; k++) place(words, stride, order[k]);
+}
+
+/* The relations. */
+
+static uint64_t number;
+
+static uint64_t draw(void) {
+    number ^= number << 13;
+    number ^= number >> 7;
+    return number ^= number << 17;
+}
+
+struct resource {
+    size_t first, count, rank;
+    uint64_t place;
+};
+
+static int by_place(const void *left, const void *right) {
+    uint64_t a = (*(struct resource *const *)left)->place, b = (*(struct resource *const *)right)->place;
+    return (a > b) - (a < b);
+}
+
+static void relate_state(uint64_t *words, size_t size, int shuffled) {
+    static struct resource resources[MAX], *places[MAX];
+    size_t stride = stride_of(size), count = 0, first = 0;
+    number = size + 1;
+    for (size_t left = size; left; left -= resources[count++].count) {
+        uint64_t drawn = draw();
+        size_t instances = drawn % 4 < 2 ? 1 : 1 + (drawn >> 8) % 32;
+        resources[count].count = instances < left ? instances : left;
+        resources[count].place = shuffled ? draw() : count;
+        places[count] = resources + count;
+    }
+    qsort(places, count, sizeof *places, by_place);
+    for (size_t place = 0; place < count; place++) {
+        places[place]->first = first;
+        first += places[place]->count;
+    }
+    for (size_t rank = 0; rank < count; rank++)
+        for (size_t some = 2 + draw() % 5; some; some--) {
+            const struct resource *own = resources + rank, *other = resources + draw() % (rank ? rank : 1);
+            if (rank)
+                for (size_t i = 0; i < own->count; i++)
+                    for (size_t j = 0; j < other->count; j++) set(words + (own->first + i) * stride, other->first + j);
+        }
+}
+
+static void turn_round(uint64_t *words, size_t size) {
+    size_t stride = stride_of(size);
+    for (size_t i = 0; i < size; i++)
+        for (size_t j = 0; j < size; j++)
+            if (get(words + i * stride, j)) {
+                set(words + j * stride, i);
+                return;
+            }
+}
+
+static void relate(uint64_t *words, size_t size, const char *kind) {
+    size_t stride = stride_of(size);
+    memset(words, 0, size * stride * 8);
+    number = 1;
+    if (!strcmp(kind, "chain")) {
+        for (size_t next = 1; next < size; next++) set(words + (next - 1) * stride, next);
+    } else if (!strcmp(kind, "layered")) {
+        size_t width = size / 32;
+        for (size_t i = 0; i < size; i++)
+            for (int pair = 0; pair < 4; pair++) {
+                size_t j = (i / width + 1) * width + draw() % width;
+                if (j < size) set(words + i * stride, j);
+            }
+    } else if (!strcmp(kind, "dense")) {
+        for (size_t i = 0; i < size; i++)
+            for (size_t j = 0; j < size; j++)
+                if (draw() >> 63) set(words + i * stride, j);
+    } else {
+        relate_state(words, size, strcmp(kind, "rising"));
+        if (!strcmp(kind, "ancestries")) close_blocks(words, size, stride);
+        if (!strcmp(kind, "cycle")) turn_round(words, size);
     }
 }
 
@@ -84,41 +217,41 @@ static size_t count(const uint64_t *words, size_t size) {
     return pairs;
 }
 
-static long microseconds(void) {
+static long nanoseconds(void) {
     struct timespec now;
     clock_gettime(CLOCK_MONOTONIC, &now);
-    return now.tv_sec * 1000000 + now.tv_nsec / 1000;
+    return now.tv_sec * 1000000000 + now.tv_nsec;
 }
 
 static void measure(const char *name, void (*close_rows)(uint64_t *, size_t, size_t), uint64_t *words, size_t size, const char *kind) {
     long best = -1;
-    int runs = size > 2048 ? 5 : size > 512 ? 15 : 200;
+    int runs = size > 2048 ? 6 : size > 512 ? 20 : 200;
     for (int run = 0; run < runs; run++) {
         relate(words, size, kind);
-        long start = microseconds();
+        long start = nanoseconds();
         close_rows(words, size, stride_of(size));
-        long took = microseconds() - start;
+        long took = nanoseconds() - start;
         if (best < 0 || took < best) best = took;
     }
     printf("%s %s %zu %ld\n", name, kind, size, best);
 }
 
 int main(int argc, char **argv) {
-    const char *kinds[] = {"chain", "layered", "dense"};
+    const char *kinds[] = {"chain", "layered", "dense", "rising", "shuffled", "ancestries", "cycle"};
     size_t sizes[] = {512, 2048, 4096};
     int counts = argc > 1 && !strcmp(argv[1], "counts");
-    uint64_t *words = malloc(4096 * stride_of(4096) * 8);
+    uint64_t *words = malloc(MAX * stride_of(MAX) * 8);
     if (!words) return 1;
-    for (int k = 0; k < 3; k++)
+    for (int k = 0; k < 7; k++)
         for (int s = 0; s < (counts ? 2 : 3); s++)
             if (counts) {
                 relate(words, sizes[s], kinds[k]);
                 printf("%s %zu %zu ", kinds[k], sizes[s], count(words, sizes[s]));
-                close_blocks(words, sizes[s], stride_of(sizes[s]));
+                close_order(words, sizes[s], stride_of(sizes[s]));
                 printf("%zu\n", count(words, sizes[s]));
             } else {
+                measure("order", close_order, words, sizes[s], kinds[k]);
                 measure("blocks", close_blocks, words, sizes[s], kinds[k]);
-                measure("rounds", close_rounds, words, sizes[s], kinds[k]);
             }
     free(words);
     return 0;

@@ -1,23 +1,24 @@
 //! Measures the closure of a relation. With no argument it prints how many pairs each relation has
-//! before and after it is closed; with the argument `times`, how many microseconds the closure
-//! takes.
+//! before and after it is closed; with the argument `times`, how many nanoseconds the closure takes.
 #![tactic(auto)]
 
-use crate::relation::Kind;
+use crate::relation::KINDS;
 use std::{env, io};
+use tfs_planes::Plane;
 
+mod numbers;
 mod relation;
+mod state;
 mod times;
-
-const KINDS: [Kind; 3] = [Kind::Chain, Kind::Layered, Kind::Dense];
 
 fn print_counts(rt: &HostRuntime) -> io::Result<()> {
     for kind in KINDS {
         for size in [512, 2048] {
-            let mut plane = relation::plane_of(rt.alloc(), kind, size)?;
-            let pairs = relation::pair_count(rt.alloc(), &plane, size)?;
+            let mut plane = Plane::new(rt.alloc(), size)?;
+            relation::fill(rt.alloc(), &mut plane, kind)?;
+            let pairs = relation::pair_count(rt.alloc(), &plane)?;
             plane.close();
-            let closed = relation::pair_count(rt.alloc(), &plane, size)?;
+            let closed = relation::pair_count(rt.alloc(), &plane)?;
             println!(rt; "{} {size} {pairs} {closed}", kind.name())?;
         }
     }
@@ -28,12 +29,8 @@ fn print_times(rt: &HostRuntime) -> io::Result<()> {
     for kind in KINDS {
         for size in [512, 2048, 4096] {
             let best = times::best_of_closure(rt, kind, size)?;
-            println!(rt; "closure {} {size} {best}", kind.name())?;
+            println!(rt; "close {} {size} {best}", kind.name())?;
         }
-        let best = times::best_of_closure(rt, kind, 128)?;
-        println!(rt; "small {} 128 {best}", kind.name())?;
-        let search = times::time_of_search(rt, kind, 128)?;
-        println!(rt; "search {} 128 {search}", kind.name())?;
     }
     Ok(())
 }

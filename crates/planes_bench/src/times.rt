@@ -1,17 +1,17 @@
-//! Times in microseconds.
+//! Times in nanoseconds.
 ghost use Rattle.std.specs.Prelude.{◌≤◌};
 
 use crate::relation::{self, Kind};
 use std::io;
 use std::time::Instant;
-use tfs_planes::plain;
+use tfs_planes::Plane;
 
-// How often a closure is measured: a short one more often.
+/// How often a closure is measured: a short one more often.
 fn runs_of(size: usize) -> usize {
     match size {
         0..=512 => 200,
-        513..=2048 => 15,
-        _ => 5,
+        513..=2048 => 20,
+        _ => 6,
     }
 }
 
@@ -19,26 +19,14 @@ fn runs_of(size: usize) -> usize {
 pub(crate) fn best_of_closure(rt: &HostRuntime, kind: Kind, size: usize) -> io::Result<u128>
     requires { size ≤ 4096 }
 {
+    let mut plane = Plane::new(rt.alloc(), size)?;
     let mut best = u128::MAX;
     for _ in 0..runs_of(size) {
-        let mut plane = relation::plane_of(rt.alloc(), kind, size)?;
+        plane.clear();
+        relation::fill(rt.alloc(), &mut plane, kind)?;
         let start = Instant::now(rt)?;
         plane.close();
-        best = best.min(start.elapsed(rt)?.as_micros());
+        best = best.min(start.elapsed(rt)?.as_nanos());
     }
     Ok(best)
-}
-
-/// The time of the plain search from each number of one relation.
-pub(crate) fn time_of_search(rt: &HostRuntime, kind: Kind, size: usize) -> io::Result<u128>
-    requires { size ≤ 4096 }
-{
-    let plane = relation::plane_of(rt.alloc(), kind, size)?;
-    let pairs = relation::pairs_of(rt.alloc(), &plane, size)?;
-    let start = Instant::now(rt)?;
-    for from in 0..size {
-        let found = plain::reached(rt.alloc(), &pairs, from)?;
-        drop(found);
-    }
-    Ok(start.elapsed(rt)?.as_micros())
 }

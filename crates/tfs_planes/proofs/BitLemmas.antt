@@ -1,7 +1,10 @@
 -- Laws of single bits of words, and of the set that a row of words holds.
-use Rattle.std.proofs.Common.{◌≡◌, ◌≢◌, ℕ, ◌+◌, ◌-◌, ◌*◌, ◌/◌, ◌%◌, ◌^◌, ◌<◌, ◌≤◌, suc, zero, min, max, Bool, true, false, ◌||◌, ◌&&◌, eqb, List, [], ◌∷◌, length, get_or, set, bit_and, bit_or, replicate, filter, cond, ◌++◌, w64, refl, ap, ap₂, sym, ◌∙◌, inl, inr, ◌⊎◌, arith}
-use Rattle.std.proofs.lemmas.Bool.{cases_eq, cases_lt, eqb-true, eq-eqb, ne_eqb, or_left}
-use Rattle.std.proofs.lemmas.List.{get_or-set_same, get_or-set_other, get_or-replicate, get_or_past, length-replicate, map-id, append-nil}
+use Rattle.std.proofs.Common.{◌≡◌, ◌≢◌, ℕ, ◌+◌, ◌-◌, ◌*◌, ◌/◌, ◌%◌, ◌^◌, ◌<◌, ◌≤◌, suc, zero, min, max, Bool, true, false, ◌||◌, ◌&&◌, eqb, List, []}
+use Rattle.std.proofs.Common.{◌∷◌, length, get_or, set, bit_and, bit_or, replicate, filter, cond, ◌++◌, w64, refl, IsTrue, drop, ap, ap₂, sym}
+use Rattle.std.proofs.Common.{◌∙◌, inl, inr, ◌⊎◌, arith}
+use Rattle.std.proofs.lemmas.Bool.{cases_eq, cases_lt, eqb-true, eq-eqb, ne_eqb, or_left, false≢true}
+use Rattle.std.proofs.lemmas.List.{get_or-set_same, get_or-set_other, get_or-take, get_or-drop, get_or-replicate, get_or_past, length-replicate}
+use Rattle.std.proofs.lemmas.List.{map-id, append-nil}
 use Rattle.std.proofs.lemmas.List.FromFn.{get_or-range_with_len, length-range_with_len, filter_of_map_range_with_len_more}
 use Rattle.std.proofs.lemmas.List.Kept.{IsStrictlyIncreasing-filter}
 use Rattle.std.proofs.lemmas.List.Elements.{All-from_get_or, filter_agree}
@@ -9,15 +12,19 @@ use Rattle.std.proofs.lemmas.List.Folds.{list_any_at, list_any_none}
 use Rattle.std.proofs.lemmas.Map.Views.{any-filter_same}
 use Rattle.std.proofs.lemmas.Nat.Bits.{bit_at-zero, bit_at_and, bit_at_or, bit_at-lt, bit_at_set_same, bit_at_set_other}
 use Rattle.std.specs.Cmp.{nat_cmp_total, unsigned_tied}
-use Rattle.std.specs.FinSet.{contains, insert, union, intersection, empty, same_set, contains-empty, contains-insert, contains-union, contains-intersection, contains-from_list_nat, nat_cmp-IsAntisymmetric}
-use Rattle.std.specs.Int.{bit_at}
+use Rattle.std.specs.FinSet.{contains, insert, union, intersection, empty, same_set, contains-empty, contains-insert, contains-union}
+use Rattle.std.specs.FinSet.{contains-intersection, contains-from_list_nat, nat_cmp-IsAntisymmetric}
+use Rattle.std.proofs.Math.Nat.{pow-succ'}
+use Rattle.std.proofs.lemmas.Nat.{leading_top, div_below, le-div, pow_pos}
+use Rattle.std.proofs.lemmas.Simd.{length-chunk}
+use Rattle.std.specs.Int.{bit_at, leading_zeros}
 use Rattle.std.specs.List.{list_any, range_with_len}
 use Rattle.std.specs.List.Sorted.{IsStrictlyIncreasing}
 use Rattle.std.specs.Ordering.{nat_cmp}
-use Rattle.std.specs.Simd.Lanes.{zip2}
+use Rattle.std.specs.Simd.Lanes.{zip2, chunk}
 use Rattle.tfs_planes.specs.Row.{bit_at_word, members_of, rising_members, number_set, IsClearFrom}
 
--- a bit of an or, as a test
+-- A bit of an or, as a test.
 or_test : (x y : ℕ) → x < 2 → y < 2 → eqb (max x y) 1 ≡ (eqb x 1 || eqb y 1)
 or_test zero zero below also = refl
 or_test zero (suc zero) below also = refl
@@ -26,7 +33,7 @@ or_test (suc zero) (suc zero) below also = refl
 or_test (suc (suc x)) y below also = absurd (omega arith)
 or_test x (suc (suc y)) below also = absurd (omega arith)
 
--- a bit of an and, as a test
+-- A bit of an and, as a test.
 and_test : (x y : ℕ) → x < 2 → y < 2 → eqb (min x y) 1 ≡ (eqb x 1 && eqb y 1)
 and_test zero zero below also = refl
 and_test zero (suc zero) below also = refl
@@ -35,15 +42,16 @@ and_test (suc zero) (suc zero) below also = refl
 and_test (suc (suc x)) y below also = absurd (omega arith)
 and_test x (suc (suc y)) below also = absurd (omega arith)
 
--- past the end of both lists as well
-get_or-zip2_zero : (f : ℕ → ℕ → ℕ) → f 0 0 ≡ 0 → (xs ys : List ℕ) (k : ℕ) → length xs ≡ length ys → get_or (zip2 f xs ys) k 0 ≡ f (get_or xs k 0) (get_or ys k 0)
+-- Past the end of both lists as well.
+get_or-zip2_zero : (f : ℕ → ℕ → ℕ) → f 0 0 ≡ 0 → (xs ys : List ℕ) (k : ℕ) → length xs ≡ length ys →
+    get_or (zip2 f xs ys) k 0 ≡ f (get_or xs k 0) (get_or ys k 0)
 get_or-zip2_zero f none [] [] k same = sym none
 get_or-zip2_zero f none [] (y ∷ ys) k same = absurd (omega arith)
 get_or-zip2_zero f none (x ∷ xs) [] k same = absurd (omega arith)
 get_or-zip2_zero f none (x ∷ xs) (y ∷ ys) zero same = refl
 get_or-zip2_zero f none (x ∷ xs) (y ∷ ys) (suc k) same = get_or-zip2_zero f none xs ys k (omega arith)
 
--- a bit of a union is set where it is in either list
+-- A bit of a union is set where it is in either list.
 pub bit_at_word-union : (xs ys : List ℕ) (i : ℕ) → length xs ≡ length ys → bit_at_word (zip2 bit_or xs ys) i ≡ (bit_at_word xs i || bit_at_word ys i)
 unfolding bit_at_word
 bit_at_word-union xs ys i same =
@@ -53,7 +61,7 @@ bit_at_word-union xs ys i same =
     ∙ ap (λ b. eqb b 1) (bit_at_or x y (i % 64))
     ∙ or_test (bit_at x (i % 64)) (bit_at y (i % 64)) (bit_at-lt x (i % 64)) (bit_at-lt y (i % 64))
 
--- a bit of a meet is set where it is in both lists
+-- A bit of a meet is set where it is in both lists.
 pub bit_at_word-meet : (xs ys : List ℕ) (i : ℕ) → length xs ≡ length ys → bit_at_word (zip2 bit_and xs ys) i ≡ (bit_at_word xs i && bit_at_word ys i)
 unfolding bit_at_word
 bit_at_word-meet xs ys i same =
@@ -63,11 +71,11 @@ bit_at_word-meet xs ys i same =
     ∙ ap (λ b. eqb b 1) (bit_at_and x y (i % 64))
     ∙ and_test (bit_at x (i % 64)) (bit_at y (i % 64)) (bit_at-lt x (i % 64)) (bit_at-lt y (i % 64))
 
--- the list after bit i was set
+-- The list after bit i was set.
 abbrev pub with_bit : List ℕ → ℕ → List ℕ
 with_bit words i = set words (i / 64) (bit_or (get_or words (i / 64) 0) (1 * 2 ^ (i % 64) % 2 ^ 64))
 
--- a bit that was set is set, and each other bit is as it was
+-- A bit that was set is set, and each other bit is as it was.
 pub bit_at_word-with_bit : (words : List ℕ) (i j : ℕ) → i < 64 * length words → bit_at_word (with_bit words i) j ≡ (eqb j i || bit_at_word words j)
 unfolding bit_at_word
 bit_at_word-with_bit words i j within =
@@ -97,25 +105,77 @@ bit_at_word-with_bit words i j within =
           ∙ ap (λ b. b || bit_at_word words j) (sym (ne_eqb j i apart))
     ]
 
--- no bit of zeros is set
+-- No bit of zeros is set.
 pub bit_at_word-zeros : (n i : ℕ) → bit_at_word (replicate n 0) i ≡ false
 unfolding bit_at_word
 bit_at_word-zeros n i =
     elim (cases_lt (i / 64) n) [
       | inl within ↦ ap (λ w. eqb (bit_at w (i % 64)) 1) (get_or-replicate n (i / 64) 0 0 within) ∙ ap (λ b. eqb b 1) (bit_at-zero (i % 64))
-      | inr past ↦ ap (λ w. eqb (bit_at w (i % 64)) 1) (get_or_past (replicate n 0) (i / 64) 0 (omega (arith, length-replicate {A = ℕ} n 0))) ∙ ap (λ b. eqb b 1) (bit_at-zero (i % 64))
+      | inr past ↦ ap (λ w. eqb (bit_at w (i % 64)) 1) (get_or_past (replicate n 0) (i / 64) 0 (omega (arith, length-replicate {A = ℕ} n 0)))
+          ∙ ap (λ b. eqb b 1) (bit_at-zero (i % 64))
     ]
 
--- no bit past the words is set
+-- No bit past the words is set.
 pub bit_at_word-past : (words : List ℕ) → IsClearFrom (64 * length words) words
 unfolding bit_at_word
 bit_at_word-past words i past = ap (λ w. eqb (bit_at w (i % 64)) 1) (get_or_past words (i / 64) 0 (omega arith)) ∙ ap (λ b. eqb b 1) (bit_at-zero (i % 64))
 
--- whether a number is in a range
+-- A set bit is one of the words'.
+pub set_within : (words : List ℕ) (i : ℕ) → IsTrue (bit_at_word words i) → i < 64 * length words
+set_within words i is =
+    elim (cases_lt i (64 * length words)) [
+      | inl within ↦ within
+      | inr past ↦ absurd (false≢true (sym (bit_at_word-past words i past) ∙ is))
+    ]
+
+-- The bit of a word as a bit of the list.
+pub bit_of_word : (word k : ℕ) (words : List ℕ) → k < 64 → bit_at_word words (64 * word + k) ≡ eqb (bit_at (get_or words word 0) k) 1
+unfolding bit_at_word
+bit_of_word word k words below =
+    let place : (64 * word + k) / 64 ≡ word = omega arith in
+    let rest : (64 * word + k) % 64 ≡ k = omega arith in
+    ap₂ (λ w j. eqb (bit_at (get_or words w 0) j) 1) place rest
+
+-- The highest bit of a word that isn't 0 is set.
+pub highest_set : (word : ℕ) → 0 < word → word < 2 ^ 64 → bit_at word (63 - leading_zeros w64 word) ≡ 1
+highest_set word some fits =
+    let top = leading_top 64 word some fits in
+    let j = top.0 in
+    let place : 63 - leading_zeros w64 word ≡ j = omega (arith, top.1) in
+    let unit : 0 < 2 ^ j = pow_pos j in
+    let high : word < 2 * 2 ^ j = omega (arith, top.3, pow-succ' 2 j) in
+    let whole : word / 2 ^ j ≡ 1 = omega (arith, le-div 1 word (2 ^ j) unit (omega (arith, top.2)), div_below word (2 ^ j) 2 unit high) in
+    ap (bit_at word) place ∙ ap (λ q. q % 2) whole
+
+-- A bit of a chunk of the words.
+bit_at_word-chunk : (at n i : ℕ) (words : List ℕ) → i < 64 * n → bit_at_word (chunk at n words) i ≡ bit_at_word words (64 * at + i)
+unfolding bit_at_word
+bit_at_word-chunk at n i words within =
+    let place : at + i / 64 ≡ (64 * at + i) / 64 = omega arith in
+    let rest : i % 64 ≡ (64 * at + i) % 64 = omega arith in
+    ap (λ w. eqb (bit_at w (i % 64)) 1) (get_or-take n (drop at words) (i / 64) 0 (omega arith) ∙ get_or-drop at words (i / 64) 0)
+    ∙ ap₂ (λ w j. eqb (bit_at (get_or words w 0) j) 1) place rest
+
+-- A bit of the words in a chunk that adds nothing to another is set there too.
+pub covered_bit : (at : ℕ) (xs ys : List ℕ) → at + 8 ≤ length xs → at + 8 ≤ length ys → zip2 bit_or (chunk at 8 xs) (chunk at 8 ys) ≡ chunk at 8 ys →
+    (j : ℕ) → 64 * at ≤ j → j < 64 * (at + 8) → IsTrue (bit_at_word xs j) → IsTrue (bit_at_word ys j)
+covered_bit at xs ys long also same j low high is =
+    let i = j - 64 * at in
+    let place : 64 * at + i ≡ j = omega arith in
+    let within : i < 64 * 8 = omega arith in
+    let left = bit_at_word-chunk at 8 i xs within ∙ ap (bit_at_word xs) place in
+    let right = bit_at_word-chunk at 8 i ys within ∙ ap (bit_at_word ys) place in
+    sym right ∙ ap (λ zs. bit_at_word zs i) (sym same)
+    ∙ bit_at_word-union (chunk at 8 xs) (chunk at 8 ys) i (length-chunk at 8 xs long ∙ sym (length-chunk at 8 ys also))
+    ∙ or_left (bit_at_word (chunk at 8 xs) i) (bit_at_word (chunk at 8 ys) i) (left ∙ is)
+
+-- Whether a number is in a range.
 pub any_in_range : (a n q : ℕ) → a ≤ q → q < a + n → list_any (λ y. eqb y q) (range_with_len a n) ≡ true
 any_in_range a n q low high =
-    list_any_at (λ y. eqb y q) (range_with_len a n) (q - a) 0 (omega (arith, length-range_with_len a n)) (eq-eqb _ q (get_or-range_with_len a n (q - a) 0 (omega arith) ∙ omega arith))
+    list_any_at (λ y. eqb y q) (range_with_len a n) (q - a) 0 (omega (arith, length-range_with_len a n))
+    (eq-eqb _ q (get_or-range_with_len a n (q - a) 0 (omega arith) ∙ omega arith))
 
+-- A number outside a range isn't in it.
 pub none_in_range : (a n q : ℕ) → ((q < a) ⊎ (a + n ≤ q)) → list_any (λ y. eqb y q) (range_with_len a n) ≡ false
 none_in_range a n q outside =
     list_any_none (λ y. eqb y q) (range_with_len a n)
@@ -123,7 +183,7 @@ none_in_range a n q outside =
     (λ i h. ne_eqb _ q (λ e. let place : get_or (range_with_len a n) i 0 ≡ a + i = get_or-range_with_len a n i 0 (omega (arith, length-range_with_len a n)) in
     elim outside [ inl low ↦ omega (arith, length-range_with_len a n) | inr high ↦ omega (arith, length-range_with_len a n) ])))
 
--- a member of the set of a clear row is a number whose bit is set
+-- A member of the set of a clear row is a number whose bit is set.
 pub contains-row : (n : ℕ) (words : List ℕ) → IsClearFrom n words → (q : ℕ) → contains (number_set n words).members q ≡ bit_at_word words q
 unfolding members_of
 contains-row n words clear q =
@@ -138,57 +198,62 @@ contains-row n words clear q =
     and-true true = refl
     and-true false = refl
 
--- the numbers of the set, rising
+-- The numbers of the set, rising.
 pub rising-row : (n : ℕ) (words : List ℕ) → IsClearFrom n words → rising_members (number_set n words) ≡ members_of n words
 unfolding members_of
 rising-row n words clear = filter_agree _ (bit_at_word words) (contains-row n words clear) (range_with_len 0 n)
 
--- the set of zeros is empty
+-- The set of zeros is empty.
 pub empty-row : (n k : ℕ) → (number_set n (replicate k 0)).members ≡ empty
 empty-row n k =
-    same_set nat_cmp_total nat_cmp-IsAntisymmetric _ _ (λ q. contains-row n (replicate k 0) (λ i _. bit_at_word-zeros k i) q ∙ bit_at_word-zeros k q ∙ sym (contains-empty nat_cmp q))
+    same_set nat_cmp_total nat_cmp-IsAntisymmetric _ _ (λ q. contains-row n (replicate k 0) (λ i _. bit_at_word-zeros k i) q ∙ bit_at_word-zeros k q
+    ∙ sym (contains-empty nat_cmp q))
 
--- a row stays clear where a bit below its size is set
-pub clear_with_bit : (n i : ℕ) (words also : List ℕ) → IsClearFrom n words → i < n → ((j : ℕ) → bit_at_word also j ≡ (eqb j i || bit_at_word words j)) → IsClearFrom n also
+-- A row stays clear where a bit below its size is set.
+pub clear_with_bit : (n i : ℕ) (words also : List ℕ) → IsClearFrom n words → i < n → ((j : ℕ) → bit_at_word also j ≡ (eqb j i || bit_at_word words j)) →
+    IsClearFrom n also
 clear_with_bit n i words also clear within bits j past = bits j ∙ ap₂ ◌||◌ (ne_eqb j i (λ e. omega arith)) (clear j past)
 
--- the set with one bit more
-pub insert-row : (n i : ℕ) (words also : List ℕ) → IsClearFrom n words → i < n → ((j : ℕ) → bit_at_word also j ≡ (eqb j i || bit_at_word words j)) → (number_set n also).members ≡ insert (number_set n words).members i
+-- The set with one bit more.
+pub insert-row : (n i : ℕ) (words also : List ℕ) → IsClearFrom n words → i < n → ((j : ℕ) → bit_at_word also j ≡ (eqb j i || bit_at_word words j)) →
+    (number_set n also).members ≡ insert (number_set n words).members i
 insert-row n i words also clear within bits =
     same_set nat_cmp_total nat_cmp-IsAntisymmetric _ _
     (λ q. contains-row n also (clear_with_bit n i words also clear within bits) q ∙ bits q
     ∙ ap₂ ◌||◌ (sym (unsigned_tied q i)) (sym (contains-row n words clear q)) ∙ sym (contains-insert nat_cmp_total _ i q))
 
--- a row stays clear under a union
+-- A row stays clear under a union.
 pub clear_union : (n : ℕ) (xs ys : List ℕ) → length xs ≡ length ys → IsClearFrom n xs → IsClearFrom n ys → IsClearFrom n (zip2 bit_or xs ys)
 clear_union n xs ys same clear also j past = bit_at_word-union xs ys j same ∙ ap₂ ◌||◌ (clear j past) (also j past)
 
--- and under a meet
+-- And under a meet.
 pub clear_meet : (n : ℕ) (xs ys : List ℕ) → length xs ≡ length ys → IsClearFrom n xs → IsClearFrom n (zip2 bit_and xs ys)
 clear_meet n xs ys same clear j past = bit_at_word-meet xs ys j same ∙ ap (λ b. b && bit_at_word ys j) (clear j past)
 
--- the set of a union is the union of the sets
-pub union-row : (n : ℕ) (xs ys : List ℕ) → length xs ≡ length ys → IsClearFrom n xs → IsClearFrom n ys → (number_set n (zip2 bit_or xs ys)).members ≡ union (number_set n xs).members (number_set n ys).members
+-- The set of a union is the union of the sets.
+pub union-row : (n : ℕ) (xs ys : List ℕ) → length xs ≡ length ys → IsClearFrom n xs → IsClearFrom n ys →
+    (number_set n (zip2 bit_or xs ys)).members ≡ union (number_set n xs).members (number_set n ys).members
 union-row n xs ys same clear also =
     same_set nat_cmp_total nat_cmp-IsAntisymmetric _ _
     (λ q. contains-row n _ (clear_union n xs ys same clear also) q ∙ bit_at_word-union xs ys q same
     ∙ ap₂ ◌||◌ (sym (contains-row n xs clear q)) (sym (contains-row n ys also q)) ∙ sym (contains-union nat_cmp_total _ _ q))
 
--- the set of a meet is what the sets have in common
-pub meet-row : (n : ℕ) (xs ys : List ℕ) → length xs ≡ length ys → IsClearFrom n xs → IsClearFrom n ys → (number_set n (zip2 bit_and xs ys)).members ≡ intersection (number_set n xs).members (number_set n ys).members
+-- The set of a meet is what the sets have in common.
+pub meet-row : (n : ℕ) (xs ys : List ℕ) → length xs ≡ length ys → IsClearFrom n xs → IsClearFrom n ys →
+    (number_set n (zip2 bit_and xs ys)).members ≡ intersection (number_set n xs).members (number_set n ys).members
 meet-row n xs ys same clear also =
     same_set nat_cmp_total nat_cmp-IsAntisymmetric _ _
     (λ q. contains-row n _ (clear_meet n xs ys same clear) q ∙ bit_at_word-meet xs ys q same
     ∙ ap₂ ◌&&◌ (sym (contains-row n xs clear q)) (sym (contains-row n ys also q)) ∙ sym (contains-intersection nat_cmp_total _ _ q))
 
--- one number more of a range that is filtered
+-- One number more of a range that is filtered.
 filter_range_more : (p : ℕ → Bool) (n : ℕ) → filter p (range_with_len 0 (n + 1)) ≡ filter p (range_with_len 0 n) ++ cond (p n) (n ∷ []) []
 filter_range_more p n =
     sym (ap (filter p) (map-id (range_with_len 0 (n + 1))))
     ∙ filter_of_map_range_with_len_more p (λ k. k) 0 n n (omega arith)
     ∙ ap (λ xs. filter p xs ++ cond (p n) (n ∷ []) []) (map-id (range_with_len 0 n))
 
--- a range that is filtered rises
+-- A range that is filtered rises.
 filter_range_rises : (p : ℕ → Bool) (n : ℕ) → IsStrictlyIncreasing (filter p (range_with_len 0 n))
 filter_range_rises p n =
     IsStrictlyIncreasing-filter p (range_with_len 0 n)
@@ -197,15 +262,18 @@ filter_range_rises p n =
     let next = get_or-range_with_len 0 n (k + 1) 0 (omega arith) in
     omega arith)
 
--- the step where the number passes
-pub filter_range_takes : (p : ℕ → Bool) (n : ℕ) (xs : List ℕ) → p n ≡ true → xs ≡ filter p (range_with_len 0 n) → xs ++ n ∷ [] ≡ filter p (range_with_len 0 (n + 1))
-filter_range_takes p n xs passes so_far = ap (λ ys. ys ++ n ∷ []) so_far ∙ ap (λ b. filter p (range_with_len 0 n) ++ cond b (n ∷ []) []) (sym passes) ∙ sym (filter_range_more p n)
+-- The step where the number passes.
+pub filter_range_takes : (p : ℕ → Bool) (n : ℕ) (xs : List ℕ) → p n ≡ true → xs ≡ filter p (range_with_len 0 n) →
+    xs ++ n ∷ [] ≡ filter p (range_with_len 0 (n + 1))
+filter_range_takes p n xs passes so_far = ap (λ ys. ys ++ n ∷ []) so_far ∙ ap (λ b. filter p (range_with_len 0 n) ++ cond b (n ∷ []) []) (sym passes)
+    ∙ sym (filter_range_more p n)
 
--- and where it does not
+-- And where it does not.
 pub filter_range_skips : (p : ℕ → Bool) (n : ℕ) (xs : List ℕ) → p n ≡ false → xs ≡ filter p (range_with_len 0 n) → xs ≡ filter p (range_with_len 0 (n + 1))
-filter_range_skips p n xs fails so_far = so_far ∙ sym (append-nil (filter p (range_with_len 0 n))) ∙ ap (λ b. filter p (range_with_len 0 n) ++ cond b (n ∷ []) []) (sym fails) ∙ sym (filter_range_more p n)
+filter_range_skips p n xs fails so_far = so_far ∙ sym (append-nil (filter p (range_with_len 0 n)))
+    ∙ ap (λ b. filter p (range_with_len 0 n) ++ cond b (n ∷ []) []) (sym fails) ∙ sym (filter_range_more p n)
 
--- the numbers whose bit is set rise
+-- The numbers whose bit is set rise.
 pub members_rise : (n : ℕ) (words : List ℕ) → IsStrictlyIncreasing (members_of n words)
 unfolding members_of
 members_rise n words = filter_range_rises (bit_at_word words) n

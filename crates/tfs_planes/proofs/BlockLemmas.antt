@@ -7,14 +7,18 @@ use Rattle.tfs_planes.specs.Row.{bit_at_word}
 use Rattle.tfs_planes.proofs.PlaneLemmas.{row_words_front, row_words_back}
 use Rattle.tfs_planes.proofs.WalkLemmas.{joins_below_more, joins_below_through, joins_below_first}
 
--- the rows of a block whose walks go below its end are a closed block
-closed_block : (s first width : ℕ) (block : List ℕ) (related : ℕ → ℕ → Bool) → BlockJoins s block width first related (first + width) → IsClosedBlock s block width first
+-- The rows of a block whose walks go below its end are a closed block.
+closed_block : (s first width : ℕ) (block : List ℕ) (related : ℕ → ℕ → Bool) → BlockJoins s block width first related (first + width) →
+    IsClosedBlock s block width first
 closed_block s first width block related inv a b j first_in second_in to on =
     let R : ℕ → ℕ → Type 0 = λ x y. IsTrue (related x y) in
-    (inv a j first_in).1 (joins_below_through R (first + width) (first + b) (first + a) j (omega arith) ((inv a (first + b) first_in).0 to) ((inv b j second_in).0 on))
+    (inv a j first_in).1 (joins_below_through R (first + width) (first + b) (first + a) j (omega arith) ((inv a (first + b) first_in).0 to)
+    ((inv b j second_in).0 on))
 
--- a row that takes in the rows of such a block has the walks below the block's end
-takes_walks : (s first width i : ℕ) (row block : List ℕ) (related : ℕ → ℕ → Bool) → ((j : ℕ) → IsTrue (bit_at_word row j) ↔ JoinsBelow (λ a b. IsTrue (related a b)) first i j) → BlockJoins s block width first related (first + width) → (j : ℕ) → TakesIn s row block width first j ↔ JoinsBelow (λ a b. IsTrue (related a b)) (first + width) i j
+-- A row that takes in the rows of such a block has the walks below the block's end.
+takes_walks : (s first width i : ℕ) (row block : List ℕ) (related : ℕ → ℕ → Bool) →
+    ((j : ℕ) → IsTrue (bit_at_word row j) ↔ JoinsBelow (λ a b. IsTrue (related a b)) first i j) → BlockJoins s block width first related (first + width) →
+    (j : ℕ) → TakesIn s row block width first j ↔ JoinsBelow (λ a b. IsTrue (related a b)) (first + width) i j
 takes_walks s first width i row block related own inv j =
     let R : ℕ → ℕ → Type 0 = λ x y. IsTrue (related x y) in (
       λ takes. elim takes [
@@ -33,30 +37,40 @@ takes_walks s first width i row block related own inv j =
             let to : comes.0 < first + width = comes.2 in
             let place : comes.0 ≡ first + k = omega arith in
             let below : k < width = omega arith in
-            inr (k, below, subst (λ m. IsTrue (bit_at_word row m)) place ((own comes.0).1 comes.3), (inv k j below).1 (subst (λ m. JoinsBelow R (first + width) m j) place comes.4))
+            inr (
+              k,
+              below,
+              subst (λ m. IsTrue (bit_at_word row m)) place ((own comes.0).1 comes.3),
+              (inv k j below).1 (subst (λ m. JoinsBelow R (first + width) m j) place comes.4),
+            )
       ],
     )
 
--- rows that lie in three parts: before a block, in it and behind it
+-- Rows that lie in three parts: before a block, in it and behind it.
 module _ (s first width : ℕ) (front mid behind : List ℕ) (long : length front ≡ first * s) (wide : length mid ≡ width * s) where
+  -- A row before the block.
   row_in_front : (i : ℕ) → i < first → row_words s (front ++ (mid ++ behind)) i ≡ row_words s front i
   row_in_front i below = row_words_front s first i front (mid ++ behind) long below
 
+  -- A row of the block.
   row_in_block : (i : ℕ) → i < width → row_words s (front ++ (mid ++ behind)) (first + i) ≡ row_words s mid i
   row_in_block i below = row_words_back s first i front (mid ++ behind) long ∙ row_words_front s width i mid behind wide below
 
+  -- A row behind the block.
   row_behind : (i : ℕ) → row_words s (front ++ (mid ++ behind)) (first + (width + i)) ≡ row_words s behind i
   row_behind i = row_words_back s first (width + i) front (mid ++ behind) long ∙ row_words_back s width i mid behind wide
 
--- a block more
+-- A block more.
 module _ (s first width : ℕ) (words before block after front mid behind : List ℕ) (whole : words ≡ before ++ (block ++ after))
     (long : length before ≡ first * s) (also : length front ≡ first * s) (wide : length block ≡ width * s) (too : length mid ≡ width * s)
     (blocks : (related : ℕ → ℕ → Bool) → BlockJoins s block width first related first → BlockJoins s mid width first related (first + width))
     (fronts : IsClosedBlock s mid width first → (i j : ℕ) → IsTrue (cell_at s front i j) ↔ TakesIn s (row_words s before i) mid width first j)
     (behinds : IsClosedBlock s mid width first → (i j : ℕ) → IsTrue (cell_at s behind i j) ↔ TakesIn s (row_words s after i) mid width first j) where
+  -- The words afterwards.
   abbrev now : List ℕ
   now = front ++ (mid ++ behind)
 
+  -- The rows of the block.
   block_advances : (related : ℕ → ℕ → Bool) → AllJoins s words related first → BlockJoins s mid width first related (first + width)
   unfolding cell_at
   block_advances related inv =
@@ -64,8 +78,9 @@ module _ (s first width : ℕ) (words before block after front mid behind : List
       (λ i j below. let same = ap (λ zs. row_words s zs (first + i)) whole ∙ row_in_block s first width before block after long wide i below in
       subst (λ r. IsTrue (bit_at_word r j) ↔ JoinsBelow (λ a b. IsTrue (related a b)) first (first + i) j) same (inv (first + i) j))
 
-  -- a row outside the block
-  row_advances : (related : ℕ → ℕ → Bool) → AllJoins s words related first → (i : ℕ) (row : List ℕ) → row_words s words i ≡ row → (j : ℕ) → TakesIn s row mid width first j ↔ JoinsBelow (λ a b. IsTrue (related a b)) (first + width) i j
+  -- A row outside the block.
+  row_advances : (related : ℕ → ℕ → Bool) → AllJoins s words related first → (i : ℕ) (row : List ℕ) → row_words s words i ≡ row → (j : ℕ) →
+      TakesIn s row mid width first j ↔ JoinsBelow (λ a b. IsTrue (related a b)) (first + width) i j
   unfolding cell_at
   row_advances related inv i row same j =
       takes_walks s first width i row mid related
@@ -89,13 +104,15 @@ module _ (s first width : ℕ) (words before block after front mid behind : List
           | inl within ↦
               let place : i ≡ first + (i - first) = omega arith in
               let is = ap (row_words s now) place ∙ row_in_block s first width front mid behind also too (i - first) within in
-              let walks = subst (λ p. IsTrue (bit_at_word (row_words s mid (i - first)) j) ↔ JoinsBelow R (first + width) p j) (sym place) (inner (i - first) j within) in
+              let walks = subst (λ p. IsTrue (bit_at_word (row_words s mid (i - first)) j) ↔ JoinsBelow R (first + width) p j) (sym place)
+              (inner (i - first) j within) in
               (λ h. walks.0 (ap (λ r. bit_at_word r j) (sym is) ∙ h), λ walk. ap (λ r. bit_at_word r j) is ∙ walks.1 walk)
           | inr beyond ↦
               let q = i - first - width in
               let place : i ≡ first + (width + (i - first - width)) = omega arith in
               let is = ap (row_words s now) place ∙ row_behind s first width front mid behind also too q in
-              let was = ap (λ zs. row_words s zs i) whole ∙ ap (row_words s (before ++ (block ++ after))) place ∙ row_behind s first width before block after long wide q in
+              let was = ap (λ zs. row_words s zs i) whole ∙ ap (row_words s (before ++ (block ++ after))) place
+              ∙ row_behind s first width before block after long wide q in
               let takes = behinds closed q j in
               let walks = row_advances related inv i (row_words s after q) was j in
               (λ h. walks.0 (takes.0 (ap (λ r. bit_at_word r j) (sym is) ∙ h)), λ walk. ap (λ r. bit_at_word r j) is ∙ takes.1 (walks.1 walk))

@@ -2,10 +2,13 @@ pub mod BitLemmas
 pub mod BlockLemmas
 pub mod CountLemmas
 pub mod KernelLemmas
+pub mod NextLemmas
+pub mod PlacingLemmas
 pub mod PlainLemmas
 pub mod PlaneLemmas
 pub mod RelationLemmas
 pub mod RoundLemmas
 pub mod RowLemmas
 pub mod TakeLemmas
+pub mod TargetLemmas
 pub mod WalkLemmas

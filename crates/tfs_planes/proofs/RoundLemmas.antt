@@ -1,5 +1,6 @@
 -- What one round does to the rows of a plane, and that the rounds together are the walks.
-use Rattle.std.proofs.Common.{◌≡◌, ◌≢◌, ◌↔◌, ℕ, ◌+◌, ◌-◌, ◌*◌, ◌<◌, Bool, true, false, ◌||◌, eqb, IsTrue, List, [], ◌++◌, length, bit_or, ap, ap₂, sym, subst, ◌∙◌, inl, inr, arith}
+use Rattle.std.proofs.Common.{◌≡◌, ◌≢◌, ◌↔◌, ℕ, ◌+◌, ◌-◌, ◌*◌, ◌<◌, Bool, true, false, ◌||◌, eqb, IsTrue, List, [], ◌++◌, length, bit_or, ap, ap₂}
+use Rattle.std.proofs.Common.{sym, subst, ◌∙◌, inl, inr, arith}
 use Rattle.std.proofs.Math.Nat.{mul-le-mul_right}
 use Rattle.std.proofs.lemmas.Bool.{cases_lt, cases_eq, cases_Bool, cond-true, cond-false, or_cases, or_left, or_right, false≢true, ne_eqb}
 use Rattle.std.specs.Simd.Lanes.{zip2}
@@ -9,24 +10,28 @@ use Rattle.tfs_planes.specs.Rounds.{AllJoins, BlockJoins, JoinsBelow}
 use Rattle.tfs_planes.specs.Walk.{Joins}
 use Rattle.tfs_planes.proofs.BitLemmas.{bit_at_word-union, bit_at_word-past}
 use Rattle.tfs_planes.proofs.PlaneLemmas.{row_fits, length-row_words, row_words_past, row_words_front, row_words_behind, row_words_mid}
-use Rattle.tfs_planes.proofs.WalkLemmas.{joins_below_zero, joins_below_one_pair, joins_below_more, joins_below_through, joins_below_cases, joins_from_below, joins_below_from_joins}
+use Rattle.tfs_planes.proofs.WalkLemmas.{joins_below_zero, joins_below_one_pair, joins_below_more, joins_below_through, joins_below_cases}
+use Rattle.tfs_planes.proofs.WalkLemmas.{joins_from_below, joins_below_from_joins}
 
--- a row whose bit k is not set stays
+-- A row whose bit k is not set stays.
 pub row_through_clear : (other : List ℕ) (k : ℕ) (row : List ℕ) → bit_at_word row k ≡ false → row_through other k row ≡ row
 unfolding row_through
 row_through_clear other k row clear = cond-false (bit_at_word row k) (zip2 bit_or row other) row clear
 
--- and one whose bit k is set is united
+-- And one whose bit k is set is united.
 pub row_through_set : (other : List ℕ) (k : ℕ) (row : List ℕ) → bit_at_word row k ≡ true → row_through other k row ≡ zip2 bit_or row other
 unfolding row_through
 row_through_set other k row is = cond-true (bit_at_word row k) (zip2 bit_or row other) row is
 
--- the empty row stays
+-- The empty row stays.
 pub row_through_nil : (other : List ℕ) (k : ℕ) → row_through other k [] ≡ []
 row_through_nil other k = row_through_clear other k [] (bit_at_word-past [] k (omega arith))
 
--- the rows after a round, from those before row k and those behind it
-pub round_others : (s k column : ℕ) (words before row after front behind : List ℕ) → words ≡ before ++ (row ++ after) → length before ≡ k * s → length front ≡ k * s → length row ≡ s → ((i : ℕ) → row_words s front i ≡ row_through row column (row_words s before i)) → ((i : ℕ) → row_words s behind i ≡ row_through row column (row_words s after i)) → (i : ℕ) → i ≢ k → row_words s (front ++ (row ++ behind)) i ≡ row_through (row_words s words k) column (row_words s words i)
+-- The rows after a round, from those before row k and those behind it.
+pub round_others : (s k column : ℕ) (words before row after front behind : List ℕ) → words ≡ before ++ (row ++ after) → length before ≡ k * s →
+    length front ≡ k * s → length row ≡ s → ((i : ℕ) → row_words s front i ≡ row_through row column (row_words s before i)) →
+    ((i : ℕ) → row_words s behind i ≡ row_through row column (row_words s after i)) → (i : ℕ) → i ≢ k →
+    row_words s (front ++ (row ++ behind)) i ≡ row_through (row_words s words k) column (row_words s words i)
 round_others s k column words before row after front behind whole long also one through too i other =
     let middle : row_words s words k ≡ row = ap (λ zs. row_words s zs k) whole ∙ row_words_mid s k before row after long one in
     elim (cases_lt i k) [
@@ -38,33 +43,35 @@ round_others s k column words before row after front behind whole long also one 
           ap (row_words s (front ++ (row ++ behind))) place
           ∙ row_words_behind s k (i - k - 1) front row behind also one ∙ too (i - k - 1)
           ∙ ap₂ (λ x y. row_through x column y) (sym middle)
-          (sym (ap (λ zs. row_words s zs i) whole ∙ ap (row_words s (before ++ (row ++ after))) place ∙ row_words_behind s k (i - k - 1) before row after long one))
+          (sym (ap (λ zs. row_words s zs i) whole ∙ ap (row_words s (before ++ (row ++ after))) place
+          ∙ row_words_behind s k (i - k - 1) before row after long one))
     ]
 
--- a bit that is set lies in one of the rows
+-- A bit that is set lies in one of the rows.
 pub row_of_set_cell : (s count : ℕ) (words : List ℕ) (i j : ℕ) → length words ≡ count * s → IsTrue (cell_at s words i j) → i < count
 unfolding cell_at
 row_of_set_cell s count words i j long is =
     elim (cases_lt i count) [
       | inl below ↦ below
-      | inr past ↦ absurd (false≢true (sym (ap (λ row. bit_at_word row j) (row_words_past s i words (omega (arith, mul-le-mul_right s past))) ∙ bit_at_word-past [] j (omega arith)) ∙ is))
+      | inr past ↦ absurd (false≢true (sym (ap (λ row. bit_at_word row j) (row_words_past s i words (omega (arith, mul-le-mul_right s past)))
+          ∙ bit_at_word-past [] j (omega arith)) ∙ is))
     ]
 
 module _ (s width k first : ℕ) (before now : List ℕ) (long : length before ≡ width * s) (row : k < width)
     (kept : row_words s now k ≡ row_words s before k)
     (others : (i : ℕ) → eqb i k ≡ false → row_words s now i ≡ row_through (row_words s before k) (first + k) (row_words s before i)) where
-  -- row k keeps its bits
+  -- Row k keeps its bits.
   cell_kept : (i j : ℕ) → i ≡ k → cell_at s now i j ≡ cell_at s before k j
   unfolding cell_at
   cell_kept i j same = ap (λ p. bit_at_word (row_words s now p) j) same ∙ ap (λ r. bit_at_word r j) kept
 
-  -- a row without the bit of row k keeps its bits
+  -- A row without the bit of row k keeps its bits.
   cell_clear : (i j : ℕ) → i ≢ k → cell_at s before i (first + k) ≡ false → cell_at s now i j ≡ cell_at s before i j
   unfolding cell_at
   cell_clear i j other clear =
       ap (λ r. bit_at_word r j) (others i (ne_eqb i k other) ∙ row_through_clear (row_words s before k) (first + k) (row_words s before i) clear)
 
-  -- a row with the bit of row k has those of row k too
+  -- A row with the bit of row k has those of row k too.
   cell_united : (i j : ℕ) → i ≢ k → cell_at s before i (first + k) ≡ true → cell_at s now i j ≡ (cell_at s before i j || cell_at s before k j)
   unfolding cell_at
   cell_united i j other is =
@@ -72,17 +79,20 @@ module _ (s width k first : ℕ) (before now : List ℕ) (long : length before �
       let fits = row_fits i width s within in
       let too = row_fits k width s row in
       ap (λ r. bit_at_word r j) (others i (ne_eqb i k other) ∙ row_through_set (row_words s before k) (first + k) (row_words s before i) is)
-      ∙ bit_at_word-union (row_words s before i) (row_words s before k) j (length-row_words s i before (omega arith) ∙ sym (length-row_words s k before (omega arith)))
+      ∙ bit_at_word-union (row_words s before i) (row_words s before k) j
+      (length-row_words s i before (omega arith) ∙ sym (length-row_words s k before (omega arith)))
 
-  -- Warshall's step: walks whose inner numbers are below first + k become those whose inner numbers are below one more
+  -- Warshall's step: walks whose inner numbers are below first + k become those whose inner numbers are below one more.
   pub round_walks : (related : ℕ → ℕ → Bool) → BlockJoins s before width first related (first + k) → BlockJoins s now width first related (first + (k + 1))
   round_walks related inv i j below =
       let R : ℕ → ℕ → Type 0 = λ a b. IsTrue (related a b) in
       let bound : first + (k + 1) ≡ first + k + 1 = omega arith in
-      let cases = λ (walk : JoinsBelow R (first + (k + 1)) (first + i) j). let turned = subst (λ h. JoinsBelow R h (first + i) j) bound walk in joins_below_cases R (first + k) (first + i) j turned.0 turned.1 turned.2 in
+      let cases = λ (walk : JoinsBelow R (first + (k + 1)) (first + i) j). let turned = subst (λ h. JoinsBelow R h (first + i) j) bound walk in
+      joins_below_cases R (first + k) (first + i) j turned.0 turned.1 turned.2 in
       elim (cases_eq i k) [
         | inl same ↦ (
-          λ is. joins_below_more R (first + k) (first + (k + 1)) (first + i) j (omega arith) (subst (λ p. JoinsBelow R (first + k) (first + p) j) (sym same) ((inv k j row).0 (sym (cell_kept i j same) ∙ is))),
+          λ is. joins_below_more R (first + k) (first + (k + 1)) (first + i) j (omega arith)
+              (subst (λ p. JoinsBelow R (first + k) (first + p) j) (sym same) ((inv k j row).0 (sym (cell_kept i j same) ∙ is))),
           λ walk. cell_kept i j same ∙ (elim (cases walk) [
             | inl avoids ↦ (inv k j row).1 (subst (λ p. JoinsBelow R (first + k) (first + p) j) same avoids)
             | inr passes ↦ (inv k j row).1 passes.1
@@ -112,12 +122,13 @@ module _ (s width k first : ℕ) (before now : List ℕ) (long : length before �
         ]
       ]
 
--- before the first block: single pairs
+-- Before the first block: single pairs.
 pub no_round_walks : (R : ℕ → ℕ → Type 0) (i j : ℕ) → R i j ↔ JoinsBelow R 0 i j
 no_round_walks R i j = (joins_below_one_pair R 0 i j, joins_below_zero R i j)
 
--- after the last block: all walks
-pub all_rounds_walks : (s count : ℕ) (words now : List ℕ) → length words ≡ count * s → AllJoins s now (cell_at s words) count → (i j : ℕ) → IsTrue (cell_at s now i j) ↔ Joins (λ a b. IsTrue (cell_at s words a b)) i j
+-- After the last block: all walks.
+pub all_rounds_walks : (s count : ℕ) (words now : List ℕ) → length words ≡ count * s → AllJoins s now (cell_at s words) count → (i j : ℕ) →
+    IsTrue (cell_at s now i j) ↔ Joins (λ a b. IsTrue (cell_at s words a b)) i j
 all_rounds_walks s count words now long inv i j =
     let R : ℕ → ℕ → Type 0 = λ a b. IsTrue (cell_at s words a b) in (
       λ is. joins_from_below R count i j ((inv i j).0 is),

@@ -1,8 +1,10 @@
 -- A row that takes in the rows of a block: what it has so far, and one row more.
-use Rattle.std.proofs.Common.{◌≡◌, ◌↔◌, ◌⊎◌, ℕ, ◌+◌, ◌-◌, ◌*◌, ◌/◌, ◌%◌, ◌^◌, ◌<◌, ◌≤◌, min, max, false, eqb, IsTrue, List, [], length, take, drop, get_or, bit_and, bit_or, Fits, w64, lit<, ap, ap₂, sym, subst, ◌∙◌, inl, inr, arith}
+use Rattle.std.proofs.Common.{◌≡◌, ◌↔◌, ◌⊎◌, ℕ, ◌+◌, ◌-◌, ◌*◌, ◌/◌, ◌%◌, ◌^◌, ◌<◌, ◌≤◌, min, max, false, eqb, IsTrue, List, [], length, take, drop}
+use Rattle.std.proofs.Common.{get_or, bit_and, bit_or, Fits, w64, lit<, ap, ap₂, sym, subst, ◌∙◌, inl, inr, arith}
 use Rattle.std.proofs.lemmas.Bool.{cases_eq, cases_lt, cases_Bool, or_cases, or_left, or_right, false≢true, eqb-true, eqb-false, eq-eqb}
 use Rattle.std.proofs.lemmas.List.{get_or-take, get_or-drop, get_or_past, length-take}
-use Rattle.std.proofs.lemmas.Nat.Bits.{bit_at_and, bit_at_or, bit_at_not, bit_at-lt, bit_at-zero, bit_at_ones, bit_at_ones_above, bit_at-pow_same, bit_at-pow_other, ones_shr}
+use Rattle.std.proofs.lemmas.Nat.Bits.{bit_at_and, bit_at_or, bit_at_not, bit_at-lt, bit_at-zero, bit_at_ones, bit_at_ones_above, bit_at-pow_same}
+use Rattle.std.proofs.lemmas.Nat.Bits.{bit_at-pow_other, ones_shr}
 use Rattle.std.proofs.lemmas.Nat.{and_le_l, one_shl, or_lt, pow_below}
 use Rattle.std.specs.Int.{bit_at, bit_not}
 use Rattle.std.specs.Simd.Lanes.{zip2}
@@ -11,7 +13,7 @@ use Rattle.tfs_planes.specs.Rounds.{IsClosedBlock, TakesIn}
 use Rattle.tfs_planes.specs.Row.{bit_at_word}
 use Rattle.tfs_planes.proofs.BitLemmas.{bit_at_word-union, bit_at_word-past}
 
--- bit m of the row's word at the block, where the block's rows begin at a whole word
+-- Bit m of the row's word at the block, where the block's rows begin at a whole word.
 word_bit : (first m : ℕ) (row : List ℕ) → first % 64 ≡ 0 → m < 64 → bit_at_word row (first + m) ≡ eqb (bit_at (get_or row (first / 64) 0) m) 1
 unfolding bit_at_word
 word_bit first m row aligned below =
@@ -19,23 +21,27 @@ word_bit first m row aligned below =
     let place : (first + m) % 64 ≡ m = omega arith in
     ap₂ (λ k j. eqb (bit_at (get_or row k 0) j) 1) word place
 
--- the row started as `row`, holds `now`, and took in those of the block's rows that `bits` doesn't name any more
+-- The row started as `row`, holds `now`, and took in those of the block's rows that `bits` doesn't name any more.
 pub record TookIn (s : ℕ) (row now block : List ℕ) (width first bits : ℕ) : Type 0 where
   pub sound : (j : ℕ) → IsTrue (bit_at_word now j) → TakesIn s row block width first j
   pub keeps : (j : ℕ) → IsTrue (bit_at_word row j) → IsTrue (bit_at_word now j)
-  pub gained : (m : ℕ) → m < width → IsTrue (bit_at_word row (first + m)) → (bit_at bits m ≡ 1) ⊎ ((j : ℕ) → IsTrue (cell_at s block m j) → IsTrue (bit_at_word now j))
+  pub gained : (m : ℕ) → m < width → IsTrue (bit_at_word row (first + m)) →
+      (bit_at bits m ≡ 1) ⊎ ((j : ℕ) → IsTrue (cell_at s block m j) → IsTrue (bit_at_word now j))
   pub had : (m : ℕ) → bit_at bits m ≡ 1 → IsTrue (bit_at_word row (first + m))
 
+-- The lesser of a bit and a number is 1.
 least_one : (a b : ℕ) → a < 2 → min a b ≡ 1 → a ≡ 1
 least_one a b below is = omega arith
 
--- bit m of a word of which the lowest `width` bits were kept
-masked_bit : (word width m : ℕ) → 0 < width → width ≤ 64 → bit_at (bit_and word ((2 ^ 64 - 1) / 2 ^ (64 - width))) m ≡ min (bit_at word m) (bit_at (2 ^ width - 1) m)
+-- Bit m of a word of which the lowest `width` bits were kept.
+masked_bit : (word width m : ℕ) → 0 < width → width ≤ 64 → bit_at (bit_and word ((2 ^ 64 - 1) / 2 ^ (64 - width))) m ≡ min (bit_at word m)
+    (bit_at (2 ^ width - 1) m)
 masked_bit word width m some narrow =
     let low : 64 - (64 - width) ≡ width = omega arith in
-    bit_at_and word ((2 ^ 64 - 1) / 2 ^ (64 - width)) m ∙ ap (λ n. min (bit_at word m) (bit_at n m)) (ones_shr 64 (64 - width) (omega arith) ∙ ap (λ w. 2 ^ w - 1) low)
+    bit_at_and word ((2 ^ 64 - 1) / 2 ^ (64 - width)) m ∙ ap (λ n. min (bit_at word m) (bit_at n m))
+    (ones_shr 64 (64 - width) (omega arith) ∙ ap (λ w. 2 ^ w - 1) low)
 
--- the bits at the start are below the block's width
+-- The bits at the start are below the block's width.
 pub start_within : (word width : ℕ) → 0 < width → width ≤ 64 → (m : ℕ) → bit_at (bit_and word ((2 ^ 64 - 1) / 2 ^ (64 - width))) m ≡ 1 → m < width
 start_within word width some narrow m is =
     elim (cases_lt m width) [
@@ -43,8 +49,9 @@ start_within word width some narrow m is =
       | inr past ↦ let none = bit_at_ones_above width m past in let both = masked_bit word width m some narrow in absurd (omega arith)
     ]
 
--- at the start
-pub took_none : (s : ℕ) (row block : List ℕ) (width first : ℕ) → first % 64 ≡ 0 → 0 < width → width ≤ 64 → TookIn s row row block width first (bit_and (get_or row (first / 64) 0) ((2 ^ 64 - 1) / 2 ^ (64 - width)))
+-- At the start.
+pub took_none : (s : ℕ) (row block : List ℕ) (width first : ℕ) → first % 64 ≡ 0 → 0 < width → width ≤ 64 →
+    TookIn s row row block width first (bit_and (get_or row (first / 64) 0) ((2 ^ 64 - 1) / 2 ^ (64 - width)))
 took_none s row block width first aligned some narrow =
     let word = get_or row (first / 64) 0 in
     let mask = λ (m : ℕ). masked_bit word width m some narrow in
@@ -61,19 +68,22 @@ took_none s row block width first aligned some narrow =
           word_bit first m row aligned (omega arith) ∙ eq-eqb _ 1 (least_one (bit_at word m) (bit_at (2 ^ width - 1) m) (bit_at-lt word m) (sym (mask m) ∙ is));
     }
 
--- the bits that are left once row k was taken in, and with it all that its own bits name
+-- The bits that are left once row k was taken in, and with it all that its own bits name.
 abbrev pub bits_left : ℕ → ℕ → ℕ → ℕ
 bits_left bits word k = bit_and bits (bit_not w64 (bit_or word (1 * 2 ^ k % 2 ^ 64)))
 
-bit_at_left : (bits word k m : ℕ) → k < 64 → word < 2 ^ 64 → m < 64 → bit_at (bits_left bits word k) m ≡ min (bit_at bits m) (1 - max (bit_at word m) (bit_at (2 ^ k) m))
+-- A bit is left where it was, and neither the word nor bit k has it.
+pub bit_at_left : (bits word k m : ℕ) → k < 64 → word < 2 ^ 64 → m < 64 →
+    bit_at (bits_left bits word k) m ≡ min (bit_at bits m) (1 - max (bit_at word m) (bit_at (2 ^ k) m))
 bit_at_left bits word k m below fits in_word =
     let one = one_shl k 64 below in
     let two = pow_below k 64 below in
     bit_at_and bits (bit_not w64 (bit_or word (1 * 2 ^ k % 2 ^ 64))) m
-    ∙ ap (min (bit_at bits m)) (bit_at_not w64 (bit_or word (1 * 2 ^ k % 2 ^ 64)) m (or_lt 64 word (1 * 2 ^ k % 2 ^ 64) fits (subst (λ n. n < 2 ^ 64) (sym one) two)) in_word)
+    ∙ ap (min (bit_at bits m)) (bit_at_not w64 (bit_or word (1 * 2 ^ k % 2 ^ 64)) m
+    (or_lt 64 word (1 * 2 ^ k % 2 ^ 64) fits (subst (λ n. n < 2 ^ 64) (sym one) two)) in_word)
     ∙ ap (λ b. min (bit_at bits m) (1 - b)) (bit_at_or word (1 * 2 ^ k % 2 ^ 64) m ∙ ap (λ n. max (bit_at word m) (bit_at n m)) one)
 
--- they are fewer
+-- They are fewer.
 pub bits_left_less : (bits word k : ℕ) → k < 64 → word < 2 ^ 64 → bit_at bits k ≡ 1 → bits_left bits word k < bits
 bits_left_less bits word k below fits set =
     let most = and_le_l bits (bit_not w64 (bit_or word (1 * 2 ^ k % 2 ^ 64))) in
@@ -86,14 +96,17 @@ bits_left_less bits word k below fits set =
       | inr less ↦ omega arith
     ]
 
--- and were there before
+-- And were there before.
 pub bits_left_before : (bits word k m : ℕ) → bit_at (bits_left bits word k) m ≡ 1 → bit_at bits m ≡ 1
 bits_left_before bits word k m is =
     let rest = bit_not w64 (bit_or word (1 * 2 ^ k % 2 ^ 64)) in
     least_one (bit_at bits m) (bit_at rest m) (bit_at-lt bits m) (sym (bit_at_and bits rest m) ∙ is)
 
--- one row more
-pub took_more : (s : ℕ) (row now block : List ℕ) (width first k bits : ℕ) → TookIn s row now block width first bits → IsClosedBlock s block width first → first % 64 ≡ 0 → width ≤ 64 → k < width → bit_at bits k ≡ 1 → length now ≡ length (row_words s block k) → get_or (row_words s block k) (first / 64) 0 < 2 ^ 64 → TookIn s row (zip2 bit_or now (row_words s block k)) block width first (bits_left bits (get_or (row_words s block k) (first / 64) 0) k)
+-- One row more.
+pub took_more : (s : ℕ) (row now block : List ℕ) (width first k bits : ℕ) → TookIn s row now block width first bits → IsClosedBlock s block width first →
+    first % 64 ≡ 0 → width ≤ 64 → k < width → bit_at bits k ≡ 1 → length now ≡ length (row_words s block k) →
+    get_or (row_words s block k) (first / 64) 0 < 2 ^ 64 → TookIn s row (zip2 bit_or now (row_words s block k)) block width first
+    (bits_left bits (get_or (row_words s block k) (first / 64) 0) k)
 unfolding cell_at
 took_more s row now block width first k bits took closed aligned narrow below_width set long fits =
     let other = row_words s block k in
@@ -108,11 +121,13 @@ took_more s row now block width first k bits took closed aligned narrow below_wi
       keeps = λ j is. united j ∙ or_left (bit_at_word now j) (bit_at_word other j) (took.keeps j is);
       gained = λ m below is. elim (took.gained m below is) [
         | inl waits ↦ elim (cases_eq m k) [
-          | inl this ↦ inr (λ j cell. united j ∙ or_right (bit_at_word now j) (bit_at_word other j) (subst (λ p. IsTrue (bit_at_word (row_words s block p) j)) this cell))
+          | inl this ↦ inr (λ j cell. united j ∙ or_right (bit_at_word now j) (bit_at_word other j)
+              (subst (λ p. IsTrue (bit_at_word (row_words s block p) j)) this cell))
           | inr another ↦ elim (cases_Bool (bit_at_word other (first + m))) [
             | inl named ↦ inr (λ j cell. united j ∙ or_right (bit_at_word now j) (bit_at_word other j) (closed k m j below_width below named cell))
             | inr unnamed ↦
-                let none : bit_at word m ≡ 0 = let apart = eqb-false (bit_at word m) 1 (sym (word_bit first m other aligned (omega arith)) ∙ unnamed) in let two = bit_at-lt word m in omega arith in
+                let none : bit_at word m ≡ 0 = let apart = eqb-false (bit_at word m) 1 (sym (word_bit first m other aligned (omega arith)) ∙ unnamed) in
+                let two = bit_at-lt word m in omega arith in
                 let other_bit = bit_at-pow_other k m another in
                 let stays = left_bit m (omega arith) in
                 inl (omega arith)
@@ -123,8 +138,9 @@ took_more s row now block width first k bits took closed aligned narrow below_wi
       had = λ m is. took.had m (bits_left_before bits word k m is);
     }
 
--- at the end no bit is left
-pub took_all : (s : ℕ) (row now block : List ℕ) (width first bits : ℕ) → bits ≡ 0 → TookIn s row now block width first bits → (j : ℕ) → IsTrue (bit_at_word now j) ↔ TakesIn s row block width first j
+-- At the end no bit is left.
+pub took_all : (s : ℕ) (row now block : List ℕ) (width first bits : ℕ) → bits ≡ 0 → TookIn s row now block width first bits → (j : ℕ) →
+    IsTrue (bit_at_word now j) ↔ TakesIn s row block width first j
 took_all s row now block width first bits none took j = (
   took.sound j,
   λ takes. elim takes [
@@ -136,23 +152,27 @@ took_all s row now block width first bits none took j = (
   ],
 )
 
--- the empty row takes in nothing
+-- The empty row takes in nothing.
 pub takes_in_nil : (s : ℕ) (block : List ℕ) (width first j : ℕ) → IsTrue (bit_at_word [] j) ↔ TakesIn s [] block width first j
 takes_in_nil s block width first j =
     let clear : (i : ℕ) → bit_at_word [] i ≡ false = λ i. bit_at_word-past [] i (omega arith) in
     (λ is. inl is, λ takes. elim takes [ inl own ↦ own | inr through ↦ absurd (false≢true (sym (clear (first + through.0)) ∙ through.2)) ])
 
--- a word of a row is a word of the block
+-- A word of a row is a word of the block.
 pub row_word_fits : (s k m : ℕ) (block : List ℕ) → ((i : ℕ) → Fits w64 (get_or block i 0)) → get_or (row_words s block k) m 0 < 2 ^ 64
 unfolding row_words
 row_word_fits s k m block fits =
     elim (cases_lt m s) [
-      | inl within ↦ let same = get_or-take s (drop (k * s) block) m 0 within ∙ get_or-drop (k * s) block m 0 in subst (λ w. w < 2 ^ 64) (sym same) (fits (k * s + m)).fits
-      | inr past ↦ let none = get_or_past (take s (drop (k * s) block)) m 0 (omega (arith, length-take s (drop (k * s) block))) in subst (λ w. w < 2 ^ 64) (sym none) (lit< tt)
+      | inl within ↦ let same = get_or-take s (drop (k * s) block) m 0 within ∙ get_or-drop (k * s) block m 0 in
+          subst (λ w. w < 2 ^ 64) (sym same) (fits (k * s + m)).fits
+      | inr past ↦ let none = get_or_past (take s (drop (k * s) block)) m 0 (omega (arith, length-take s (drop (k * s) block))) in
+          subst (λ w. w < 2 ^ 64) (sym none) (lit< tt)
     ]
 
--- what a row took in, at the length and the row that it was lent as
-pub took_row : (s t : ℕ) (lent row now block : List ℕ) (width first : ℕ) → t ≡ s → lent ≡ row → (IsClosedBlock t block width first → (j : ℕ) → IsTrue (bit_at_word now j) ↔ TakesIn t lent block width first j) → IsClosedBlock s block width first → (j : ℕ) → IsTrue (bit_at_word now j) ↔ TakesIn s row block width first j
+-- What a row took in, at the length and the row that it was lent as.
+pub took_row : (s t : ℕ) (lent row now block : List ℕ) (width first : ℕ) → t ≡ s → lent ≡ row →
+    (IsClosedBlock t block width first → (j : ℕ) → IsTrue (bit_at_word now j) ↔ TakesIn t lent block width first j) → IsClosedBlock s block width first →
+    (j : ℕ) → IsTrue (bit_at_word now j) ↔ TakesIn s row block width first j
 took_row s t lent row now block width first same is took =
     subst (λ r. IsClosedBlock s block width first → (j : ℕ) → IsTrue (bit_at_word now j) ↔ TakesIn s r block width first j) is
     (subst (λ n. IsClosedBlock n block width first → (j : ℕ) → IsTrue (bit_at_word now j) ↔ TakesIn n lent block width first j) same took)

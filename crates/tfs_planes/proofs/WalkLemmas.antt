@@ -1,43 +1,46 @@
 -- Laws of walks whose inner numbers are below a bound, which the closure takes from 0 up to the size.
-use Rattle.std.proofs.Common.{ℕ, ◌+◌, ◌<◌, ◌≤◌, suc, zero, ◌⊎◌, inl, inr, List, [], ◌∷◌, ◌++◌, length, get_or, sym, subst, add-one, arith}
+use Rattle.std.proofs.Common.{◌↔◌, ℕ, ◌+◌, ◌<◌, ◌≤◌, suc, zero, ◌⊎◌, inl, inr, List, [], ◌∷◌, ◌++◌, length, get_or, sym, subst, add-one, arith}
 use Rattle.std.proofs.lemmas.Bool.{cases_eq, cases_lt}
 use Rattle.std.proofs.lemmas.List.{length-append}
 use Rattle.tfs_planes.specs.Rounds.{Chain, EachBelow, JoinsBelow}
 use Rattle.tfs_planes.specs.Walk.{Joins}
 
--- a higher bound holds too
+-- A higher bound holds too.
 each_below_more : (k h : ℕ) (ms : List ℕ) → k ≤ h → EachBelow k ms → EachBelow h ms
 each_below_more k h [] le below = tt
 each_below_more k h (m ∷ ms) le below = (omega (arith, below.0), each_below_more k h ms le below.1)
 
--- two chains with m between them
+-- Two chains with m between them.
 chain_append : (R : ℕ → ℕ → Type 0) (i m j : ℕ) (ms ns : List ℕ) → Chain R i ms m → Chain R m ns j → Chain R i (ms ++ m ∷ ns) j
 chain_append R i m j [] ns first second = (first, second)
 chain_append R i m j (x ∷ ms) ns first second = (first.0, chain_append R x m j ms ns first.1 second)
 
+-- Each number of two lists and of the one between them is below the bound.
 each_below_append : (k m : ℕ) (ms ns : List ℕ) → EachBelow k ms → m < k → EachBelow k ns → EachBelow k (ms ++ m ∷ ns)
 each_below_append k m [] ns first here second = (here, second)
 each_below_append k m (x ∷ ms) ns first here second = (first.0, each_below_append k m ms ns first.1 here second)
 
--- no inner number is below 0
+-- No inner number is below 0.
 pub joins_below_zero : (R : ℕ → ℕ → Type 0) (i j : ℕ) → JoinsBelow R 0 i j → R i j
 joins_below_zero R i j ([], chain, below) = chain
 joins_below_zero R i j (m ∷ ms, chain, below) = absurd (omega (arith, below.0))
 
+-- One pair is a walk below each bound.
 pub joins_below_one_pair : (R : ℕ → ℕ → Type 0) (k i j : ℕ) → R i j → JoinsBelow R k i j
 joins_below_one_pair R k i j pair = ([], pair, tt)
 
--- a higher bound leaves the walk
+-- A higher bound leaves the walk.
 pub joins_below_more : (R : ℕ → ℕ → Type 0) (k h i j : ℕ) → k ≤ h → JoinsBelow R k i j → JoinsBelow R h i j
 joins_below_more R k h i j le walk = (walk.0, walk.1, each_below_more k h walk.0 le walk.2)
 
--- a walk to m and one from m are one walk, where m is below the bound
+-- A walk to m and one from m are one walk, where m is below the bound.
 pub joins_below_through : (R : ℕ → ℕ → Type 0) (k m i j : ℕ) → m < k → JoinsBelow R k i m → JoinsBelow R k m j → JoinsBelow R k i j
 joins_below_through R k m i j here first second =
     (first.0 ++ m ∷ second.0, chain_append R i m j first.0 second.0 first.1 second.1, each_below_append k m first.0 second.0 first.2 here second.2)
 
--- with k allowed, a walk avoids k or passes through it: up to its first k, and from its last
-pub joins_below_cases : (R : ℕ → ℕ → Type 0) (k i j : ℕ) (ms : List ℕ) → Chain R i ms j → EachBelow (k + 1) ms → JoinsBelow R k i j ⊎ (JoinsBelow R k i k × JoinsBelow R k k j)
+-- With k allowed, a walk avoids k or passes through it: up to its first k, and from its last.
+pub joins_below_cases : (R : ℕ → ℕ → Type 0) (k i j : ℕ) (ms : List ℕ) → Chain R i ms j → EachBelow (k + 1) ms →
+    JoinsBelow R k i j ⊎ (JoinsBelow R k i k × JoinsBelow R k k j)
 joins_below_cases R k i j [] chain below = inl ([], chain, tt)
 joins_below_cases R k i j (m ∷ ms) chain below =
     elim (cases_eq m k) [
@@ -51,8 +54,9 @@ joins_below_cases R k i j (m ∷ ms) chain below =
       ]
     ]
 
--- with the numbers from low to high allowed, a walk avoids them or comes to one of them first
-pub joins_below_first : (R : ℕ → ℕ → Type 0) (low high i j : ℕ) (ms : List ℕ) → Chain R i ms j → EachBelow high ms → JoinsBelow R low i j ⊎ ((m : ℕ) × (low ≤ m) × (m < high) × JoinsBelow R low i m × JoinsBelow R high m j)
+-- With the numbers from low to high allowed, a walk avoids them or comes to one of them first.
+pub joins_below_first : (R : ℕ → ℕ → Type 0) (low high i j : ℕ) (ms : List ℕ) → Chain R i ms j → EachBelow high ms →
+    JoinsBelow R low i j ⊎ ((m : ℕ) × (low ≤ m) × (m < high) × JoinsBelow R low i m × JoinsBelow R high m j)
 joins_below_first R low high i j [] chain below = inl ([], chain, tt)
 joins_below_first R low high i j (m ∷ ms) chain below =
     elim (cases_lt m low) [
@@ -63,19 +67,21 @@ joins_below_first R low high i j (m ∷ ms) chain below =
       | inr over ↦ inr (m, over, below.0, ([], chain.0, tt), (ms, chain.1, below.1))
     ]
 
--- a chain is a walk
-steps_of_chain : (R : ℕ → ℕ → Type 0) (i j : ℕ) (ms : List ℕ) → Chain R i ms j → (k : ℕ) → suc k < length (i ∷ ms ++ j ∷ []) → R (get_or (i ∷ ms ++ j ∷ []) k 0) (get_or (i ∷ ms ++ j ∷ []) (suc k) 0)
+-- A chain is a walk.
+steps_of_chain : (R : ℕ → ℕ → Type 0) (i j : ℕ) (ms : List ℕ) → Chain R i ms j → (k : ℕ) → suc k < length (i ∷ ms ++ j ∷ []) →
+    R (get_or (i ∷ ms ++ j ∷ []) k 0) (get_or (i ∷ ms ++ j ∷ []) (suc k) 0)
 steps_of_chain R i j [] chain zero h = chain
 steps_of_chain R i j [] chain (suc k) h = absurd (omega arith)
 steps_of_chain R i j (m ∷ ms) chain zero h = chain.0
 steps_of_chain R i j (m ∷ ms) chain (suc k) h = steps_of_chain R m j ms chain.1 k (omega arith)
 
--- and a walk is a chain
-chain_of_steps : (R : ℕ → ℕ → Type 0) (i j : ℕ) (ms : List ℕ) → ((k : ℕ) → suc k < length (i ∷ ms ++ j ∷ []) → R (get_or (i ∷ ms ++ j ∷ []) k 0) (get_or (i ∷ ms ++ j ∷ []) (suc k) 0)) → Chain R i ms j
+-- And a walk is a chain.
+chain_of_steps : (R : ℕ → ℕ → Type 0) (i j : ℕ) (ms : List ℕ) → ((k : ℕ) → suc k < length (i ∷ ms ++ j ∷ []) →
+    R (get_or (i ∷ ms ++ j ∷ []) k 0) (get_or (i ∷ ms ++ j ∷ []) (suc k) 0)) → Chain R i ms j
 chain_of_steps R i j [] steps = steps 0 (omega arith)
 chain_of_steps R i j (m ∷ ms) steps = (steps 0 (omega (arith, length-append ms (j ∷ []))), chain_of_steps R m j ms (λ k h. steps (suc k) (omega arith)))
 
--- a chain joins its ends
+-- A chain joins its ends.
 pub joins_of_chain : (R : ℕ → ℕ → Type 0) (i j : ℕ) (ms : List ℕ) → Chain R i ms j → Joins R i j
 joins_of_chain R i j ms chain =
     let whole : List ℕ = i ∷ ms ++ j ∷ [] in (
@@ -86,44 +92,74 @@ joins_of_chain R i j ms chain =
       ),
     )
 
--- and numbers that are joined are the ends of a chain
+-- And numbers that are joined are the ends of a chain.
 pub chain_of_joins : (R : ℕ → ℕ → Type 0) (i j : ℕ) → Joins R i j → (ms : List ℕ) × Chain R i ms j
 chain_of_joins R i j walk =
     let whole : List ℕ = i ∷ walk.0 ++ j ∷ [] in
     (walk.0, chain_of_steps R i j walk.0 (λ p h. subst (λ q. R (get_or whole p 0) (get_or whole q 0)) (add-one p) (walk.1.1 p (omega arith))))
 
--- a walk whose inner numbers are below some bound is a walk
+-- A walk whose inner numbers are below some bound is a walk.
 pub joins_from_below : (R : ℕ → ℕ → Type 0) (k i j : ℕ) → JoinsBelow R k i j → Joins R i j
 joins_from_below R k i j walk = joins_of_chain R i j walk.0 walk.1
 
--- each inner number of a walk is one that is related to another
+-- Each inner number of a walk is one that is related to another.
 each_below_of_chain : (R : ℕ → ℕ → Type 0) (n i j : ℕ) (ms : List ℕ) → ((a b : ℕ) → R a b → a < n) → Chain R i ms j → EachBelow n ms
 each_below_of_chain R n i j [] within chain = tt
 each_below_of_chain R n i j (m ∷ []) within chain = (within m j chain.1, tt)
 each_below_of_chain R n i j (m ∷ x ∷ ms) within chain = (within m x chain.1.0, each_below_of_chain R n m j (x ∷ ms) within chain.1)
 
--- over a relation between numbers below n, each walk has its inner numbers below n
+-- Over a relation between numbers below n, each walk has its inner numbers below n.
 pub joins_below_from_joins : (R : ℕ → ℕ → Type 0) (n i j : ℕ) → ((a b : ℕ) → R a b → a < n) → Joins R i j → JoinsBelow R n i j
 joins_below_from_joins R n i j within walk =
     let chain = chain_of_joins R i j walk in
     (chain.0, chain.1, each_below_of_chain R n i j chain.0 within chain.1)
 
--- a walk ends with a number to which one is related
+-- A walk ends with a number to which one is related.
 pub end_of_chain : (R : ℕ → ℕ → Type 0) (i j : ℕ) (ms : List ℕ) → Chain R i ms j → (m : ℕ) × R m j
 end_of_chain R i j [] chain = (i, chain)
 end_of_chain R i j (m ∷ ms) chain = end_of_chain R m j ms chain.1
 
--- one pair joins its numbers
+-- A walk begins with a number that is related to one.
+pub start_of_joins : (R : ℕ → ℕ → Type 0) (i j : ℕ) → Joins R i j → (m : ℕ) × R i m
+start_of_joins R i j walk = let chain = chain_of_joins R i j walk in start_of_chain R i j chain.0 chain.1
+  where
+    start_of_chain : (R : ℕ → ℕ → Type 0) (i j : ℕ) (ms : List ℕ) → Chain R i ms j → (m : ℕ) × R i m
+    start_of_chain R i j [] chain = (j, chain)
+    start_of_chain R i j (m ∷ ms) chain = (m, chain.0)
+
+-- One pair joins its numbers.
 pub joins_pair : (R : ℕ → ℕ → Type 0) (i j : ℕ) → R i j → Joins R i j
 joins_pair R i j pair = joins_of_chain R i j [] pair
 
--- a walk goes on over one pair more
+-- A walk goes on over one pair more.
 pub joins_on : (R : ℕ → ℕ → Type 0) (i m j : ℕ) → Joins R i m → R m j → Joins R i j
 joins_on R i m j walk pair =
     let chain = chain_of_joins R i m walk in
     joins_of_chain R i j (chain.0 ++ m ∷ []) (chain_append R i m j chain.0 [] chain.1 pair)
 
--- what holds of the start, and of b wherever it holds of a and (a, b) is a pair, holds of each number that a walk leads to
-pub end_by_steps : (R : ℕ → ℕ → Type 0) (P Q : ℕ → Type 0) → ((a b : ℕ) → P a → R a b → Q b) → ((b : ℕ) → Q b → P b) → (i j : ℕ) (ms : List ℕ) → P i → Chain R i ms j → Q j
+-- Two walks are one.
+pub joins_trans : (R : ℕ → ℕ → Type 0) (i m j : ℕ) → Joins R i m → Joins R m j → Joins R i j
+joins_trans R i m j first second =
+    let front = chain_of_joins R i m first in
+    let back = chain_of_joins R m j second in
+    joins_of_chain R i j (front.0 ++ m ∷ back.0) (chain_append R i m j front.0 back.0 front.1 back.1)
+
+-- A chain of walks is a walk.
+joins_of_walks : (R S : ℕ → ℕ → Type 0) → ((a b : ℕ) → S a b → Joins R a b) → (i j : ℕ) (ms : List ℕ) → Chain S i ms j → Joins R i j
+joins_of_walks R S within i j [] chain = within i j chain
+joins_of_walks R S within i j (m ∷ ms) chain = joins_trans R i m j (within i m chain.0) (joins_of_walks R S within m j ms chain.1)
+
+-- Walks over one relation are walks over another that has its pairs.
+pub joins_map : (R S : ℕ → ℕ → Type 0) → ((a b : ℕ) → R a b → S a b) → (i j : ℕ) → Joins R i j → Joins S i j
+joins_map R S f i j walk = (walk.0, (walk.1.0, λ k h. f _ _ (walk.1.1 k h)))
+
+-- A relation that lies between another and its closure has the same closure.
+pub joins_between : (R S : ℕ → ℕ → Type 0) → ((a b : ℕ) → R a b → S a b) → ((a b : ℕ) → S a b → Joins R a b) → (i j : ℕ) → Joins S i j ↔ Joins R i j
+joins_between R S grown within i j =
+    (λ walk. let chain = chain_of_joins S i j walk in joins_of_walks R S within i j chain.0 chain.1, λ walk. joins_map R S grown i j walk)
+
+-- What holds of the start, and of b wherever it holds of a and (a, b) is a pair, holds of each number that a walk leads to.
+pub end_by_steps : (R : ℕ → ℕ → Type 0) (P Q : ℕ → Type 0) → ((a b : ℕ) → P a → R a b → Q b) → ((b : ℕ) → Q b → P b) → (i j : ℕ) (ms : List ℕ) → P i →
+    Chain R i ms j → Q j
 end_by_steps R P Q step goes_on i j [] start chain = step i j start chain
 end_by_steps R P Q step goes_on i j (m ∷ ms) start chain = end_by_steps R P Q step goes_on m j ms (goes_on m (step i m start chain.0)) chain.1

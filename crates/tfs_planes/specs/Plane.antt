@@ -5,30 +5,29 @@ use Rattle.std.specs.List.{flat_map, range_with_len}
 use Rattle.std.specs.Simd.Lanes.{zip2}
 use Rattle.tfs_planes.specs.Relation.{Relation}
 use Rattle.tfs_planes.specs.Row.{bit_at_word, members_of, row_length, IsClearFrom}
-use Rattle.tfs_planes.specs.declared.TheConstants.{MAX}
 
--- row i, where each row has `length` words
+-- Row i, where each row has `length` words.
 unfoldable pub row_words : ℕ → List ℕ → ℕ → List ℕ
 row_words length words i = take length (drop (i * length) words)
 
--- whether bit j of row i is set
+-- Whether bit j of row i is set.
 unfoldable pub cell_at : ℕ → List ℕ → ℕ → ℕ → Bool
 cell_at length words i j = bit_at_word (row_words length words i) j
 
--- a row after it was united with another, where its bit k is set, and else as it was
+-- A row after it was united with another, where its bit k is set, and else as it was.
 unfoldable pub row_through : List ℕ → ℕ → List ℕ → List ℕ
 row_through other k row = if bit_at_word row k then zip2 bit_or row other else row
 
--- the pairs (i, j) of numbers below n where bit j of row i is set
+-- The pairs (i, j) of numbers below n where bit j of row i is set.
 unfoldable pub pairs_of : ℕ → List ℕ → List (ℕ × ℕ)
 pairs_of n words = flat_map (λ i. map (λ j. (i, j)) (members_of n (row_words (row_length n) words i))) (range_with_len 0 n)
 
--- what holds of the size of a plane and its words: a row for each number below the size, and no bit past it
+-- What holds of the size of a plane and its words: a row for each number below the size, and no bit past it.
 pub record IsPlane (n : ℕ) (len : ℕ) (words : List ℕ) : Type 0 where
-  pub within : n ≤ MAX
+  pub within : n ≤ 4096
   pub long : len ≡ n * row_length n
   pub clear : (i : ℕ) → IsClearFrom n (row_words (row_length n) words i)
 
--- the relation that a plane's words hold
+-- The relation that a plane's words hold.
 abbrev pub relation_of : ℕ → List ℕ → Relation
 relation_of n words = record { size = n; pairs = from_list (pairs_of n words) }

@@ -1,16 +1,17 @@
 //! Single bits of a list of words.
-ghost use Rattle.std.specs.Prelude.{◌≡◌, ℕ, ◌+◌, ◌*◌, ◌/◌, ◌<◌, ◌≤◌, ◌||◌, ◌==◌, ◌^◌, length, count_by, IfOk};
+ghost use Rattle.std.specs.Prelude.{◌≡◌, ℕ, ◌+◌, ◌*◌, ◌/◌, ◌<◌, ◌≤◌, ◌||◌, ◌==◌, ◌^◌, ◌↔◌, true, false, length, count_by, replicate};
+ghost use Rattle.std.specs.Prelude.{IfOk, IfSome, IfNone, IsTrue};
+ghost use Rattle.std.specs.Int.{bit_at};
 ghost use Rattle.std.specs.List.{range_with_len};
 ghost use Rattle.tfs_planes.specs.Row.{bit_at_word, members_of, row_length};
-ghost use Rattle.tfs_planes.specs.declared.TheConstants.{MAX};
 
-use crate::kernels::count_words;
-use std::alloc::{AllocError, Global};
+use crate::kernels::{LANES, count_words, covers_lanes};
+use std::alloc::{AllocError, Allocator};
 
 /// How many words a row of `size` bits takes.
 #[inline(always)]
 pub(crate) fn row_length(size: usize) -> usize
-    requires { size ≤ MAX }
+    requires { size ≤ 4096 }
     ensures { result ≡ row_length size }
 {
     size.div_ceil(512) * 8
@@ -34,6 +35,88 @@ pub(crate) fn set_bit(words: &mut [u64], i: usize)
     words[i / 64] |= 1 << (i % 64);
 }
 
+/// Clears bit `i`.
+#[inline(always)]
+pub(crate) fn clear_bit(words: &mut [u64], i: usize)
+    requires { i < 64 * length words.old }
+{
+    words[i / 64] &= !(1 << (i % 64));
+}
+
+/// The highest bit of a word that isn't 0.
+#[inline(always)]
+pub(crate) fn highest_bit(word: u64) -> usize
+    requires { 0 < word }
+    ensures below { result < 64 }
+    ensures set { bit_at word result ≡ 1 }
+{
+    63 - word.leading_zeros() as usize
+}
+
+/// A number from the words on from `from` that is in the words and not in the others.
+#[inline(always)]
+fn missing_singly(words: &[u64], others: &[u64], from: usize) -> Option<usize>
+    requires lengths { length words.now ≤ length others.now }
+    requires wide { length words.now ≤ 64 }
+    ensures { IfSome result (λ number. number < 64 * length words.now) }
+{
+    for at in from..words.len() {
+        let missing = words[at] & !others[at];
+        if missing != 0 {
+            return Some(at * 64 + highest_bit(missing));
+        }
+    }
+    None
+}
+
+/// The same, with a look at a lane block at a time.
+#[inline(always)]
+pub(crate) fn missing(words: &[u64], others: &[u64], from: usize) -> Option<usize>
+    requires lengths { length words.now ≤ length others.now }
+    requires wide { length words.now ≤ 64 }
+    ensures { IfSome result (λ number. number < 64 * length words.now) }
+{
+    for block in from / LANES..words.len() / LANES {
+        if !covers_lanes(words, others, block * LANES) {
+            return missing_singly(words, others, from.max(block * LANES));
+        }
+    }
+    None
+}
+
+/// The bits of one word that stand for numbers from `from` on. The word isn't before that of `from`.
+#[inline(always)]
+fn bits_from(words: &[u64], from: usize, at: usize) -> u64
+    requires word { at < length words.now }
+    requires reached { from / 64 ≤ at }
+    ensures { (k : ℕ) → k < 64 → (bit_at result k ≡ 1)
+        ↔ ((from ≤ 64 * at + k) × IsTrue (bit_at_word words.now (64 * at + k))) }
+{
+    if at == from / 64 {
+        words[at] & u64::MAX << (from % 64)
+    } else {
+        words[at]
+    }
+}
+
+/// The first number from `from` on whose bit is set.
+pub(crate) fn next_bit(words: &[u64], from: usize) -> Option<usize>
+    requires { length words.now ≤ 64 }
+    ensures member { IfSome result (λ i. bit_at_word words.now i ≡ true) }
+    ensures reached { IfSome result (λ i. from ≤ i) }
+    ensures first { IfSome result (λ i. (k : ℕ)
+        → from ≤ k → k < i → bit_at_word words.now k ≡ false) }
+    ensures none { IfNone result ((k : ℕ) → from ≤ k → bit_at_word words.now k ≡ false) }
+{
+    for at in from / 64..words.len() {
+        let bits = bits_from(words, from, at);
+        if bits != 0 {
+            return Some(64 * at + bits.trailing_zeros() as usize);
+        }
+    }
+    None
+}
+
 /// How many bits are set.
 pub(crate) fn count_bits(words: &[u64]) -> u64
     requires { length words.now < 2 ^ 58 }
@@ -42,12 +125,19 @@ pub(crate) fn count_bits(words: &[u64]) -> u64
     count_words(words)
 }
 
+/// So many words, each of them 0.
+pub(crate) fn zeros<A: Allocator>(alloc: A, count: usize) -> Result<Vec<u64, A>, AllocError>
+    ensures { IfOk result (λ words. words.items ≡ replicate count 0) }
+{
+    vec![in alloc; 0; count]
+}
+
 /// The numbers below `size` whose bit is set, rising.
-pub(crate) fn members_of(
-    alloc: Global,
+pub(crate) fn members_of<A: Allocator>(
+    alloc: A,
     words: &[u64],
     size: usize,
-) -> Result<Vec<usize>, AllocError>
+) -> Result<Vec<usize, A>, AllocError>
     requires { size ≤ 64 * length words.now }
     ensures { IfOk result (λ numbers. numbers.items ≡ members_of size words.now) }
 {

@@ -4,14 +4,21 @@
 ghost use Rattle.std.specs.Prelude.{◌≡◌, ℕ, ◌+◌, ◌*◌, ◌%◌, ◌^◌, ◌<◌, ◌≤◌, ◌==◌, ◌↔◌, Bool, false, IsTrue, length};
 ghost use Rattle.tfs_planes.specs.Plane.{row_words, cell_at, row_through};
 ghost use Rattle.tfs_planes.specs.Rounds.{AllJoins, BlockJoins, IsClosedBlock, TakesIn};
-ghost use Rattle.tfs_planes.specs.Walk.{Joins};
+ghost use Rattle.tfs_planes.specs.Targets.{IsBetween, IsClosure};
 ghost use Rattle.tfs_planes.specs.Row.{bit_at_word};
 
+use crate::MAX;
 use crate::bits::bit;
 use crate::cells::row_at;
 use crate::kernels::union_words;
+use crate::order::Order;
+use crate::placing::close_in_order;
 
+/// How many rows a block has.
 const BLOCK: usize = 64;
+
+/// Up to so many rows a small order serves, which stays in the cache beside them.
+const FEW: usize = 512;
 
 /// Unites a row with another where its bit `column` is set.
 #[inline(always)]
@@ -144,16 +151,62 @@ fn advance(words: &mut [u64], count: usize, stride: usize, first: usize, width: 
     take_in_each(after, count - first - width, block, width, stride, first);
 }
 
-/// Makes the bit (i, j) of `count` rows set exactly where a walk of bits that were set leads from i
-/// to j.
-pub(crate) fn close_rows(words: &mut [u64], count: usize, stride: usize)
+/// Closes the rows by blocks.
+fn close_by_blocks(words: &mut [u64], count: usize, stride: usize)
     requires lengths { length words.old ≡ count * stride }
     requires columns { count ≤ 64 * stride }
-    ensures { (i j : ℕ) → IsTrue (cell_at stride words.new i j)
-        ↔ Joins (λ a b. IsTrue (cell_at stride words.old a b)) i j }
+    ensures { IsClosure stride words.old words.new }
 {
     for block in 0..count.div_ceil(BLOCK) {
         let first = block * BLOCK;
         advance(words, count, stride, first, BLOCK.min(count - first));
+    }
+}
+
+/// Closes few rows in an order, if there is one, and tells whether they are closed then.
+fn close_few(words: &mut [u64], count: usize, stride: usize) -> bool
+    requires lengths { length words.old ≡ count * stride }
+    requires columns { count ≤ 64 * stride }
+    requires few { count ≤ FEW }
+    requires wide { stride ≤ 64 }
+    requires whole { stride % 8 ≡ 0 }
+    ensures between { IsBetween stride words.old words.new }
+    ensures closed { IsTrue result → IsClosure stride words.old words.new }
+{
+    let mut order = Order::<FEW>::new();
+    order.find(words, count, stride) && close_in_order(words, count, stride, &order)
+}
+
+/// The same for any number of rows.
+fn close_many(words: &mut [u64], count: usize, stride: usize) -> bool
+    requires lengths { length words.old ≡ count * stride }
+    requires columns { count ≤ 64 * stride }
+    requires small { count ≤ 4096 }
+    requires wide { stride ≤ 64 }
+    requires whole { stride % 8 ≡ 0 }
+    ensures between { IsBetween stride words.old words.new }
+    ensures closed { IsTrue result → IsClosure stride words.old words.new }
+{
+    let mut order = Order::<MAX>::new();
+    order.find(words, count, stride) && close_in_order(words, count, stride, &order)
+}
+
+/// Makes the bit (i, j) of `count` rows set exactly where a walk of bits that were set leads from i
+/// to j: in an order of the rows, or by blocks where there is none.
+pub(crate) fn close_rows(words: &mut [u64], count: usize, stride: usize)
+    requires lengths { length words.old ≡ count * stride }
+    requires columns { count ≤ 64 * stride }
+    requires small { count ≤ 4096 }
+    requires wide { stride ≤ 64 }
+    requires whole { stride % 8 ≡ 0 }
+    ensures { IsClosure stride words.old words.new }
+{
+    let closed = if count <= FEW {
+        close_few(words, count, stride)
+    } else {
+        close_many(words, count, stride)
+    };
+    if !closed {
+        close_by_blocks(words, count, stride);
     }
 }

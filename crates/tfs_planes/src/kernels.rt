@@ -1,11 +1,13 @@
 //! Work on lists of words: lanes of eight at a time, and one at a time for the rest.
-ghost use Rattle.std.specs.Prelude.{◌≡◌, ℕ, ◌+◌, ◌*◌, ◌%◌, ◌^◌, ◌<◌, ◌≤◌, ◌↔◌, length, sum_by, bit_and, bit_or, count_ones, IsTrue};
+ghost use Rattle.std.specs.Prelude.{◌≡◌, ℕ, ◌+◌, ◌*◌, ◌%◌, ◌^◌, ◌<◌, ◌≤◌, ◌↔◌, length, sum_by, bit_and, bit_or, count_ones, replicate, IsTrue};
 ghost use Rattle.std.specs.Simd.Lanes.{zip2, chunk, put_chunk};
 
 use std::simd::prelude::*;
 
-const LANES: usize = 8;
+/// How many words a lane block has.
+pub(crate) const LANES: usize = 8;
 
+/// Unites one lane block with the other list's.
 #[inline(always)]
 fn union_lanes(words: &mut [u64], others: &[u64], at: usize)
     requires words { at + LANES ≤ length words.old }
@@ -18,8 +20,9 @@ fn union_lanes(words: &mut [u64], others: &[u64], at: usize)
     both.copy_to_slice(&mut words[at..]);
 }
 
+/// The same as `union_words`, for whole lane blocks.
 #[inline(always)]
-fn union_blocks(words: &mut [u64], others: &[u64])
+pub(crate) fn union_blocks(words: &mut [u64], others: &[u64])
     requires whole { length words.old % LANES ≡ 0 }
     requires lengths { length words.old ≡ length others.now }
     ensures { words.new ≡ zip2 bit_or words.old others.now }
@@ -29,6 +32,7 @@ fn union_blocks(words: &mut [u64], others: &[u64])
     }
 }
 
+/// Unites the lists word by word.
 #[inline(always)]
 fn union_singly(words: &mut [u64], others: &[u64])
     requires { length words.old ≡ length others.now }
@@ -43,14 +47,15 @@ fn union_singly(words: &mut [u64], others: &[u64])
 /// equally long.
 #[inline(always)]
 pub fn union_words(words: &mut [u64], others: &[u64])
-    requires { length words.old ≡ length others.now }
-    ensures { words.new ≡ zip2 bit_or words.old others.now }
+    requires lengths { length words.old ≡ length others.now }
+    ensures union { words.new ≡ zip2 bit_or words.old others.now }
 {
     let whole = words.len() / LANES * LANES;
     union_blocks(&mut words[..whole], &others[..whole]);
     union_singly(&mut words[whole..], &others[whole..]);
 }
 
+/// Meets one lane block with the other list's.
 #[inline(always)]
 fn meet_lanes(words: &mut [u64], others: &[u64], at: usize)
     requires words { at + LANES ≤ length words.old }
@@ -63,6 +68,7 @@ fn meet_lanes(words: &mut [u64], others: &[u64], at: usize)
     both.copy_to_slice(&mut words[at..]);
 }
 
+/// The same as `meet_words`, for whole lane blocks.
 #[inline(always)]
 fn meet_blocks(words: &mut [u64], others: &[u64])
     requires whole { length words.old % LANES ≡ 0 }
@@ -74,6 +80,7 @@ fn meet_blocks(words: &mut [u64], others: &[u64])
     }
 }
 
+/// Meets the lists word by word.
 #[inline(always)]
 fn meet_singly(words: &mut [u64], others: &[u64])
     requires { length words.old ≡ length others.now }
@@ -88,14 +95,15 @@ fn meet_singly(words: &mut [u64], others: &[u64])
 /// equally long.
 #[inline(always)]
 pub fn meet_words(words: &mut [u64], others: &[u64])
-    requires { length words.old ≡ length others.now }
-    ensures { words.new ≡ zip2 bit_and words.old others.now }
+    requires lengths { length words.old ≡ length others.now }
+    ensures meet { words.new ≡ zip2 bit_and words.old others.now }
 {
     let whole = words.len() / LANES * LANES;
     meet_blocks(&mut words[..whole], &others[..whole]);
     meet_singly(&mut words[whole..], &others[whole..]);
 }
 
+/// How many bits of one lane block are set.
 #[inline(always)]
 fn count_lanes(words: &[u64], at: usize) -> u64
     requires { at + LANES ≤ length words.now }
@@ -106,6 +114,7 @@ fn count_lanes(words: &[u64], at: usize) -> u64
         .strict_reduce_sum()
 }
 
+/// The same as `count_words`, for whole lane blocks.
 #[inline(always)]
 fn count_blocks(words: &[u64]) -> u64
     requires whole { length words.now % LANES ≡ 0 }
@@ -119,6 +128,7 @@ fn count_blocks(words: &[u64]) -> u64
     count
 }
 
+/// The same as `count_words`, word by word.
 #[inline(always)]
 fn count_singly(words: &[u64]) -> u64
     requires { length words.now < 2 ^ 58 }
@@ -133,13 +143,14 @@ fn count_singly(words: &[u64]) -> u64
 
 /// How many bits of the words are set. The words are fewer than 2^58, so that the count fits.
 pub fn count_words(words: &[u64]) -> u64
-    requires { length words.now < 2 ^ 58 }
-    ensures { result ≡ sum_by count_ones words.now }
+    requires fits { length words.now < 2 ^ 58 }
+    ensures count { result ≡ sum_by count_ones words.now }
 {
     let whole = words.len() / LANES * LANES;
     count_blocks(&words[..whole]) + count_singly(&words[whole..])
 }
 
+/// Whether one lane block is equal to the other list's.
 #[inline(always)]
 fn equal_lanes(left: &[u64], right: &[u64], at: usize) -> bool
     requires left { at + LANES ≤ length left.now }
@@ -150,6 +161,7 @@ fn equal_lanes(left: &[u64], right: &[u64], at: usize) -> bool
     differ.to_bitmask() == 0
 }
 
+/// The same as `equal_words`, for whole lane blocks.
 #[inline(always)]
 fn equal_blocks(left: &[u64], right: &[u64]) -> bool
     requires whole { length left.now % LANES ≡ 0 }
@@ -164,10 +176,32 @@ fn equal_blocks(left: &[u64], right: &[u64]) -> bool
     true
 }
 
+/// Whether a lane block of the other list has each bit that the words have there.
+#[inline(always)]
+pub(crate) fn covers_lanes(words: &[u64], others: &[u64], at: usize) -> bool
+    requires words { at + LANES ≤ length words.now }
+    requires others { at + LANES ≤ length others.now }
+    ensures { IsTrue result
+        ↔ (zip2 bit_or (chunk at LANES words.now) (chunk at LANES others.now)
+        ≡ chunk at LANES others.now) }
+{
+    let other = u64x8::from_slice(&others[at..]);
+    let both = u64x8::from_slice(&words[at..]) | other;
+    both.simd_ne(other).to_bitmask() == 0
+}
+
+/// Makes each word 0.
+#[inline(always)]
+pub(crate) fn clear_words(words: &mut [u64])
+    ensures { words.new ≡ replicate (length words.old) 0 }
+{
+    words.fill(0);
+}
+
 /// Whether two lists of words, equally long, are equal.
 pub fn equal_words(left: &[u64], right: &[u64]) -> bool
-    requires { length left.now ≡ length right.now }
-    ensures { IsTrue result ↔ (left.now ≡ right.now) }
+    requires lengths { length left.now ≡ length right.now }
+    ensures equal { IsTrue result ↔ (left.now ≡ right.now) }
 {
     let whole = left.len() / LANES * LANES;
     equal_blocks(&left[..whole], &right[..whole]) && &left[whole..] == &right[whole..]

@@ -5,16 +5,24 @@
 pub use kernels::{count_words, equal_words, meet_words, union_words};
 pub use plane::Plane;
 pub use row::Row;
+pub use size::is_size;
 
 mod bits;
 mod cells;
 mod closure;
 mod kernels;
-pub mod plain;
+mod order;
+mod placing;
+#[cfg(test)]
+mod plain;
 mod plane;
 mod row;
+mod size;
 #[cfg(test)]
 mod tests;
 
-/// The largest size of a row or a plane.
+/// The largest size of a row or a plane, which `is_size` pins.
 pub const MAX: usize = 4096;
+
+/// How many words a row of the largest size takes.
+const WORDS: usize = 64;

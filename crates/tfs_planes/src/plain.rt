@@ -24,7 +24,7 @@ fn next_pair(left: &[(usize, usize)], found: &[usize], from: usize) -> Option<us
 
 /// The numbers to which a walk over the pairs leads from `from`, in the order in which they are
 /// found. A number may stand among them more than once.
-pub fn reached(
+pub(crate) fn reached(
     alloc: Global,
     pairs: &[(usize, usize)],
     from: usize,

@@ -1,13 +1,13 @@
 //! Planes: relations between the numbers below a size, one bit a pair.
-ghost use Rattle.std.specs.Prelude.{◌≡◌, ℕ, ◌<◌, ◌≤◌, ◌↔◌, IfOk};
+ghost use Rattle.std.specs.Prelude.{◌≡◌, ℕ, ◌<◌, ◌≤◌, ◌↔◌, ◌||◌, IfOk};
 ghost use Rattle.std.specs.FinSet as set;
 ghost use Rattle.tfs_planes.specs.Relation.{Relates};
 ghost use Rattle.tfs_planes.specs.Walk.{Joins};
-ghost use Rattle.tfs_planes.specs.declared.TheConstants.{MAX};
 
-use crate::bits::row_length;
+use crate::bits::{row_length, zeros};
 use crate::cells::{cell, row_at, set_cell};
 use crate::closure::close_rows;
+use crate::kernels::clear_words;
 use crate::row::Row;
 use std::alloc::{AllocError, Global};
 use std::marker::Model;
@@ -37,20 +37,28 @@ impl Plane {
     /// The relation between the numbers below `size` in which no number is related to any. Its one
     /// error is want of memory; it takes one bit for each pair, each row rounded up to 512.
     pub fn new(alloc: Global, size: usize) -> Result<Plane, AllocError>
-        requires { size ≤ MAX }
-        ensures { IfOk result (λ plane. plane ≡ record { size = size; pairs = set.empty }) }
+        requires small { size ≤ 4096 }
+        ensures empty { IfOk result (λ plane. plane ≡ record { size = size; pairs = set.empty }) }
     {
         Ok(Plane {
             size,
-            words: vec![in alloc; 0; size * row_length(size)]?,
+            words: zeros(alloc, size * row_length(size))?,
         })
+    }
+
+    /// The size: only numbers below it are related.
+    pub fn size(&self) -> usize
+        ensures size { result ≡ self.now.size }
+        ensures small { result ≤ 4096 }
+    {
+        self.size
     }
 
     /// Whether `i` is related to `j`.
     pub fn get(&self, i: usize, j: usize) -> bool
         requires row { i < self.now.size }
         requires column { j < self.now.size }
-        ensures { result ≡ set.contains self.now.pairs (i, j) }
+        ensures related { result ≡ set.contains self.now.pairs (i, j) }
     {
         cell(&self.words, row_length(self.size), i, j)
     }
@@ -59,9 +67,16 @@ impl Plane {
     pub fn set(&mut self, i: usize, j: usize)
         requires row { i < self.old.size }
         requires column { j < self.old.size }
-        ensures { self.new ≡ record self.old { pairs = set.insert self.old.pairs (i, j) } }
+        ensures inserted { self.new ≡ record self.old { pairs = set.insert self.old.pairs (i, j) } }
     {
         set_cell(&mut self.words, row_length(self.size), i, j);
+    }
+
+    /// Relates no number to any.
+    pub fn clear(&mut self)
+        ensures empty { self.new ≡ record self.old { pairs = set.empty } }
+    {
+        clear_words(&mut self.words);
     }
 
     /// Makes a row of this size the set of the numbers to which `i` is related.
@@ -73,6 +88,17 @@ impl Plane {
             → set.contains row.new.members j ≡ set.contains self.now.pairs (i, j) }
     {
         row.copy_words(row_at(&self.words, row_length(self.size), i));
+    }
+
+    /// Adds to a row of this size the numbers to which `i` is related.
+    pub fn union_row_into(&self, i: usize, row: &mut Row)
+        requires row { i < self.now.size }
+        requires size { row.old.size ≡ self.now.size }
+        ensures size { row.new.size ≡ row.old.size }
+        ensures members { (j : ℕ) → set.contains row.new.members j
+            ≡ (set.contains row.old.members j || set.contains self.now.pairs (i, j)) }
+    {
+        row.union_with_words(row_at(&self.words, row_length(self.size), i));
     }
 
     /// Closes the relation: afterwards `i` is related to `j` exactly where a walk over what was

@@ -1,12 +1,11 @@
 //! Rows: sets of numbers below a size, one bit a number.
-ghost use Rattle.std.specs.Prelude.{◌≡◌, ◌<◌, ◌≤◌, IfOk, length};
+ghost use Rattle.std.specs.Prelude.{◌≡◌, ℕ, ◌<◌, ◌≤◌, ◌||◌, true, false, IfOk, IfSome, IfNone, length};
 ghost use Rattle.std.specs.FinSet as set;
 ghost use Rattle.std.specs.List.Sorted.{IsStrictlyIncreasing};
-ghost use Rattle.tfs_planes.specs.Row.{rising_members, row_length, number_set, IsClearFrom};
-ghost use Rattle.tfs_planes.specs.declared.TheConstants.{MAX};
+ghost use Rattle.tfs_planes.specs.Row.{bit_at_word, rising_members, row_length, number_set, IsClearFrom};
 
-use crate::bits::{bit, count_bits, members_of, row_length, set_bit};
-use crate::kernels::{meet_words, union_words};
+use crate::bits::{bit, count_bits, members_of, next_bit, row_length, set_bit, zeros};
+use crate::kernels::{clear_words, meet_words, union_words};
 use std::alloc::{AllocError, Global};
 use std::marker::Model;
 
@@ -33,35 +32,50 @@ impl Model for Row {
 impl Row {
     /// The empty set of numbers below `size`. Its one error is want of memory.
     pub fn new(alloc: Global, size: usize) -> Result<Row, AllocError>
-        requires { size ≤ MAX }
-        ensures { IfOk result (λ row. row ≡ record { size = size; members = set.empty }) }
+        requires small { size ≤ 4096 }
+        ensures empty { IfOk result (λ row. row ≡ record { size = size; members = set.empty }) }
     {
         Ok(Row {
             size,
-            words: vec![in alloc; 0; row_length(size)]?,
+            words: zeros(alloc, row_length(size))?,
         })
+    }
+
+    /// The size: each member is below it.
+    pub fn size(&self) -> usize
+        ensures size { result ≡ self.now.size }
+        ensures small { result ≤ 4096 }
+    {
+        self.size
     }
 
     /// Whether `i` is a member.
     pub fn get(&self, i: usize) -> bool
-        requires { i < self.now.size }
-        ensures { result ≡ set.contains self.now.members i }
+        requires within { i < self.now.size }
+        ensures member { result ≡ set.contains self.now.members i }
     {
         bit(&self.words, i)
     }
 
     /// Makes `i` a member.
     pub fn set(&mut self, i: usize)
-        requires { i < self.old.size }
-        ensures { self.new ≡ record self.old { members = set.insert self.old.members i } }
+        requires within { i < self.old.size }
+        ensures inserted { self.new ≡ record self.old { members = set.insert self.old.members i } }
     {
         set_bit(&mut self.words, i);
     }
 
+    /// Takes out all members.
+    pub fn clear(&mut self)
+        ensures empty { self.new ≡ record self.old { members = set.empty } }
+    {
+        clear_words(&mut self.words);
+    }
+
     /// Adds the members of another row of this size: the union.
     pub fn union_with(&mut self, other: &Row)
-        requires { self.old.size ≡ other.now.size }
-        ensures { self.new
+        requires sizes { self.old.size ≡ other.now.size }
+        ensures union { self.new
             ≡ record self.old { members = set.union self.old.members other.now.members } }
     {
         union_words(&mut self.words, &other.words);
@@ -69,8 +83,8 @@ impl Row {
 
     /// Keeps the members that another row of this size has too: the intersection.
     pub fn meet_with(&mut self, other: &Row)
-        requires { self.old.size ≡ other.now.size }
-        ensures { self.new
+        requires sizes { self.old.size ≡ other.now.size }
+        ensures meet { self.new
             ≡ record self.old { members = set.intersection self.old.members other.now.members } }
     {
         meet_words(&mut self.words, &other.words);
@@ -78,9 +92,23 @@ impl Row {
 
     /// How many members there are.
     pub fn count(&self) -> usize
-        ensures { result ≡ set.len self.now.members }
+        ensures count { result ≡ set.len self.now.members }
     {
         count_bits(&self.words) as usize
+    }
+
+    /// The first member from `from` on. A call for each member, with the number behind the last one,
+    /// gives them all, rising, and takes no memory.
+    pub fn next_member(&self, from: usize) -> Option<usize>
+        ensures member { IfSome result (λ i. set.contains self.now.members i ≡ true) }
+        ensures within { IfSome result (λ i. i < self.now.size) }
+        ensures reached { IfSome result (λ i. from ≤ i) }
+        ensures first { IfSome result (λ i. (k : ℕ)
+            → from ≤ k → k < i → set.contains self.now.members k ≡ false) }
+        ensures none { IfNone result ((k : ℕ)
+            → from ≤ k → set.contains self.now.members k ≡ false) }
+    {
+        next_bit(&self.words, from)
     }
 
     /// The members, rising. Its one error is want of memory.
@@ -91,12 +119,23 @@ impl Row {
         members_of(alloc, &self.words, self.size)
     }
 
-    // The row of a plane's words, as long as this one's.
+    /// Becomes the set of a plane's row.
     pub(crate) fn copy_words(&mut self, words: &[u64])
         requires length { length words.now ≡ row_length self.old.size }
         requires clear { IsClearFrom self.old.size words.now }
         ensures { self.new ≡ number_set self.old.size words.now }
     {
         self.words.copy_from_slice(words);
+    }
+
+    /// Adds the members of a plane's row.
+    pub(crate) fn union_with_words(&mut self, words: &[u64])
+        requires length { length words.now ≡ row_length self.old.size }
+        requires clear { IsClearFrom self.old.size words.now }
+        ensures size { self.new.size ≡ self.old.size }
+        ensures members { (j : ℕ) → set.contains self.new.members j
+            ≡ (set.contains self.old.members j || bit_at_word words.now j) }
+    {
+        union_words(&mut self.words, words);
     }
 }

@@ -4,4 +4,4 @@ use Rattle.tfs_planes.specs.Row.{members_of}
 use Rattle.tfs_planes.proofs.bits.members_of.Given as goal
 
 abbrev pub invariant-loop-i : goal.invariant-loop-i
-invariant-loop-i l = l.numbers.items ≡ members_of l.i l.words
+invariant-loop-i g l = l.numbers.items ≡ members_of l.i l.words

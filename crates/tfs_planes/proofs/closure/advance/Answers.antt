@@ -20,6 +20,7 @@ returns c =
     let block = c.split_at_mut-block.result.0.now in
     let after = c.split_at_mut-block.result.1.now in
     let whole = first.value ∙ ap (λ zs. before ++ zs) second.value in
-    all_advance c.args.stride c.args.first c.args.width c.args.words.now before block after c.take_in_each.new.rows c.close_block.new.block c.take_in_each-2.new.rows
+    all_advance c.args.stride c.args.first c.args.width c.args.words.now before block after c.take_in_each.new.rows c.close_block.new.block
+    c.take_in_each-2.new.rows
     whole first.front_len (c.take_in_each.auto.rows ∙ first.front_len) second.front_len (c.close_block.auto.block ∙ second.front_len)
     c.close_block.ensures c.take_in_each.ensures c.take_in_each-2.ensures

@@ -1,27 +1,14 @@
--- Before the first block, after each, and after the last.
-use Rattle.std.proofs.Common.{◌≡◌, ◌+◌, ◌*◌, min, IsTrue, subst, arith}
-use Rattle.tfs_planes.specs.Plane.{cell_at}
-use Rattle.tfs_planes.specs.Rounds.{AllJoins}
-use Rattle.tfs_planes.proofs.RoundLemmas.{no_round_walks, all_rounds_walks}
+-- Where no order closed the rows, they have the same closure as before.
+use Rattle.std.proofs.Common.{sym, subst}
+use Rattle.tfs_planes.specs.Targets.{IsBetween}
+use Rattle.tfs_planes.proofs.PlacingLemmas.{closure_between}
 use Rattle.tfs_planes.proofs.closure.close_rows.Goals as goal
+use Rattle.tfs_planes.proofs.closure.close_rows.Goals.{then-count-le-FEW, else-count-le-FEW}
 
-pub loop-block-init : goal.loop-block-init
-loop-block-init c =
-    let none : 0 ≡ min 0 c.args.count = omega arith in
-    subst (AllJoins c.args.stride c.args.words.now (cell_at c.args.stride c.args.words.now)) none (no_round_walks (λ a b. IsTrue (cell_at c.args.stride c.args.words.now a b)))
-
-pub loop-block-preserved : goal.loop-block-preserved
-loop-block-preserved c =
-    let block = c.loop-block.block in
-    let related = cell_at c.args.stride c.args.words.now in
-    let from : min (block * 64) c.args.count ≡ block * 64 = omega arith in
-    let to : block * 64 + c.min.result ≡ min ((block + 1) * 64) c.args.count = omega arith in
-    subst (AllJoins c.args.stride c.advance.new.words related) to
-    (c.advance.ensures related (subst (AllJoins c.args.stride c.loop-block.words related) from c.loop-block.invariant))
-
-pub returns : goal.returns
-returns c =
-    let related = cell_at c.args.stride c.args.words.now in
-    let all : min (c.loop-block.block * 64) c.args.count ≡ c.args.count = omega arith in
-    all_rounds_walks c.args.stride c.args.count c.args.words.now c.loop-block.words c.requires.lengths
-    (subst (AllJoins c.args.stride c.loop-block.words related) all c.loop-block.invariant)
+pub returns-then-not-closed : goal.returns-then-not-closed
+returns-then-not-closed c =
+    let between : IsBetween c.args.stride c.args.words.now c.if-count-le-FEW.words = elim c.if-count-le-FEW.branch [
+      | then-count-le-FEW w ↦ subst (IsBetween c.args.stride c.args.words.now) (sym w.words-is) w.close_few-closed.ensures.between
+      | else-count-le-FEW w ↦ subst (IsBetween c.args.stride c.args.words.now) (sym w.words-is) w.close_many-closed.ensures.between
+    ] in
+    closure_between c.args.stride c.args.words.now c.if-count-le-FEW.words c.close_by_blocks.new.words between c.close_by_blocks.ensures

@@ -11,9 +11,16 @@ absorb_each-requires-2-clause-lengths c =
     let rest : c.args.count ≡ c.args.k + 1 + (c.args.count - c.args.k - 1) = omega arith in
     let first = c.split_at_mut-before.ensures in
     let second = c.split_at_mut-row.ensures in
-    omega (arith, ap (λ n. n * c.args.stride) rest, ap (λ n. (c.args.count - c.args.k - 1) * n) second.front_len, first.back_len, second.back_len, first.front_len)
+    omega (
+      arith,
+      ap (λ n. n * c.args.stride) rest,
+      ap (λ n. (c.args.count - c.args.k - 1) * n) second.front_len,
+      first.back_len,
+      second.back_len,
+      first.front_len,
+    )
 
--- the words are the rows before row k, row k, and those behind it
+-- The words are the rows before row k, row k, and those behind it.
 module _ (words before rest row after : List ℕ) (first : words ≡ before ++ rest) (second : rest ≡ row ++ after) where
   in_parts : words ≡ before ++ (row ++ after)
   in_parts = first ∙ ap (λ zs. before ++ zs) second
@@ -47,4 +54,5 @@ returns-clause-others c = λ i other.
     let behind = c.absorb_each-2.new.rows in
     let through = subst (λ n. (j : ℕ) → row_words n front j ≡ row_through row c.args.column (row_words n before j)) second.front_len c.absorb_each.ensures in
     let too = subst (λ n. (j : ℕ) → row_words n behind j ≡ row_through row c.args.column (row_words n after j)) second.front_len c.absorb_each-2.ensures in
-    round_others s k c.args.column words before row after front behind whole first.front_len (c.absorb_each.auto.rows ∙ first.front_len) second.front_len through too i (eqb-false i k other)
+    round_others s k c.args.column words before row after front behind whole first.front_len (c.absorb_each.auto.rows ∙ first.front_len) second.front_len
+    through too i (eqb-false i k other)

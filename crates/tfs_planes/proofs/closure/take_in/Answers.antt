@@ -21,7 +21,7 @@ row_at-other-requires c =
     let low = bit_at-trailing_zeros w64 c.loop-bits.bits (omega arith) c.loop-bits.auto.bits-fits.fits in
     omega (arith, row_fits (trailing_zeros w64 c.loop-bits.bits) c.args.width (length c.args.row.now) (c.loop-bits.invariant.within _ low.1))
 
--- the word of the other row, as a row of the block
+-- The word of the other row, as a row of the block.
 module _ (s k first bits : ℕ) (lent block : List ℕ) (is : lent ≡ row_words s block k) where
   same_left : bits_left bits (get_or lent (first / 64) 0) k ≡ bits_left bits (get_or (row_words s block k) (first / 64) 0) k
   same_left = ap (λ r. bits_left bits (get_or r (first / 64) 0) k) is
@@ -50,7 +50,7 @@ loop-bits-preserved c =
     let low = bit_at-trailing_zeros w64 bits (omega arith) c.loop-bits.auto.bits-fits.fits in
     let below : k < width = inv.within k low.1 in
     let left = same_left s k first bits c.row_at-other.result.now block c.row_at-other.ensures.row in
-    let row = c.union_words.ensures ∙ ap (zip2 bit_or c.loop-bits.row) c.row_at-other.ensures.row in
+    let row = c.union_words.ensures.union ∙ ap (zip2 bit_or c.loop-bits.row) c.row_at-other.ensures.row in
     let fits = row_fits k width s below in
     let long = c.loop-bits.auto.row ∙ sym (length-row_words s k block (omega arith)) in
     record {
@@ -58,9 +58,11 @@ loop-bits-preserved c =
       took = λ closed.
           subst (λ r. TookIn s start r block width first (bits_left bits (get_or c.row_at-other.result.now (first / 64) 0) k)) (sym row)
           (subst (λ n. TookIn s start (zip2 bit_or c.loop-bits.row other) block width first n) (sym left)
-          (took_more s start c.loop-bits.row block width first k bits (inv.took closed) closed c.requires.aligned c.requires.narrow below low.1 long (row_word_fits s k (first / 64) block c.type_inv.block)));
+          (took_more s start c.loop-bits.row block width first k bits (inv.took closed) closed c.requires.aligned c.requires.narrow below low.1 long
+          (row_word_fits s k (first / 64) block c.type_inv.block)));
     }
 
 pub returns : goal.returns
 returns c = λ closed j.
-    took_all (length c.args.row.now) c.args.row.now c.loop-bits.row c.args.block.now c.args.width c.args.first c.loop-bits.bits (omega arith) (c.loop-bits.invariant.took closed) j
+    took_all (length c.args.row.now) c.args.row.now c.loop-bits.row c.args.block.now c.args.width c.args.first c.loop-bits.bits (omega arith)
+    (c.loop-bits.invariant.took closed) j

@@ -29,11 +29,14 @@ loop-i-preserved c =
     record {
       done = λ closed a b h. elim (cases_eq a i) [
         | inl same ↦
-            let takes = took_row s _ _ (row_words s start i) row block width first lent (row_slice s i rows ∙ inv.rest i (omega arith)) c.take_in.ensures closed b in
-            subst (λ r. IsTrue (bit_at_word r b) ↔ TakesIn s (row_words s start a) block width first b) (sym (ap (row_words s after) same ∙ row_put s i (i * s + s - i * s) rows row (omega arith) fits wide))
+            let takes = took_row s _ _ (row_words s start i) row block width first lent (row_slice s i rows ∙ inv.rest i (omega arith)) c.take_in.ensures
+            closed b in
+            subst (λ r. IsTrue (bit_at_word r b) ↔ TakesIn s (row_words s start a) block width first b)
+            (sym (ap (row_words s after) same ∙ row_put s i (i * s + s - i * s) rows row (omega arith) fits wide))
             (subst (λ p. IsTrue (bit_at_word row b) ↔ TakesIn s (row_words s start p) block width first b) (sym same) takes)
         | inr else ↦
-            subst (λ r. IsTrue (bit_at_word r b) ↔ TakesIn s (row_words s start a) block width first b) (sym (row_put_other s i (i * s + s - i * s) a rows row (omega arith) fits wide else))
+            subst (λ r. IsTrue (bit_at_word r b) ↔ TakesIn s (row_words s start a) block width first b)
+            (sym (row_put_other s i (i * s + s - i * s) a rows row (omega arith) fits wide else))
             (inv.done closed a b (omega arith))
       ];
       rest = λ a h. row_put_other s i (i * s + s - i * s) a rows row (omega arith) fits wide (λ same. omega arith) ∙ inv.rest a (omega arith);
@@ -49,6 +52,7 @@ returns c = λ closed i j.
       | inl below ↦ c.loop-i.invariant.done closed i j (omega arith)
       | inr past ↦
           let none = row_words_past s i start (omega (arith, mul-le-mul_right s past)) in
-          subst (λ r. IsTrue (bit_at_word r j) ↔ TakesIn s (row_words s start i) block c.args.width c.args.first j) (sym (c.loop-i.invariant.rest i (omega arith) ∙ none))
+          subst (λ r. IsTrue (bit_at_word r j) ↔ TakesIn s (row_words s start i) block c.args.width c.args.first j)
+          (sym (c.loop-i.invariant.rest i (omega arith) ∙ none))
           (subst (λ r. IsTrue (bit_at_word [] j) ↔ TakesIn s r block c.args.width c.args.first j) (sym none) (takes_in_nil s block c.args.width c.args.first j))
     ]

@@ -8,7 +8,16 @@ pub overflow_add-count : goal.overflow_add-count
 overflow_add-count c =
     let xs = c.args.words.now in
     let n = c.loop-block.block in
-    record { fits = omega (arith, c.loop-block.invariant, c.count_lanes-count.ensures, sum_chunk count_ones (n * 8) 8 ((n + 1) * 8) xs (omega arith), sum_by-take-le count_ones xs ((n + 1) * 8), count_bound xs c.type_inv.words) }
+    record {
+      fits = omega (
+        arith,
+        c.loop-block.invariant,
+        c.count_lanes-count.ensures,
+        sum_chunk count_ones (n * 8) 8 ((n + 1) * 8) xs (omega arith),
+        sum_by-take-le count_ones xs ((n + 1) * 8),
+        count_bound xs c.type_inv.words,
+      );
+    }
 
 pub loop-block-preserved : goal.loop-block-preserved
 loop-block-preserved c =

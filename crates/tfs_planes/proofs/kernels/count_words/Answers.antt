@@ -9,10 +9,21 @@ pub overflow_add-result : goal.overflow_add-result
 overflow_add-result c =
     let xs = c.args.words.now in
     let n = length xs / 8 * 8 in
-    record { fits = omega (arith, c.count_blocks.ensures, c.count_singly.ensures, ap (sum_by count_ones) (take_rest xs n), sum_by-take-drop count_ones xs n, count_bound xs c.type_inv.words) }
+    record {
+      fits = omega (
+        arith,
+        c.count_blocks.ensures,
+        c.count_singly.ensures,
+        ap (sum_by count_ones) (take_rest xs n),
+        sum_by-take-drop count_ones xs n,
+        count_bound xs c.type_inv.words,
+      );
+    }
 
 pub returns : goal.returns
-returns c =
-    let xs = c.args.words.now in
-    let n = length xs / 8 * 8 in
-    omega (arith, c.count_blocks.ensures, c.count_singly.ensures, ap (sum_by count_ones) (take_rest xs n), sum_by-take-drop count_ones xs n)
+returns c = record {
+  count =
+      let xs = c.args.words.now in
+      let n = length xs / 8 * 8 in
+      omega (arith, c.count_blocks.ensures, c.count_singly.ensures, ap (sum_by count_ones) (take_rest xs n), sum_by-take-drop count_ones xs n);
+}

@@ -11,7 +11,8 @@ loop-at-preserved c =
     let within = subst (λ (zs : List (ℕ × ℕ)). at < length zs) c.deref.ensures.value c.in-Some.ensures.within in
     let goes =
     subst (λ (ns : List ℕ). GoesOn ns c.args.from (get_or c.loop-at.left.items at pair).0) c.deref-in-loop-at.ensures.value
-    (subst (λ (zs : List (ℕ × ℕ)). GoesOn c.deref-in-loop-at.result.now c.args.from (get_or zs at pair).0) c.deref.ensures.value (c.in-Some.ensures.goes_on pair)) in
+    (subst (λ (zs : List (ℕ × ℕ)). GoesOn c.deref-in-loop-at.result.now c.args.from (get_or zs at pair).0) c.deref.ensures.value
+    (c.in-Some.ensures.goes_on pair)) in
     search_step c.args.pairs.now c.loop-at.left.items c.remove-number.new.self.items c.loop-at.found.items c.push.new.self.items c.args.from at pair
     c.loop-at.invariant within c.remove-number.ensures.value goes c.remove-number.ensures.items c.in_ok-push.ensures.items
 
@@ -19,4 +20,5 @@ pub returns : goal.returns
 returns c =
     search_end c.args.pairs.now c.loop-at.left.items c.loop-at.found.items c.args.from c.loop-at.invariant
     (subst (λ (ns : List ℕ). (a b : ℕ) → Contains c.loop-at.left.items (a, b) → GoesOn ns c.args.from a → ⊥) c.deref-in-loop-at.ensures.value
-    (subst (λ (zs : List (ℕ × ℕ)). (a b : ℕ) → Contains zs (a, b) → GoesOn c.deref-in-loop-at.result.now c.args.from a → ⊥) c.deref.ensures.value c.in_default.ensures.none))
+    (subst (λ (zs : List (ℕ × ℕ)). (a b : ℕ) → Contains zs (a, b) → GoesOn c.deref-in-loop-at.result.now c.args.from a → ⊥) c.deref.ensures.value
+    c.in_default.ensures.none))

@@ -8,8 +8,10 @@ use Rattle.tfs_planes.specs.Walk.{Joins}
 use Rattle.tfs_planes.proofs.RelationLemmas.{clear_closed, closed-plane}
 use Rattle.tfs_planes.proofs.plane.Plane.close.Goals as goal
 
--- what the closure of the rows says, at the length that a row of the plane has
-walks_of : (s t : ℕ) (lent words now : List ℕ) → s ≡ t → lent ≡ words → ((i j : ℕ) → IsTrue (cell_at s now i j) ↔ Joins (λ a b. IsTrue (cell_at s lent a b)) i j) → (i j : ℕ) → IsTrue (cell_at t now i j) ↔ Joins (λ a b. IsTrue (cell_at t words a b)) i j
+-- What the closure of the rows says, at the length that a row of the plane has.
+walks_of : (s t : ℕ) (lent words now : List ℕ) → s ≡ t → lent ≡ words →
+    ((i j : ℕ) → IsTrue (cell_at s now i j) ↔ Joins (λ a b. IsTrue (cell_at s lent a b)) i j) → (i j : ℕ) →
+    IsTrue (cell_at t now i j) ↔ Joins (λ a b. IsTrue (cell_at t words a b)) i j
 walks_of s t lent words now e f walks i j =
     subst (λ zs. IsTrue (cell_at t now i j) ↔ Joins (λ a b. IsTrue (cell_at t zs a b)) i j) f
     (subst (λ k. IsTrue (cell_at k now i j) ↔ Joins (λ a b. IsTrue (cell_at k lent a b)) i j) e (walks i j))
@@ -25,7 +27,8 @@ invariant_of-self c =
     record {
       within = c.self.invariant.within;
       long = c.self.invariant.long;
-      clear = λ a. subst (λ words. IsClearFrom n (row_words (row_length n) words a)) (sym written) (clear_closed (row_length n) n plane.words.items now long c.self.invariant.clear walks a);
+      clear = λ a. subst (λ words. IsClearFrom n (row_words (row_length n) words a)) (sym written)
+          (clear_closed (row_length n) n plane.words.items now long c.self.invariant.clear walks a);
     }
 
 pub returns-clause-walks : goal.returns-clause-walks

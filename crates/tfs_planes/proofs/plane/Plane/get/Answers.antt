@@ -15,11 +15,13 @@ cell-requires-clause-row c =
     omega (arith, row_fits c.args.i plane.size c.row_length.result within, wide, c.self.invariant.long, c.deref.ensures.len)
 
 pub returns : goal.returns
-returns c =
-    let plane = c.self.inside in
-    let n = plane.size in
-    let long = sym plane.words.ok.0 ∙ c.self.invariant.long in
-    c.cell.ensures
-    ∙ ap₂ (λ s words. cell_at s words c.args.i c.args.j) c.row_length.ensures c.deref.ensures.value
-    ∙ sym (contains-plane n plane.words.items long c.self.invariant.clear c.args.i c.args.j)
-    ∙ ap (λ (r : Relation). contains r.pairs (c.args.i, c.args.j)) c.self.view_is
+returns c = record {
+  related =
+      let plane = c.self.inside in
+      let n = plane.size in
+      let long = sym plane.words.ok.0 ∙ c.self.invariant.long in
+      c.cell.ensures
+      ∙ ap₂ (λ s words. cell_at s words c.args.i c.args.j) c.row_length.ensures c.deref.ensures.value
+      ∙ sym (contains-plane n plane.words.items long c.self.invariant.clear c.args.i c.args.j)
+      ∙ ap (λ (r : Relation). contains r.pairs (c.args.i, c.args.j)) c.self.view_is;
+}

@@ -24,7 +24,8 @@ returns-clause-members c = λ j.
     let words = c.row_at.result.now in
     let size = c.args.row.now.size in
     let same : size ≡ n = c.requires.size ∙ sym (ap (λ (r : Relation). r.size) c.self.view_is) in
-    let row : words ≡ row_words (row_length n) plane.words.items c.args.i = c.row_at.ensures.row ∙ ap₂ (λ s zs. row_words s zs c.args.i) c.row_length.ensures c.deref.ensures.value in
+    let row : words ≡ row_words (row_length n) plane.words.items c.args.i = c.row_at.ensures.row
+    ∙ ap₂ (λ s zs. row_words s zs c.args.i) c.row_length.ensures c.deref.ensures.value in
     let clear = subst (IsClearFrom n) (sym row) (c.self.invariant.clear c.args.i) in
     let long = sym plane.words.ok.0 ∙ c.self.invariant.long in
     ap (λ (s : NumberSet). contains s.members j) c.copy_words.ensures

@@ -25,25 +25,30 @@ invariant_of-self c =
     let now = c.set_cell.new.words in
     let within : j < n = subst (λ k. j < k) (sym (ap (λ (r : Relation). r.size) c.self.view_is)) c.requires.column in
     let written = with_items_is plane.words now (c.set_cell.auto.words ∙ c.deref_mut.ensures.len) in
-    let cells = λ (a b : ℕ). ap (λ s. cell_at s now a b) (sym c.row_length.ensures) ∙ c.set_cell.ensures a b ∙ ap₂ (λ s words. (eqb a i && eqb b j) || cell_at s words a b) c.row_length.ensures c.deref_mut.ensures.value in
+    let cells = λ (a b : ℕ). ap (λ s. cell_at s now a b) (sym c.row_length.ensures) ∙ c.set_cell.ensures a b
+    ∙ ap₂ (λ s words. (eqb a i && eqb b j) || cell_at s words a b) c.row_length.ensures c.deref_mut.ensures.value in
     record {
       within = c.self.invariant.within;
       long = c.self.invariant.long;
-      clear = λ a. subst (λ words. IsClearFrom n (row_words (row_length n) words a)) (sym written) (clear_with_cell (row_length n) n i j plane.words.items now c.self.invariant.clear within cells a);
+      clear = λ a. subst (λ words. IsClearFrom n (row_words (row_length n) words a)) (sym written)
+          (clear_with_cell (row_length n) n i j plane.words.items now c.self.invariant.clear within cells a);
     }
 
 pub returns : goal.returns
-returns c =
-    let plane = c.self.inside in
-    let n = plane.size in
-    let i = c.args.i in
-    let j = c.args.j in
-    let now = c.set_cell.new.words in
-    let within : j < n = subst (λ k. j < k) (sym (ap (λ (r : Relation). r.size) c.self.view_is)) c.requires.column in
-    let written = with_items_is plane.words now (c.set_cell.auto.words ∙ c.deref_mut.ensures.len) in
-    let cells = λ (a b : ℕ). ap (λ s. cell_at s now a b) (sym c.row_length.ensures) ∙ c.set_cell.ensures a b ∙ ap₂ (λ s words. (eqb a i && eqb b j) || cell_at s words a b) c.row_length.ensures c.deref_mut.ensures.value in
-    let long = sym plane.words.ok.0 ∙ c.self.invariant.long in
-    let too = c.set_cell.auto.words ∙ c.deref_mut.ensures.len ∙ c.self.invariant.long in
-    ap (relation_of n) written
-    ∙ ap (λ pairs. record { size = n; pairs = pairs }) (insert-plane n i j plane.words.items now long too c.self.invariant.clear within cells)
-    ∙ ap (λ (r : Relation). record { size = r.size; pairs = insert r.pairs (i, j) }) c.self.view_is
+returns c = record {
+  inserted =
+      let plane = c.self.inside in
+      let n = plane.size in
+      let i = c.args.i in
+      let j = c.args.j in
+      let now = c.set_cell.new.words in
+      let within : j < n = subst (λ k. j < k) (sym (ap (λ (r : Relation). r.size) c.self.view_is)) c.requires.column in
+      let written = with_items_is plane.words now (c.set_cell.auto.words ∙ c.deref_mut.ensures.len) in
+      let cells = λ (a b : ℕ). ap (λ s. cell_at s now a b) (sym c.row_length.ensures) ∙ c.set_cell.ensures a b
+      ∙ ap₂ (λ s words. (eqb a i && eqb b j) || cell_at s words a b) c.row_length.ensures c.deref_mut.ensures.value in
+      let long = sym plane.words.ok.0 ∙ c.self.invariant.long in
+      let too = c.set_cell.auto.words ∙ c.deref_mut.ensures.len ∙ c.self.invariant.long in
+      ap (relation_of n) written
+      ∙ ap (λ pairs. record { size = n; pairs = pairs }) (insert-plane n i j plane.words.items now long too c.self.invariant.clear within cells)
+      ∙ ap (λ (r : Relation). record { size = r.size; pairs = insert r.pairs (i, j) }) c.self.view_is;
+}

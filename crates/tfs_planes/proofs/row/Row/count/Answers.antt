@@ -7,7 +7,10 @@ use Rattle.tfs_planes.proofs.CountLemmas.{len-row}
 use Rattle.tfs_planes.proofs.row.Row.count.Goals as goal
 
 pub returns : goal.returns
-returns c =
-    let row = c.self.inside in
-    c.count_bits.ensures ∙ ap (λ (words : List ℕ). count_by (bit_at_word words) (range_with_len 0 (64 * length words))) c.deref.ensures.value
-    ∙ len-row row.size row.words.items (omega (arith, c.self.invariant.long, row.words.ok.0)) c.self.invariant.clear ∙ ap (λ (s : NumberSet). len s.members) c.self.view_is
+returns c = record {
+  count =
+      let row = c.self.inside in
+      c.count_bits.ensures ∙ ap (λ (words : List ℕ). count_by (bit_at_word words) (range_with_len 0 (64 * length words))) c.deref.ensures.value
+      ∙ len-row row.size row.words.items (omega (arith, c.self.invariant.long, row.words.ok.0)) c.self.invariant.clear
+      ∙ ap (λ (s : NumberSet). len s.members) c.self.view_is;
+}

@@ -9,9 +9,11 @@ pub invariant_of-self : goal.invariant_of-self
 invariant_of-self c =
     let own = c.self.inside in
     let others = c.other.inside in
-    let same = same_size own.size others.size own.words.items others.words.items _ _ c.self.view_is c.other.view_is c.requires in
-    let long = same_length own.size others.size _ _ own.words.items others.words.items c.self.invariant c.other.invariant same own.words.ok.0 others.words.ok.0 in
-    let made = combined_items bit_and own.words _ _ others.words.items c.meet_words.new.words c.deref_mut.ensures.value c.deref_mut.ensures.len c.deref.ensures.value c.meet_words.ensures long in
+    let same = same_size own.size others.size own.words.items others.words.items _ _ c.self.view_is c.other.view_is c.requires.sizes in
+    let long = same_length own.size others.size _ _ own.words.items others.words.items c.self.invariant c.other.invariant same own.words.ok.0
+    others.words.ok.0 in
+    let made = combined_items bit_and own.words _ _ others.words.items c.meet_words.new.words c.deref_mut.ensures.value c.deref_mut.ensures.len
+    c.deref.ensures.value c.meet_words.ensures.meet long in
     record {
       within = c.self.invariant.within;
       long = c.self.invariant.long;
@@ -19,10 +21,15 @@ invariant_of-self c =
     }
 
 pub returns : goal.returns
-returns c =
-    let own = c.self.inside in
-    let others = c.other.inside in
-    let same = same_size own.size others.size own.words.items others.words.items _ _ c.self.view_is c.other.view_is c.requires in
-    let long = same_length own.size others.size _ _ own.words.items others.words.items c.self.invariant c.other.invariant same own.words.ok.0 others.words.ok.0 in
-    let made = combined_items bit_and own.words _ _ others.words.items c.meet_words.new.words c.deref_mut.ensures.value c.deref_mut.ensures.len c.deref.ensures.value c.meet_words.ensures long in
-    meet_view own.size others.size own.words.items others.words.items _ _ _ made c.self.view_is c.other.view_is same long c.self.invariant.clear c.other.invariant.clear
+returns c = record {
+  meet =
+      let own = c.self.inside in
+      let others = c.other.inside in
+      let same = same_size own.size others.size own.words.items others.words.items _ _ c.self.view_is c.other.view_is c.requires.sizes in
+      let long = same_length own.size others.size _ _ own.words.items others.words.items c.self.invariant c.other.invariant same own.words.ok.0
+      others.words.ok.0 in
+      let made = combined_items bit_and own.words _ _ others.words.items c.meet_words.new.words c.deref_mut.ensures.value c.deref_mut.ensures.len
+      c.deref.ensures.value c.meet_words.ensures.meet long in
+      meet_view own.size others.size own.words.items others.words.items _ _ _ made c.self.view_is c.other.view_is same long c.self.invariant.clear
+      c.other.invariant.clear;
+}

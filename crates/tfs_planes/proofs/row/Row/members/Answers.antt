@@ -10,8 +10,10 @@ pub returns-clause-members : goal.returns-clause-members
 returns-clause-members c =
     let row = c.self.inside in
     let same = ap (members_of row.size) c.deref.ensures.value in
-    IfOk-weaker c.members_of.result _ _ (λ numbers is. is ∙ same ∙ sym (rising-row row.size row.words.items c.self.invariant.clear) ∙ ap rising_members c.self.view_is) c.members_of.ensures
+    IfOk-weaker c.members_of.result _ _ (λ numbers is. is ∙ same ∙ sym (rising-row row.size row.words.items c.self.invariant.clear)
+    ∙ ap rising_members c.self.view_is) c.members_of.ensures
 
 pub returns-clause-rising : goal.returns-clause-rising
 returns-clause-rising c =
-    IfOk-weaker c.members_of.result _ _ (λ numbers is. subst IsStrictlyIncreasing (sym is) (members_rise c.self.inside.size c.deref.result.now)) c.members_of.ensures
+    IfOk-weaker c.members_of.result _ _ (λ numbers is. subst IsStrictlyIncreasing (sym is) (members_rise c.self.inside.size c.deref.result.now))
+    c.members_of.ensures

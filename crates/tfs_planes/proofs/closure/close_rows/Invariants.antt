@@ -1,8 +1,0 @@
--- After some blocks the bits that are set are the walks whose inner numbers lie in them.
-use Rattle.std.proofs.Common.{◌*◌, min}
-use Rattle.tfs_planes.specs.Plane.{cell_at}
-use Rattle.tfs_planes.specs.Rounds.{AllJoins}
-use Rattle.tfs_planes.proofs.closure.close_rows.Given as goal
-
-abbrev pub invariant-loop-block : goal.invariant-loop-block
-invariant-loop-block l = AllJoins l.stride l.words (cell_at l.stride l.initial.words) (min (l.block * 64) l.count)

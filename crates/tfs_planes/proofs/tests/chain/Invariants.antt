@@ -1,6 +1,0 @@
--- The plane keeps its size.
-use Rattle.std.proofs.Common.{◌≡◌}
-use Rattle.tfs_planes.proofs.tests.chain.Given as goal
-
-abbrev pub invariant-loop-next : goal.invariant-loop-next
-invariant-loop-next l = l.plane.size ≡ l.size
