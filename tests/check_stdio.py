@@ -1,5 +1,6 @@
 """Drives the built program over pipes: `tfstated stdio` and its arguments. What it must write is written here by hand, or
 computed by the plain model of stdio_model.py."""
+import json
 import os
 import random
 import subprocess
@@ -120,6 +121,53 @@ def check_states_that_are_none_are_refused():
     expect(run(b"".join(map(push, bad)) + push(good)), (wanted, CLEAN, b""))
 
 
+def with_resources(text, serial=1):
+    """A state's text with this list of resources."""
+    return f'{{"version":4,"serial":{serial},"lineage":"L1","resources":{text}}}'.encode()
+
+
+def resource(instances="[{}]", **members):
+    """A resource's text, with other members in the place of the usual ones."""
+    usual = {"mode": "managed", "type": "t", "name": "n", **members}
+    parts = [f"{json.dumps(name)}:{json.dumps(value)}" for name, value in usual.items()]
+    return "{" + ",".join([*parts, f'"instances":{instances}']) + "}"
+
+
+def check_resources_are_read():
+    good = [
+        "[]", "null", "[" + resource("null") + "]", "[" + resource() + "," + resource(mode="data", module="module.m[\"p.q]\"]") + "]",
+        "[" + resource('[{"index_key":0},{"index_key":"k"},{"index_key":0,"deposed":"ab12"},{"deposed":""}]', module="") + "]",
+        "[" + resource('[{"dependencies":["t.n","x.y[0]","module.m[\\"a\\"].t.n"],"index_key":null,"attributes":[null]}]') + "]",
+    ]
+    bad = [
+        "{}", "[null]", "[1]", "[" + resource(mode="x") + "]", "[" + resource(mode=None) + "]", "[" + resource(type="") + "]",
+        "[" + resource(name=1) + "]", "[" + resource(module="module.m[0") + "]", "[" + resource(module=1) + "]", "[" + resource("{}") + "]",
+        "[" + resource("[1]") + "]", "[" + resource("[null]") + "]", "[" + resource('[{"index_key":-1}]') + "]",
+        "[" + resource('[{"index_key":1.0}]') + "]", "[" + resource('[{"index_key":18446744073709551616}]') + "]",
+        "[" + resource('[{"deposed":1}]') + "]", "[" + resource('[{"dependencies":{}}]') + "]",
+        "[" + resource('[{"dependencies":[null]}]') + "]", "[" + resource('[{"dependencies":["a]"]}]') + "]",
+        "[" + resource() + "," + resource('[{},{"dependencies":["a","b[x]"]}]') + "]",
+    ]
+    for text in good:
+        expect(run(push(with_resources(text)) + GET), (DONE + reply_text(200, with_resources(text)), CLEAN, b""), text)
+    for text in bad:
+        expect(run(push(with_resources(text)) + GET), (refusal_text("BadState") + NO_STATE, CLEAN, b""), text)
+        expect(model.conversation(push(with_resources(text)))[0], refusal_text("BadState"), text)
+
+
+def check_a_state_has_at_most_4096_instances():
+    def instances(count, last="{}"):
+        return with_resources("[" + resource("[" + ",".join(["{}"] * (count - 1) + [last]) + "]") + "]")
+
+    expect(run(push(instances(4096))), (DONE, CLEAN, b""))
+    expect(run(push(instances(4097))), (refusal_text("TooManyInstances"), CLEAN, b""))
+    expect(run(push(instances(4097, '{"deposed":1}'))), (refusal_text("BadState"), CLEAN, b""), "another fault comes first")
+    chain = [resource('[{"dependencies":["t.i%d"]}]' % (i - 1) if i else "[{}]", name=f"i{i}") for i in range(4096)]
+    expect(run(push(with_resources("[" + ",".join(chain) + "]")) + GET)[0][:38], DONE, "a chain")
+    expect(refusal_text("TooManyInstances"), b"HTTP/1.1 413 Content Too Large\r\nContent-Type: application/json\r\n"
+           b'Content-Length: 28\r\n\r\n{"error":"TooManyInstances"}')
+
+
 def check_refused_heads_end_the_conversation():
     def fields(count):
         return b"GET /state/a HTTP/1.1\r\n" + b"A: b\r\n" * count + b"\r\n"
@@ -217,9 +265,18 @@ def check_reads_are_limited():
     expect(run_in_pieces(pieces_of(unfinished, 1)), (b"", 1, b"tfstated: TooManyReads\n"), "no reply yet")
 
 
+def random_resources(chance):
+    """Members to put in front of a state's lineage, most of them lists of resources."""
+    keys = chance.choice(['{}', '{"index_key":3}', '{"index_key":"a"}', '{"dependencies":["t.n","a["]}', '{"deposed":7}'])
+    module = chance.choice(["", "module.m", "module.m[0]", "module.m[", "a]"])
+    texts = ["[" + resource(f"[{keys}]", module=module) + "]", "[]", "{}", "[" + resource("null", mode=module) + "]"]
+    return [f'"resources":{text},"lineage"'.encode() for text in texts]
+
+
 def random_state(chance):
     """A state's text, or what only looks like one."""
     text = state(chance.randrange(4), chance.choice(["L1", "L1", "L2"])) + b" " * chance.choice([0, 0, 1, 3000])
+    text = text.replace(b'"lineage"', chance.choice([b'"lineage"'] * 5 + random_resources(chance)))
     return chance.choice([text] * 6 + [text[:-1] + b"}", text + b"x", text.replace(b"4", b"4.0"), b"", b"[]", b"\xff"])
 
 

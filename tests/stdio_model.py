@@ -1,7 +1,7 @@
 """A plain model of a conversation over a new table: what `tfstated stdio` writes for a list of bytes, and its status.
 
 It is written from docs/DEFINITIONS.md and docs/FORMATS.md, as far as these are built: GET, POST, DELETE, LOCK and UNLOCK
-of a state; `Host`, the version, `Connection` and `Content-MD5` aren't looked at, nor the resources of a state. It always
+of a state; `Host`, the version, `Connection` and `Content-MD5` aren't looked at. It always
 looks at all of the bytes and never at how they were cut. It never runs out of memory.
 """
 import json
@@ -12,6 +12,7 @@ MAX_HEAD, MAX_LINE_FEEDS, MAX_FIELDS = 16384, 66, 64
 MAX_BODY = 16777216
 MAX_NAMES, MAX_ENTRIES, MAX_NESTING = 1024, 65536, 127
 MAX_LOCK_INFO, MAX_IDENTIFIER = 65536, 256
+MAX_INSTANCES = 4096
 
 PHRASES = {
     200: "OK", 400: "Bad Request", 404: "Not Found", 405: "Method Not Allowed", 409: "Conflict", 413: "Content Too Large",
@@ -20,8 +21,9 @@ PHRASES = {
 }
 STATUSES = {
     "HeadTooLarge": 431, "BadHead": 400, "BadLength": 400, "TransferCoding": 501, "BodyTooLarge": 413, "NoRoute": 404,
-    "MethodNotAllowed": 405, "BadName": 400, "BadLockInfo": 400, "BadState": 400, "LockLost": 409, "LineageDiffers": 409, "SerialTooLow": 409,
-    "SerialReused": 409, "NoState": 404, "TableFull": 507, "JournalFull": 507, "OutOfMemory": 503,
+    "MethodNotAllowed": 405, "BadName": 400, "BadLockInfo": 400, "BadState": 400, "TooManyInstances": 413, "LockLost": 409,
+    "LineageDiffers": 409, "SerialTooLow": 409, "SerialReused": 409, "NoState": 404, "TableFull": 507, "JournalFull": 507,
+    "OutOfMemory": 503,
 }
 METHODS = ["DELETE", "GET", "LOCK", "POST", "UNLOCK"]
 CLEAN, CUT, REFUSED = 0, 3, 4
@@ -30,6 +32,7 @@ TOKEN = rb"[!#$%&'*+\-.^_`|~0-9A-Za-z]+"
 REQUEST_LINE = re.compile(rb"(" + TOKEN + rb") ([^\x00-\x20\x7f]+) HTTP/1\.[01]\r?\n")
 FIELD_LINE = re.compile(rb"(" + TOKEN + rb"):[ \t]*([^\x00-\x08\x0a-\x1f\x7f]*)\r?\n")
 NAME = re.compile(r"[A-Za-z0-9_.-]{1,64}")
+PIECES = re.compile(r'(?:[^\[\]]|\[[0-9]+\]|\["(?:[^"\\]|\\.)*"\])*', re.DOTALL)
 
 
 def reply_text(status, body=b"", close=False, allow=None):
@@ -169,6 +172,41 @@ def members_of(body, refusal):
     return dict(top)
 
 
+def present(members, name, kinds, wanted=lambda value: True):
+    """The value of a member, of one of these types, or None where it is absent or null."""
+    value = members.get(name)
+    if value is not None and (type(value) not in kinds or not wanted(value)):
+        raise Refused("BadState")
+    return value
+
+
+def reads_in_pieces(text):
+    """Whether a text is a sequence of characters and keys."""
+    return PIECES.fullmatch(text) is not None
+
+
+def count_instances(resource):
+    """How many instances a resource has, each of which is one."""
+    if type(resource) is not Members:
+        raise Refused("BadState")
+    members = dict(resource)
+    present(members, "module", [str], reads_in_pieces)
+    if members.get("mode") not in ("managed", "data") or not all(
+            isinstance(members.get(name), str) and members[name] for name in ("type", "name")):
+        raise Refused("BadState")
+    instances = present(members, "instances", [list]) or []
+    for instance in instances:
+        if type(instance) is not Members:
+            raise Refused("BadState")
+        own = dict(instance)
+        present(own, "index_key", [int, str], lambda key: isinstance(key, str) or key < 2**64)
+        present(own, "deposed", [str])
+        for text in present(own, "dependencies", [list]) or []:
+            if not isinstance(text, str) or not reads_in_pieces(text):
+                raise Refused("BadState")
+    return len(instances)
+
+
 def document_of(body):
     """Lineage, serial and bytes of the document that the bytes spell."""
     top = members_of(body, "BadState")
@@ -179,6 +217,8 @@ def document_of(body):
         raise Refused("BadState")
     if not isinstance(lineage, str) or not lineage:
         raise Refused("BadState")
+    if sum(map(count_instances, present(top, "resources", [list]) or [])) > MAX_INSTANCES:
+        raise Refused("TooManyInstances")
     return lineage, serial, body
 
 

@@ -3,7 +3,7 @@ use Rattle.std.proofs.Common.{◌≡◌, ◌≢◌, ◌∙◌, ℕ, List, [], �
 use Rattle.std.proofs.Common.{append_assoc, if◌then◌else◌}
 use Rattle.tfs_table.specs.Refusal.{RefusalValue, head_too_large, bad_head, bad_length, transfer_coding, body_too_large, no_route, method_not_allowed}
 use Rattle.tfs_table.specs.Refusal.{bad_name}
-use Rattle.tfs_table.specs.Refusal.{bad_lock_info, bad_state, journal_stopped, locked, lock_lost, lineage_differs, serial_too_low, serial_reused, no_state}
+use Rattle.tfs_table.specs.Refusal.{bad_lock_info, bad_state, too_many_instances, journal_stopped, locked, lock_lost, lineage_differs, serial_too_low, serial_reused, no_state}
 use Rattle.tfs_table.specs.Refusal.{table_full, journal_full, out_of_memory, journal_fault, row_of}
 use Rattle.tfs_table.specs.Reply.{ReplyValue, done, state, refused}
 use Rattle.tfs_http.specs.ReplyText.{status_of, allow_line, close_line, type_line, phrase_of, name_body, head_text}
@@ -49,6 +49,7 @@ refusal_has_phrase (method_not_allowed methods) e = cc
 refusal_has_phrase bad_name e = cc
 refusal_has_phrase bad_lock_info e = cc
 refusal_has_phrase bad_state e = cc
+refusal_has_phrase too_many_instances e = cc
 refusal_has_phrase journal_stopped e = cc
 refusal_has_phrase (locked info) e = cc
 refusal_has_phrase lock_lost e = cc

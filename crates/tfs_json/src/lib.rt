@@ -6,7 +6,7 @@ mod members;
 mod reading;
 
 pub use fault::JsonFault;
-pub use members::{text_at, whole_number_at};
+pub use members::{list_at, member_at, optional_text_at, text_at, whole_number_at};
 pub use reading::read_value;
 
 #[cfg(test)]

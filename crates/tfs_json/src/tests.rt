@@ -1,6 +1,6 @@
 //! Each call with ample memory, and refused requests for memory.
 
-use crate::{read_value, text_at, whole_number_at};
+use crate::{list_at, member_at, optional_text_at, read_value, text_at, whole_number_at};
 use std::test::Fail;
 
 #[test]
@@ -41,6 +41,45 @@ fn bytes_that_spell_no_value_are_told(rt: HostRuntime) -> Result<(), Fail> {
             Err(fault) => assert_eq!(rt; fault, crate::JsonFault::NotJson),
             Ok(_) => panic!(rt; "these bytes are no JSON text"),
         }
+    }
+    Ok(())
+}
+
+#[test]
+fn a_null_member_is_absent(rt: HostRuntime) -> Result<(), Fail> {
+    let value = read_value(
+        rt.alloc(),
+        br#"{"z":null,"t":"","n":7,"l":[null,{}],"e":[],"l":[1,null]}"#,
+    )?;
+    for (name, there) in [
+        ("z", false),
+        ("q", false),
+        ("t", true),
+        ("n", true),
+        ("l", true),
+    ] {
+        assert!(rt; member_at(&value, name).is_some() == there, "{name}");
+    }
+    for (name, found) in [
+        ("z", Some(None)),
+        ("q", Some(None)),
+        ("t", Some(Some(""))),
+        ("n", None),
+        ("l", None),
+    ] {
+        assert!(rt; optional_text_at(&value, name) == found, "{name}");
+    }
+    for (name, found) in [
+        ("z", Some(0)),
+        ("q", Some(0)),
+        ("e", Some(0)),
+        ("l", Some(2)),
+        ("t", None),
+    ] {
+        assert!(rt;
+            list_at(&value, name).map(|list| list.len()) == found,
+            "{name}"
+        );
     }
     Ok(())
 }

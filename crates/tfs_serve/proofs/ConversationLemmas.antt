@@ -12,7 +12,7 @@ use Rattle.tfs_http.specs.Form.{form_of}
 use Rattle.tfs_http.specs.Framing.{BeginsWith, AreWanted, IsUnfinished, framing_refusal}
 use Rattle.tfs_http.specs.ReplyText.{reply_text}
 use Rattle.tfs_http.proofs.MessageLemmas.{rest_behind}
-use Rattle.tfs_serve.specs.Conversation.{AnswersRequest, Exchange, Serves, Ends, IsReadThrough, ComesInReads, Leaves, MayGoOn}
+use Rattle.tfs_serve.specs.Conversation.{AnswersRequest, Exchange, Serves, Ends, IsReadThrough, ComesInReads, LeftOver, MayGoOn}
 use Rattle.tfs_serve.specs.Conversation.{closing_form}
 use Rattle.tfs_serve.specs.Turns.{WritesPart, FailsReading, Moment, moment, Moved, Went, HasEnded, HasBroken}
 use Rattle.tfs_serve.specs.declared.fault.ServeFault.{ServeFault}
@@ -258,7 +258,7 @@ module _ {S : Type 0} (step : S → Call → Reply → S → Type 0) where
       (moment new reader writer reads left) fault
   broken_answering old new reader into writer reads input left r used reply fault b is answers w =
       let x : Exchange = record { request = r; reply = reply } in
-      let l : Leaves = record { rest = left; exchanges = x ∷ []; last = []; lost = w.rest } in
+      let l : LeftOver = record { rest = left; exchanges = x ∷ []; last = []; lost = w.rest } in
       record {
         more = [];
         text = w.part;
@@ -279,7 +279,7 @@ module _ {S : Type 0} (step : S → Call → Reply → S → Type 0) where
       → HasBroken step (moment desk reader into reads input) (moment desk reader writer reads input) fault
   broken_refusing desk reader into writer reads input refusal fault is w =
       let text : List ℕ = reply_text (refused (refusal_value refusal)) closing_form in
-      let l : Leaves = record { rest = input; exchanges = []; last = text; lost = w.rest } in
+      let l : LeftOver = record { rest = input; exchanges = []; last = text; lost = w.rest } in
       record {
         more = [];
         text = w.part;

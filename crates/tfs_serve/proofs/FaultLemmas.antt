@@ -2,7 +2,7 @@
 use Rattle.std.proofs.Common.{◌≡◌, ◌≢◌, ◌≤◌, ◌⊎◌, ℕ, List, [], ◌∷◌, ◌++◌, refl, sym, ◌∙◌, ap, subst, arith, inl, inr}
 use Rattle.std.proofs.Common.{append_assoc}
 use Rattle.tfs_http.specs.Framing.{IsUnfinished}
-use Rattle.tfs_serve.specs.Conversation.{Exchange, Leaves, IsLastReply, ComesAt}
+use Rattle.tfs_serve.specs.Conversation.{Exchange, LeftOver, IsLastReply, ComesAt}
 use Rattle.tfs_serve.specs.Turns.{FailsReading}
 use Rattle.tfs_serve.specs.declared.fault.ServeFault.{ServeFault}
 use Rattle.tfs_serve.specs.declared.fault.ServeFault.TheVariants.{Read as ReadFault, Write, TooManyReads, NoMemory}
@@ -16,7 +16,7 @@ comes_reading TooManyReads rest exchanges before after fails more = ((refl, refl
 comes_reading NoMemory rest exchanges before after fails more = inl ((refl, refl), inl more)
 
 -- A fault while a reply is written loses its end: of the last exchange's, or of the one that was to end the conversation.
-pub comes_writing : (fault : ServeFault) (l : Leaves) (text part : List ℕ) (before after : ℕ) → IsLastReply l text → text ≡ part ++ l.lost
+pub comes_writing : (fault : ServeFault) (l : LeftOver) (text part : List ℕ) (before after : ℕ) → IsLastReply l text → text ≡ part ++ l.lost
     → ((fault ≡ Write) × (l.lost ≢ [])) ⊎ ((fault ≡ NoMemory) × (part ≡ [])) → ComesAt fault l before after
 comes_writing fault l text part before after is split (inl w) =
     subst (λ (f : ServeFault). ComesAt f l before after) (sym w.0) (part, subst (IsLastReply l) split is, w.1)
@@ -24,17 +24,17 @@ comes_writing fault l text part before after is split (inr m) =
     subst (λ (f : ServeFault). ComesAt f l before after) (sym m.0) (inr (subst (IsLastReply l) (split ∙ ap (λ (t : List ℕ). t ++ l.lost) m.1) is))
 
 -- The same where there were exchanges before.
-abbrev pub later : List Exchange → Leaves → Leaves
+abbrev pub later : List Exchange → LeftOver → LeftOver
 later xs l = record { rest = l.rest; exchanges = xs ++ l.exchanges; last = l.last; lost = l.lost }
 
 -- The last reply stays the last.
-last_reply_later : (xs : List Exchange) (l : Leaves) (text : List ℕ) → IsLastReply l text → IsLastReply (later xs l) text
+last_reply_later : (xs : List Exchange) (l : LeftOver) (text : List ℕ) → IsLastReply l text → IsLastReply (later xs l) text
 last_reply_later xs l text (inl last) = inl last
 last_reply_later xs l text (inr w) =
     inr (xs ++ w.0, w.1, ap (λ (t : List Exchange). xs ++ t) w.2 ∙ sym (append_assoc xs w.0 (w.1 ∷ [])), w.3, w.4)
 
 -- A fault comes as it did.
-pub comes_later : (fault : ServeFault) (xs : List Exchange) (l : Leaves) (before between after : ℕ) → before ≤ between → ComesAt fault l between after
+pub comes_later : (fault : ServeFault) (xs : List Exchange) (l : LeftOver) (before between after : ℕ) → before ≤ between → ComesAt fault l between after
     → ComesAt fault (later xs l) before after
 comes_later ReadFault xs l before between after counted c = (c.0, c.1, omega (arith, counted, c.2))
 comes_later Write xs l before between after counted c = (c.0, last_reply_later xs l (c.0 ++ l.lost) c.1, c.2)

@@ -77,14 +77,14 @@ pub record ComesInReads (bytes : List ℕ) (before after : ℕ) : Type 0 where
 
 -- What a fault leaves: the bytes that have no answer, the exchanges, the text of the refusal that was to end the conversation,
 -- empty without one, and the end of all this text that wasn't written.
-pub record Leaves : Type 0 where
+pub record LeftOver : Type 0 where
   pub rest : List ℕ
   pub exchanges : List Exchange
   pub last : List ℕ
   pub lost : List ℕ
 
 -- Each reply was written, and none was to end the conversation.
-abbrev pub IsBetween : Leaves → Type 0
+abbrev pub IsBetween : LeftOver → Type 0
 IsBetween l = (l.last ≡ []) × (l.lost ≡ [])
 
 -- The bytes have no refusal: they are unfinished, or begin with a message.
@@ -92,7 +92,7 @@ abbrev pub MayGoOn : List ℕ → Type 0
 MayGoOn rest = IsUnfinished rest ⊎ ((r : RequestValue) × (used : ℕ) × BeginsWith rest r used)
 
 -- The text is that of the last reply: of the refusal that was to end the conversation, or of the last exchange without one.
-abbrev pub IsLastReply : Leaves → List ℕ → Type 0
+abbrev pub IsLastReply : LeftOver → List ℕ → Type 0
 IsLastReply l text =
     ((text ≡ l.last) × (l.last ≢ []))
     ⊎ ((before : List Exchange) × (x : Exchange) × (l.exchanges ≡ before ++ x ∷ []) × (l.last ≡ []) × (text ≡ reply_text x.reply (form_of x.request)))
@@ -100,7 +100,7 @@ IsLastReply l text =
 -- Where a fault comes, between two counts of reads. The reader's comes after a read, and that of too many reads after 1,048,576;
 -- the bytes that are left are unfinished. The writer's comes while a reply is written, whose end is lost. Want of memory comes
 -- between messages, or the whole text of a reply is lost.
-abbrev pub ComesAt : ServeFault → Leaves → ℕ → ℕ → Type 0
+abbrev pub ComesAt : ServeFault → LeftOver → ℕ → ℕ → Type 0
 ComesAt Read l before after = IsBetween l × IsUnfinished l.rest × (before < after)
 ComesAt TooManyReads l before after = IsBetween l × IsUnfinished l.rest × (after ≡ 1048576)
 ComesAt Write l before after = (part : List ℕ) × IsLastReply l (part ++ l.lost) × (l.lost ≢ [])
@@ -110,7 +110,7 @@ ComesAt NoMemory l before after = (IsBetween l × MayGoOn l.rest) ⊎ IsLastRepl
 -- text of the replies but for the end that is lost.
 pub record BreaksOff {S : Type 0} (step : S → Call → Reply → S → Type 0) (old new : S) (bytes text : List ℕ) (fault : ServeFault)
     (before after : ℕ) : Type 0 where
-  pub left : Leaves
+  pub left : LeftOver
   pub served : List ℕ
   pub serves : Serves step old bytes left.exchanges new left.rest served
   pub end : (left.last ≡ []) ⊎ Ends left.rest left.last Refused

@@ -1,1 +1,9 @@
+pub mod AddressLemmas
+pub mod ContentsLemmas
+pub mod DocLemmas
+pub mod ListLemmas
+pub mod NamesLemmas
+pub mod NumberingLemmas
+pub mod ResultLemmas
 pub mod StateTextLemmas
+pub mod TablesLemmas

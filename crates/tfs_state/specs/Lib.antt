@@ -1,2 +1,9 @@
+pub mod Contents
+pub mod Dependency
 pub mod Document
+pub mod Names
+pub mod Numbering
+pub mod Parts
+pub mod Resources
 pub mod StateText
+pub mod Tables

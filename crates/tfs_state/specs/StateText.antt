@@ -1,16 +1,13 @@
 -- The state text: which bytes spell a state document, and the first fault of those that spell none.
-use Rattle.std.specs.Prelude.{◌≡◌, ℕ, ◌≤◌, List, [], ◌∷◌, length, codes, if◌then◌else◌, not, is_none, nat_eq, nat_le, Option, Some, None, option_and_then, option_map}
-use Rattle.std.specs.Option.{option_eq, option_map_or}
+use Rattle.std.specs.Prelude.{◌≡◌, ℕ, ◌≤◌, List, [], length, codes, if◌then◌else◌, nat_eq, nat_le, Option, Some, None, option_and_then, option_map, Result, Ok, Err}
+use Rattle.std.specs.Option.{option_eq, unwrap_or, ok_or}
+use Rattle.std.specs.Result.{result_ok, result_err}
 use Rattle.serde_json.specs.Data.{Data}
-use Rattle.tfs_json.specs.Json.{json_value, text_at, whole_number_at}
-use Rattle.tfs_state.specs.Document.{Document}
+use Rattle.tfs_json.specs.Json.{json_value, text_at, whole_number_at, list_at}
+use Rattle.tfs_state.specs.Document.{Instance, Document}
+use Rattle.tfs_state.specs.Resources.{filled_text, result_and_then, result_map, read_resources}
 use Rattle.tfs_state.specs.declared.fault.StateFault.{StateFault}
-use Rattle.tfs_state.specs.declared.fault.StateFault.TheVariants.{NotJson, Version, Serial, Lineage}
-
--- A text that isn't empty.
-abbrev pub filled_text : List ℕ → Option (List ℕ)
-filled_text [] = None
-filled_text (byte ∷ bytes) = Some (byte ∷ bytes)
+use Rattle.tfs_state.specs.declared.fault.StateFault.TheVariants.{NotJson, Version, Serial, Lineage, Resource, TooManyInstances}
 
 -- The version of the format.
 abbrev pub version_of : Data → Option ℕ
@@ -24,11 +21,48 @@ serial_of = whole_number_at (codes "serial")
 abbrev pub lineage_of : Data → Option (List ℕ)
 lineage_of value = option_and_then filled_text (text_at (codes "lineage") value)
 
--- The value is that of a state with the document's serial and lineage.
+-- At most 4,096 instances.
+abbrev pub few_instances : List Instance → Result (List Instance) StateFault
+few_instances instances = if nat_le (length instances) 4096 then Ok instances else Err TooManyInstances
+
+-- All instances of a state's value, or the first fault of its resources. Their number is looked at last.
+unfoldable pub instances_of : Data → Result (List Instance) StateFault
+instances_of value = result_and_then few_instances
+    (result_and_then read_resources (ok_or (list_at (codes "resources") value) (Resource 0)))
+
+-- What a value says of a state.
+pub record Content : Type 0 where
+  pub serial : ℕ
+  pub lineage : List ℕ
+  pub instances : List Instance
+
+-- The content of a value, or its first fault: its version is looked at before its serial, that before its lineage, and that
+-- before its resources. A value that is no object has no version.
+unfoldable pub content_of : Data → Result Content StateFault
+content_of value = if option_eq nat_eq (version_of value) (Some 4)
+    then result_and_then (λ serial.
+    result_and_then (λ lineage.
+    result_map (λ instances. record { serial = serial; lineage = lineage; instances = instances })
+    (instances_of value))
+    (ok_or (lineage_of value) Lineage))
+    (ok_or (serial_of value) Serial)
+    else Err Version
+
+-- The content of a text, or its first fault.
+abbrev pub text_content : List ℕ → Result Content StateFault
+text_content bytes = result_and_then content_of (ok_or (json_value bytes) NotJson)
+
+-- The document of a text with such a content.
+abbrev pub document_with : List ℕ → Content → Document
+document_with bytes content =
+    record { bytes = bytes; serial = content.serial; lineage = content.lineage; instances = content.instances }
+
+-- The value is that of a state with the document's serial, lineage and instances.
 pub record Describes (value : Data) (d : Document) : Type 0 where
   pub version : version_of value ≡ Some 4
   pub serial : serial_of value ≡ Some d.serial
   pub lineage : lineage_of value ≡ Some d.lineage
+  pub instances : instances_of value ≡ Ok d.instances
 
 -- The bytes are the text of the document.
 pub record SpellsDocument (bytes : List ℕ) (d : Document) : Type 0 where
@@ -36,24 +70,15 @@ pub record SpellsDocument (bytes : List ℕ) (d : Document) : Type 0 where
   pub kept : d.bytes ≡ bytes
   pub described : (value : Data) × (json_value bytes ≡ Some value) × Describes value d
 
--- The first fault of a value: its version is looked at before its serial, and that before its lineage. A value that is
--- no object has no version.
-abbrev pub first_member_fault : Data → Option StateFault
-first_member_fault value = if not (option_eq nat_eq (version_of value) (Some 4)) then Some Version
-    else (if is_none (serial_of value) then Some Serial
-    else (if is_none (lineage_of value) then Some Lineage else None))
-
 -- The first fault of the bytes, or none.
 abbrev pub first_state_fault : List ℕ → Option StateFault
-first_state_fault bytes = option_map_or first_member_fault (json_value bytes) (Some NotJson)
+first_state_fault bytes = result_err (text_content bytes)
 
 -- The document of the bytes, where they spell one: `SpellsDocument` as a function.
 abbrev pub document_of : List ℕ → Option Document
-document_of bytes = if nat_le (length bytes) 16777216 then option_and_then members_of (json_value bytes) else None
-  where
-    with_lineage : ℕ → Option (List ℕ) → Option Document
-    with_lineage serial lineage = option_map (λ text. record { bytes = bytes; serial = serial; lineage = text }) lineage
+document_of bytes = if nat_le (length bytes) 16777216
+    then option_map (document_with bytes) (result_ok (text_content bytes)) else None
 
-    members_of : Data → Option Document
-    members_of value = if option_eq nat_eq (version_of value) (Some 4)
-        then option_and_then (λ serial. with_lineage serial (lineage_of value)) (serial_of value) else None
+-- The document of the bytes, where they spell one; else one that has them and nothing more.
+abbrev pub document_given : List ℕ → Document
+document_given bytes = unwrap_or (document_of bytes) (record { bytes = bytes; serial = 0; lineage = []; instances = [] })

@@ -1,14 +1,18 @@
 //! The state document.
 
-ghost use Rattle.std.specs.Prelude.{◌≡◌, ◌≢◌, ◌≤◌, ◌<◌, Some, IfOk, IfErr, length};
+ghost use Rattle.std.specs.Prelude.{◌≡◌, ◌≢◌, ◌≤◌, ◌<◌, ◌↔◌, ◌==◌, Some, IfOk, IfErr, IsTrue, length};
+ghost use Rattle.std.specs.List.{list_any};
+ghost use Rattle.tfs_state.specs.Dependency.{DependsOn, address_of, config_of};
+ghost use Rattle.tfs_state.specs.Numbering.{IsNumbering};
 ghost use Rattle.tfs_state.specs.StateText.{SpellsDocument, first_state_fault};
 ghost use Rattle.tfs_state.specs.declared.fault.StateFault.TheVariants.{NoMemory};
 
+use crate::address::Address;
+use crate::content::{Content, read_text};
 use crate::fault::StateFault;
-use crate::members::{lineage_of, serial_of, version_of};
+use crate::numbers::Numbers;
 use std::alloc::Global;
 use std::marker::Model;
-use tfs_json::{JsonFault, read_value};
 
 /// The most bytes that a state may have: 16 MiB.
 pub const MAX_STATE_BYTES: usize = 16_777_216;
@@ -20,21 +24,19 @@ const _: () = prove!(MAX_STATE_BYTES == 16_777_216);
 #[derive(Drop)]
 pub struct Doc {
     bytes: Vec<u8>,
-    serial: u64,
-    lineage: String,
+    content: Content,
 }
 
 impl Model for Doc {
-    ghost use Rattle.std.specs.Prelude.{string_bytes};
     ghost use Rattle.tfs_state.specs.Document.{Document};
-    ghost use Rattle.tfs_state.specs.StateText.{SpellsDocument};
+    ghost use Rattle.tfs_state.specs.StateText.{document_given};
+    ghost use Rattle.tfs_state.specs.Contents.{Keeps};
 
     ghost Value = { Document };
 
-    ghost view = { λ d. record { bytes = d.bytes.items; serial = d.serial; lineage = string_bytes d.lineage } };
+    ghost view = { λ d. document_given d.bytes.items };
 
-    ghost invariant = { λ d. SpellsDocument d.bytes.items
-        (record { bytes = d.bytes.items; serial = d.serial; lineage = string_bytes d.lineage }) };
+    ghost invariant = { λ d. Keeps d.bytes.items d.content };
 }
 
 impl Doc {
@@ -46,28 +48,8 @@ impl Doc {
         ensures err { IfErr result (λ fault. fault ≢ NoMemory
             → first_state_fault bytes.items ≡ Some fault) }
     {
-        let value = match read_value(alloc, bytes.as_slice()) {
-            Ok(value) => value,
-            Err(JsonFault::NotJson) => return Err(StateFault::NotJson),
-            Err(JsonFault::NoMemory) => return Err(StateFault::NoMemory),
-        };
-        if version_of(&value) != Some(4) {
-            return Err(StateFault::Version);
-        }
-        let Some(serial) = serial_of(&value) else {
-            return Err(StateFault::Serial);
-        };
-        let Some(lineage) = lineage_of(&value) else {
-            return Err(StateFault::Lineage);
-        };
-        match String::from_str(alloc, lineage) {
-            Ok(lineage) => Ok(Doc {
-                bytes,
-                serial,
-                lineage,
-            }),
-            Err(_) => Err(StateFault::NoMemory),
-        }
+        let content = read_text(alloc, bytes.as_slice())?;
+        Ok(Doc { bytes, content })
     }
 
     /// The text, byte for byte as it came.
@@ -82,21 +64,67 @@ impl Doc {
     pub fn serial(&self) -> u64
         ensures value { result ≡ self.now.serial }
     {
-        self.serial
+        self.content.serial
     }
 
     /// The name that all states of one history bear, in UTF-8.
     pub fn lineage(&self) -> &str
         ensures value { result.now ≡ self.now.lineage }
     {
-        self.lineage.as_str()
+        self.content.lineage.as_str()
     }
 
-    /// How many resource instances the document lists. Resources aren't looked at yet: it is 0 whatever the text has, and no
-    /// fact of the document.
+    /// How many resource instances the document lists: 4,096 at most.
     pub fn len(&self) -> usize
-        ensures none { result ≡ 0 }
+        ensures value { result ≡ length self.now.instances }
+        ensures limit { result ≤ 4096 }
     {
-        0
+        self.content.rows.len()
     }
+
+    /// The address of an instance.
+    pub fn address(&self, i: usize) -> Address<'_>
+        requires { i < length self.now.instances }
+        ensures value { address_of self.now i ≡ Some result }
+    {
+        let row = self.content.row(i);
+        let block = self.content.block(row.block);
+        Address::new(block.front.as_str(), row.tail.as_str())
+    }
+
+    /// The configuration address of an instance.
+    pub fn config(&self, i: usize) -> &str
+        requires { i < length self.now.instances }
+        ensures value { config_of self.now i ≡ Some result.now }
+    {
+        let row = self.content.row(i);
+        let block = self.content.block(row.block);
+        block.config.as_str()
+    }
+
+    /// The numbers of the instances' configuration addresses and dependencies.
+    pub fn numbers(&self) -> Numbers<'_>
+        ensures value { IsNumbering self.now result }
+    {
+        Numbers::new(self.content.blocks.as_slice(), self.content.rows.as_slice())
+    }
+
+    /// Whether instance u depends on instance v.
+    pub fn depends(&self, u: usize, v: usize) -> bool
+        requires u { u < length self.now.instances }
+        requires v { v < length self.now.instances }
+        ensures value { IsTrue result ↔ DependsOn self.now u v }
+    {
+        let row = self.content.row(v);
+        let block = self.content.block(row.block);
+        let other = self.content.row(u);
+        has_number(other.dependencies.as_slice(), block.number)
+    }
+}
+
+/// Whether a number is among others.
+fn has_number(numbers: &[u32], number: u32) -> bool
+    ensures { result ≡ list_any (λ n. n == number) numbers.now }
+{
+    numbers.contains(&number)
 }

@@ -1,5 +1,9 @@
 //! The faults of state texts.
 
+ghost use Rattle.std.specs.Prelude.{◌≡◌};
+ghost use Rattle.tfs_state.specs.declared.fault.StateFault.TheVariants.{NoMemory};
+
+use std::alloc::AllocError;
 use thiserror::Error;
 
 /// Why bytes are not read as a state document. The variants stand in the order in which faults are looked for.
@@ -17,7 +21,29 @@ pub enum StateFault {
     /// `lineage` isn't a text, or is the empty one.
     #[error("the state's lineage isn't a text, or is empty")]
     Lineage,
+    /// The element of `resources` with this number isn't a resource by its own members. Where `resources` is no list, the
+    /// number is 0.
+    #[error("resource {0} of the state isn't one")]
+    Resource(usize),
+    /// Of the resource with the first number, the instance with the second isn't one by its own members.
+    #[error("instance {1} of resource {0} of the state isn't one")]
+    Instance(usize, usize),
+    /// Of the resource with the first number and its instance with the second, the dependency with the third isn't a text
+    /// that is stripped.
+    #[error("dependency {2} of instance {1} of resource {0} of the state is no address")]
+    Dependency(usize, usize, usize),
+    /// There are more than 4,096 instances.
+    #[error("the state has more than 4096 instances")]
+    TooManyInstances,
     /// A request for memory was refused.
     #[error("no memory to read the state")]
     NoMemory,
+}
+
+impl From<AllocError> for StateFault {
+    ghost from_gives = { λ _ e. e ≡ NoMemory };
+
+    fn from(_error: AllocError) -> StateFault {
+        StateFault::NoMemory
+    }
 }

@@ -1,15 +1,25 @@
-//! Reads state documents of Terraform's state format, version 4, and keeps their text as it came.
-//! So far a document has a version, a serial and a lineage; its resources aren't looked at yet.
+//! Reads state documents of Terraform's state format, version 4, and keeps their text as it came: the resource instances that
+//! a state lists, their addresses, and which instance depends on which.
 #![tactic(auto)]
 
+mod address;
+mod content;
 mod doc;
 mod fault;
+mod instance;
 mod laws;
 mod members;
+mod names;
+mod numbers;
+mod resource;
+mod tables;
+mod texts;
 
+pub use address::Address;
 pub use doc::{Doc, MAX_STATE_BYTES};
 pub use fault::StateFault;
 pub use laws::bytes_spell_a_document_or_have_a_fault;
+pub use numbers::Numbers;
 
 #[cfg(test)]
 mod tests;

@@ -1,5 +1,7 @@
 //! Texts with their answers, worked out by hand from RFC 8259 and from Terraform's state format, version 4.
 
+mod resources;
+
 use super::*;
 use std::alloc::Global;
 use std::process::Abort;
@@ -18,7 +20,6 @@ fn expect(
             assert!(rt; doc.bytes() == text, "the text is kept");
             assert_eq!(rt; doc.serial(), serial);
             assert_eq!(rt; doc.lineage(), lineage);
-            assert_eq!(rt; doc.len(), 0);
         }
         (Err(found), Err(fault)) => assert_eq!(rt; *found, fault),
         _ => panic!(rt; "one of the two is a fault"),

@@ -3,7 +3,7 @@ use Rattle.std.proofs.Common.{◌≡◌, ◌≢◌, ◌⊎◌, ◌∙◌, ℕ, L
 use Rattle.std.specs.Option.{option_map_or}
 use Rattle.tfs_state.specs.StateText.{first_state_fault, document_of}
 use Rattle.tfs_state.specs.declared.fault.StateFault.{StateFault}
-use Rattle.tfs_state.specs.declared.fault.StateFault.TheVariants.{NotJson, Version, Serial, Lineage, NoMemory}
+use Rattle.tfs_state.specs.declared.fault.StateFault.TheVariants.{NotJson, Version, Serial, Lineage, Resource, Instance, Dependency, TooManyInstances, NoMemory}
 use Rattle.tfs_table.specs.Draft.{state_refusal, state_text_refusal}
 use Rattle.tfs_table.specs.Refusal.{RefusalValue, bad_state, out_of_memory}
 
@@ -18,6 +18,10 @@ state_text_refused bytes fault given is told none =
       | Version ↦ λ e. inr (first (λ m. cc) e)
       | Serial ↦ λ e. inr (first (λ m. cc) e)
       | Lineage ↦ λ e. inr (first (λ m. cc) e)
+      | Resource i ↦ λ e. inr (first (λ m. cc) e)
+      | Instance i j ↦ λ e. inr (first (λ m. cc) e)
+      | Dependency i j k ↦ λ e. inr (first (λ m. cc) e)
+      | TooManyInstances ↦ λ e. inr (first (λ m. cc) e)
       | NoMemory ↦ λ e. inl (is ∙ ap state_refusal e)
     ] refl
   where

@@ -13,7 +13,7 @@ use Rattle.tfs_table.specs.declared.call.Call.{Call}
 use Rattle.tfs_table.specs.declared.call.Call.TheVariants.{Read, Change}
 use Rattle.tfs_table.specs.declared.call.Raw.{Raw}
 use Rattle.tfs_table.specs.declared.call.Raw.TheVariants.{Lock, Unlock, Push, Delete}
-use Rattle.tfs_table.specs.Refusal.{RefusalValue, bad_lock_info, bad_state, out_of_memory}
+use Rattle.tfs_table.specs.Refusal.{RefusalValue, bad_lock_info, bad_state, too_many_instances, out_of_memory}
 
 -- The identifier that a text gives: none, where there is no text or the empty one.
 abbrev pub id_given : Option (List ℕ) → Option (List ℕ)
@@ -48,6 +48,10 @@ state_refusal state_fault.NotJson = bad_state
 state_refusal state_fault.Version = bad_state
 state_refusal state_fault.Serial = bad_state
 state_refusal state_fault.Lineage = bad_state
+state_refusal (state_fault.Resource i) = bad_state
+state_refusal (state_fault.Instance i j) = bad_state
+state_refusal (state_fault.Dependency i j k) = bad_state
+state_refusal state_fault.TooManyInstances = too_many_instances
 state_refusal state_fault.NoMemory = out_of_memory
 
 -- The refusal of a lock text that spells no lock information, by its first fault.

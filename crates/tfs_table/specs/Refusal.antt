@@ -5,7 +5,7 @@ use Rattle.std.specs.Arc.{arc_value}
 use Rattle.tfs_lock.specs.LockInfo.{LockInformation}
 use Rattle.tfs_table.specs.declared.refusal.Methods.{Methods}
 use Rattle.tfs_table.specs.declared.refusal.Refusal.{Refusal}
-use Rattle.tfs_table.specs.declared.refusal.Refusal.TheVariants.{HeadTooLarge, BadHead, BadLength, TransferCoding, BodyTooLarge, NoRoute, MethodNotAllowed, BadName, BadLockInfo, BadState, JournalStopped, Locked, LockLost, LineageDiffers, SerialTooLow, SerialReused, NoState, TableFull, JournalFull, OutOfMemory, JournalFault}
+use Rattle.tfs_table.specs.declared.refusal.Refusal.TheVariants.{HeadTooLarge, BadHead, BadLength, TransferCoding, BodyTooLarge, NoRoute, MethodNotAllowed, BadName, BadLockInfo, BadState, TooManyInstances, JournalStopped, Locked, LockLost, LineageDiffers, SerialTooLow, SerialReused, NoState, TableFull, JournalFull, OutOfMemory, JournalFault}
 
 -- Why a request is refused. `locked` has the information of the holder, where the program's refusal has a pointer to it, and
 -- `method_not_allowed` the methods of the route.
@@ -20,6 +20,7 @@ pub data RefusalValue : Type 0 where
   bad_name : RefusalValue
   bad_lock_info : RefusalValue
   bad_state : RefusalValue
+  too_many_instances : RefusalValue
   journal_stopped : RefusalValue
   locked : LockInformation → RefusalValue
   lock_lost : RefusalValue
@@ -44,6 +45,7 @@ refusal_value (MethodNotAllowed methods) = method_not_allowed methods
 refusal_value BadName = bad_name
 refusal_value BadLockInfo = bad_lock_info
 refusal_value BadState = bad_state
+refusal_value TooManyInstances = too_many_instances
 refusal_value JournalStopped = journal_stopped
 refusal_value (Locked info) = locked (arc_value info)
 refusal_value LockLost = lock_lost
@@ -78,6 +80,7 @@ row_of (method_not_allowed methods) = row 8 (codes "MethodNotAllowed") 405
 row_of bad_name = row 9 (codes "BadName") 400
 row_of bad_lock_info = row 11 (codes "BadLockInfo") 400
 row_of bad_state = row 12 (codes "BadState") 400
+row_of too_many_instances = row 13 (codes "TooManyInstances") 413
 row_of journal_stopped = row 14 (codes "JournalStopped") 503
 row_of (locked info) = row 15 (codes "Locked") 423
 row_of lock_lost = row 16 (codes "LockLost") 409

@@ -37,7 +37,7 @@ impl Model for Draft {
 }
 
 impl Draft {
-    /// Reads the texts of a raw change. A refusal is `BadLockInfo` or `BadState`, the first that fits, but for
+    /// Reads the texts of a raw change. A refusal is `BadLockInfo`, `BadState` or `TooManyInstances`, the first that fits, but for
     /// `OutOfMemory`, which comes wherever a request for memory is refused. A change that has no body, or is refused before
     /// its body is looked at, requests none.
     pub fn read(alloc: Global, raw: Raw) -> Result<Draft, Refusal>
@@ -191,8 +191,14 @@ fn refusal_of_state_text(fault: StateFault) -> Refusal
     ensures { refusal_value result ≡ state_refusal fault }
 {
     match fault {
-        StateFault::NotJson | StateFault::Version | StateFault::Serial | StateFault::Lineage =>
-            Refusal::BadState,
+        StateFault::NotJson
+        | StateFault::Version
+        | StateFault::Serial
+        | StateFault::Lineage
+        | StateFault::Resource(_)
+        | StateFault::Instance(_, _)
+        | StateFault::Dependency(_, _, _) => Refusal::BadState,
+        StateFault::TooManyInstances => Refusal::TooManyInstances,
         StateFault::NoMemory => Refusal::OutOfMemory,
     }
 }

@@ -39,6 +39,8 @@ pub enum Refusal {
     BadLockInfo,
     #[error("the body is no state")]
     BadState,
+    #[error("the state has too many instances")]
+    TooManyInstances,
     #[error("the journal has failed and takes no more changes")]
     JournalStopped,
     /// With the information of the lock that is held.
@@ -105,6 +107,7 @@ impl Refusal {
             Refusal::BadName => (9, "BadName", 400),
             Refusal::BadLockInfo => (11, "BadLockInfo", 400),
             Refusal::BadState => (12, "BadState", 400),
+            Refusal::TooManyInstances => (13, "TooManyInstances", 413),
             Refusal::JournalStopped => (14, "JournalStopped", 503),
             Refusal::Locked(_) => (15, "Locked", 423),
             Refusal::LockLost => (16, "LockLost", 409),

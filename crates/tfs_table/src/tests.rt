@@ -136,6 +136,7 @@ fn each_refusal_has_its_number_name_and_status(rt: HostRuntime) -> Result<(), Fa
         (Refusal::BadName, 9, "BadName", 400),
         (Refusal::BadLockInfo, 11, "BadLockInfo", 400),
         (Refusal::BadState, 12, "BadState", 400),
+        (Refusal::TooManyInstances, 13, "TooManyInstances", 413),
         (Refusal::JournalStopped, 14, "JournalStopped", 503),
         (Refusal::LockLost, 16, "LockLost", 409),
         (Refusal::LineageDiffers, 17, "LineageDiffers", 409),

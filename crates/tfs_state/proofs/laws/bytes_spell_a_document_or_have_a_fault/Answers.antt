@@ -1,6 +1,18 @@
--- Bytes with no fault spell a document; the other two laws hold by computation.
-use Rattle.tfs_state.proofs.StateTextLemmas.{spelled_without_fault}
+-- Bytes spell a document exactly where they have one, and no fault.
+use Rattle.tfs_state.proofs.StateTextLemmas.{spelled_faultless, faultless_spelled, given_spelled, spelled_computed}
 use Rattle.tfs_state.proofs.laws.bytes_spell_a_document_or_have_a_fault.Goals as goal
 
+pub returns-clause-spelled : goal.returns-clause-spelled
+returns-clause-spelled c = spelled_faultless
+
 pub returns-clause-faultless : goal.returns-clause-faultless
-returns-clause-faultless c = spelled_without_fault
+returns-clause-faultless c = faultless_spelled
+
+pub returns-clause-once : goal.returns-clause-once
+returns-clause-once c bytes d e h k = let one = spelled_computed bytes d h in let other = spelled_computed bytes e k in cc
+
+pub returns-clause-given : goal.returns-clause-given
+returns-clause-given c = given_spelled
+
+pub returns-clause-computed : goal.returns-clause-computed
+returns-clause-computed c = spelled_computed

@@ -1,0 +1,123 @@
+-- Laws of specs/Contents.antt, and of the document that a text spells.
+use Rattle.std.proofs.Common.{codes, nat_eq, not, Bool, ◌≡◌, ℕ, ◌≤◌, ◌<◌, List, length, true, false, cond, Option, Some, None, Ok, Err, string_bytes, refl, sym, ap, subst, ◌∙◌, arith}
+use Rattle.std.specs.Option.{ok_or, option_eq}
+use Rattle.std.proofs.lemmas.Bool.{le-leb, lt-leb, eqb-true}
+use Rattle.serde_json.specs.Data.{Data}
+use Rattle.tfs_json.specs.Json.{list_at}
+use Rattle.tfs_state.specs.Document.{Instance}
+use Rattle.tfs_state.specs.Names.{AreApart}
+use Rattle.tfs_state.specs.Resources.{result_and_then, result_map, read_each, read_resource, read_resources, joined}
+use Rattle.tfs_state.specs.StateText.{few_instances, instances_of, content_of, version_of, serial_of, lineage_of}
+use Rattle.tfs_state.specs.declared.fault.StateFault.TheVariants.{Version, Serial, Lineage, Resource, TooManyInstances}
+use Rattle.tfs_state.specs.declared.fault.StateFault.{StateFault}
+use Rattle.tfs_state.specs.Tables.{ReadsResources}
+use Rattle.tfs_state.specs.Contents.{Stand, ReadsInstancesOf, ReadsContent}
+use Rattle.tfs_state.specs.declared.content.Content.{Content}
+use Rattle.tfs_state.specs.declared.tables.Tables.{Tables}
+use Rattle.tfs_state.proofs.ListLemmas.{zip_length}
+
+-- A test of an optional number that holds.
+pub is_number : (o : Option ℕ) (n : ℕ) → option_eq nat_eq o (Some n) ≡ true → o ≡ Some n
+is_number None n e = cc
+is_number (Some m) n e = ap Some (eqb-true m n e)
+
+-- All instances of a list of resources.
+all_read : (value : Data) (values : List Data) (lists : List (List Instance)) → Some values ≡ list_at (codes "resources") value
+    → read_each read_resource 0 values ≡ Ok lists → instances_of value ≡ few_instances (joined lists)
+unfolding instances_of
+all_read value values lists is e =
+    ap (λ o. result_and_then few_instances (result_and_then read_resources (ok_or o (Resource 0)))) (sym is)
+    ∙ ap (λ r. result_and_then few_instances (result_map joined r)) e
+
+-- At most 4,096 instances were read as tables, of which the blocks and the rows stay.
+pub instances_read : (value : Data) (values : List Data) (tables kept : Tables) → Some values ≡ list_at (codes "resources") value
+    → ReadsResources values tables → AreApart tables.names → length tables.rows.items ≤ 4096
+    → kept.blocks.items ≡ tables.blocks.items → kept.rows.items ≡ tables.rows.items → ReadsInstancesOf value kept
+instances_read value values tables kept is r apart few blocks rows =
+    let long = zip_length _ tables.rows.items (joined r.lists) r.stand in
+    let limit : length (joined r.lists) ≤ 4096 = omega (arith, long, few) in
+    record {
+      instances = joined r.lists;
+      read = all_read value values r.lists is r.read
+          ∙ ap (λ b. cond b (Ok (joined r.lists)) (Err TooManyInstances)) (le-leb (length (joined r.lists)) 4096 limit);
+      limit = limit;
+      stand = subst (λ bs. Stand bs kept.rows.items (joined r.lists)) (sym blocks)
+          (subst (λ rs. Stand tables.blocks.items rs (joined r.lists)) (sym rows)
+          (record { names = tables.names; apart = apart; each = r.stand }));
+    }
+
+-- More than 4,096 instances.
+pub many_instances : (value : Data) (values : List Data) (tables : Tables) → Some values ≡ list_at (codes "resources") value
+    → ReadsResources values tables → 4096 < length tables.rows.items → instances_of value ≡ Err TooManyInstances
+many_instances value values tables is r many =
+    let long = zip_length _ tables.rows.items (joined r.lists) r.stand in
+    all_read value values r.lists is r.read
+    ∙ ap (λ b. cond b (Ok (joined r.lists)) (Err TooManyInstances)) (lt-leb (length (joined r.lists)) 4096 (omega (arith, long, many)))
+
+-- The content of a value whose parts were read.
+pub content_read : (value : Data) (parts : Content) (tables : Tables) → version_of value ≡ Some 4 → serial_of value ≡ Some parts.serial
+    → lineage_of value ≡ Some (string_bytes parts.lineage) → ReadsInstancesOf value tables
+    → parts.blocks ≡ tables.blocks → parts.rows ≡ tables.rows → ReadsContent value parts
+unfolding content_of
+content_read value parts tables version serial lineage r blocks rows = record {
+  content = record { serial = parts.serial; lineage = string_bytes parts.lineage; instances = r.instances };
+  read = rw version (rw serial (rw lineage (rw r.read refl)));
+  holds = record {
+    serial = refl;
+    lineage = refl;
+    limit = r.limit;
+    stand = subst (λ v. Stand v.items parts.rows.items r.instances) (sym blocks) (subst (λ v. Stand tables.blocks.items v.items r.instances) (sym rows) r.stand);
+  };
+}
+
+-- A member `resources` that is no list.
+pub no_list : (value : Data) → None ≡ list_at (codes "resources") value → instances_of value ≡ Err (Resource 0)
+unfolding instances_of
+no_list value none = ap (λ o. result_and_then few_instances (result_and_then read_resources (ok_or o (Resource 0)))) (sym none)
+
+-- Resources of which one is refused.
+pub refused_resource : (value : Data) (values : List Data) (fault : StateFault) → Some values ≡ list_at (codes "resources") value
+    → read_each read_resource 0 values ≡ Err fault → instances_of value ≡ Err fault
+unfolding instances_of
+refused_resource value values fault is e =
+    ap (λ o. result_and_then few_instances (result_and_then read_resources (ok_or o (Resource 0)))) (sym is)
+    ∙ ap (λ r. result_and_then few_instances (result_map joined r)) e
+
+-- A value of another version.
+pub other_version : (value : Data) (version : Option ℕ) → version ≡ version_of value → true ≡ not (option_eq nat_eq version (Some 4))
+    → content_of value ≡ Err Version
+unfolding content_of
+other_version value version is other =
+    let differs : option_eq nat_eq (version_of value) (Some 4) ≡ false =
+    by (option_eq nat_eq (version_of value) (Some 4)) (other ∙ ap (λ v. not (option_eq nat_eq v (Some 4))) is) in
+    rw differs refl
+  where
+    by : (b : Bool) → true ≡ not b → b ≡ false
+    by true e = cc
+    by false e = refl
+
+-- A value of this version.
+pub right_version : (value : Data) (version : Option ℕ) → version ≡ version_of value → false ≡ not (option_eq nat_eq version (Some 4))
+    → version_of value ≡ Some 4
+right_version value version is same = sym is ∙ is_number version 4 (by (option_eq nat_eq version (Some 4)) same)
+  where
+    by : (b : Bool) → false ≡ not b → b ≡ true
+    by true e = refl
+    by false e = cc
+
+-- A value without a serial.
+pub no_serial : (value : Data) → version_of value ≡ Some 4 → None ≡ serial_of value → content_of value ≡ Err Serial
+unfolding content_of
+no_serial value version none = rw version (rw (← none) refl)
+
+-- A value without a lineage.
+pub no_lineage : (value : Data) (serial : ℕ) → version_of value ≡ Some 4 → serial_of value ≡ Some serial → None ≡ lineage_of value
+    → content_of value ≡ Err Lineage
+unfolding content_of
+no_lineage value serial version is none = rw version (rw is (rw (← none) refl))
+
+-- A value with a fault of its resources.
+pub refused_resources : (value : Data) (serial : ℕ) (lineage : List ℕ) (fault : StateFault) → version_of value ≡ Some 4 → serial_of value ≡ Some serial
+    → lineage_of value ≡ Some lineage → instances_of value ≡ Err fault → content_of value ≡ Err fault
+unfolding content_of
+refused_resources value serial lineage fault version is named refused = rw version (rw is (rw named (rw refused refl)))

@@ -1,0 +1,23 @@
+-- The instances of a value, or the first fault of its resources.
+use Rattle.std.proofs.Common.{arith, map}
+use Rattle.serde_json.specs.View.{view}
+use Rattle.tfs_state.proofs.ContentsLemmas.{no_list, refused_resource, many_instances, instances_read}
+use Rattle.tfs_state.proofs.ResultLemmas.{err_carried}
+use Rattle.tfs_state.proofs.content.read_tables.Goals as goal
+
+pub returns-in_default-clause-err : goal.returns-in_default-clause-err
+returns-in_default-clause-err c _ = no_list (view c.args.value.now) c.in_default.ensures.value
+
+pub returns-in_err-tables-clause-err : goal.returns-in_err-tables-clause-err
+returns-in_err-tables-clause-err c = err_carried c.from_residual.result c.in_err-tables.field-0.0 _ c.from_residual.ensures.1
+    (λ other. refused_resource (view c.args.value.now) (map view c.in-Some.list.now) c.in_err-tables.field-0.0 c.in-Some.ensures.value
+    (c.in_err-tables.ensures.err other))
+
+pub returns-then-len-gt-MAX_INSTANCES-clause-err : goal.returns-then-len-gt-MAX_INSTANCES-clause-err
+returns-then-len-gt-MAX_INSTANCES-clause-err c _ = many_instances (view c.args.value.now) (map view c.in-Some.list.now) c.in_ok-tables.tables
+    c.in-Some.ensures.value c.in_ok-tables.ensures.ok (omega arith)
+
+pub returns-clause-ok : goal.returns-clause-ok
+returns-clause-ok c = instances_read (view c.args.value.now) (map view c.in-Some.list.now) c.in_ok-tables.tables
+    (record { blocks = c.shrink_to_fit.new.self; rows = c.shrink_to_fit-2.new.self; names = c.in_ok-tables.tables.names })
+    c.in-Some.ensures.value c.in_ok-tables.ensures.ok c.apart.ensures (omega arith) c.shrink_to_fit.ensures.items c.shrink_to_fit-2.ensures.items

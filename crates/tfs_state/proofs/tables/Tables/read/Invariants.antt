@@ -1,0 +1,8 @@
+-- The resources so far were read.
+use Rattle.std.proofs.Common.{map, take}
+use Rattle.serde_json.specs.View.{view}
+use Rattle.tfs_state.specs.Tables.{ReadsResources}
+use Rattle.tfs_state.proofs.tables.Tables.read.Given as goal
+
+abbrev pub invariant-loop-i : goal.invariant-loop-i
+invariant-loop-i l = ReadsResources (map view (take l.i l.list)) l.tables

@@ -1,0 +1,8 @@
+-- The dependencies so far were read.
+use Rattle.std.proofs.Common.{map, take}
+use Rattle.serde_json.specs.View.{view}
+use Rattle.tfs_state.specs.Tables.{ReadsDependencies}
+use Rattle.tfs_state.proofs.tables.read_dependencies.Given as goal
+
+abbrev pub invariant-loop-k : goal.invariant-loop-k
+invariant-loop-k l = ReadsDependencies l.i l.j (map view (take l.k l.list)) l.initial.names l.names l.numbers.items

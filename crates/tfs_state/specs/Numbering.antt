@@ -1,0 +1,34 @@
+-- Numbers in place of configuration addresses and dependencies.
+use Rattle.std.specs.Prelude.{◌≡◌, ℕ, ◌<◌, ◌↔◌, ◌==◌, List, map, length, slice_get, Some, option_map, IsTrue}
+use Rattle.std.specs.Option.{unwrap_or}
+use Rattle.std.specs.List.{list_any}
+use Rattle.tfs_state.specs.Dependency.{DependsOn}
+use Rattle.tfs_state.specs.Document.{Document}
+use Rattle.tfs_state.specs.declared.tables.Block.{Block}
+use Rattle.tfs_state.specs.declared.tables.Row.{Row}
+
+-- A number for each instance's configuration address, and a list of numbers for each instance's dependencies.
+pub record NumberTable : Type 0 where
+  pub configs : List ℕ
+  pub dependencies : List (List ℕ)
+
+-- The numbers are those of a document: an instance depends on another exactly where the other's number is among its numbers.
+pub record IsNumbering (d : Document) (table : NumberTable) : Type 0 where
+  pub configs : length table.configs ≡ length d.instances
+  pub dependencies : length table.dependencies ≡ length d.instances
+  pub related : (u v : ℕ) (numbers : List ℕ) (number : ℕ) → slice_get table.dependencies u ≡ Some numbers
+      → slice_get table.configs v ≡ Some number → IsTrue (list_any (λ n. n == number) numbers) ↔ DependsOn d u v
+
+-- ---- in memory
+
+-- The number of a row's block.
+abbrev pub row_number : List Block → Row → ℕ
+row_number blocks row = unwrap_or (option_map (λ (block : Block). block.number) (slice_get blocks row.block)) 0
+
+-- The numbers of rows.
+abbrev pub table_of : List Block → List Row → NumberTable
+table_of blocks rows = record { configs = map (row_number blocks) rows; dependencies = map (λ (row : Row). row.dependencies.items) rows }
+
+-- Each row has its block.
+abbrev pub HasBlocks : List Block → List Row → Type 0
+HasBlocks blocks rows = (i : ℕ) (row : Row) → slice_get rows i ≡ Some row → row.block < length blocks

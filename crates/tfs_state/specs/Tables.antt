@@ -1,0 +1,91 @@
+-- How the private tables of a document stand for its instances, by numbers in place of texts.
+use Rattle.std.specs.Prelude.{◌≡◌, ℕ, List, ◌++◌, slice_get, Some, Ok, string_bytes}
+use Rattle.std.specs.List.{AllZip}
+use Rattle.serde_json.specs.Data.{Data}
+use Rattle.tfs_addr.specs.Address.{stripped_text, configuration_address, key_part, deposed_part}
+use Rattle.tfs_state.specs.Document.{Instance}
+use Rattle.tfs_state.specs.Names.{Extends}
+use Rattle.tfs_state.specs.Parts.{front_text}
+use Rattle.tfs_state.specs.Resources.{Own, ResourceMembers, read_each, dependency_of, read_dependency, read_instance, read_resource, joined}
+use Rattle.tfs_state.specs.declared.tables.Block.{Block}
+use Rattle.tfs_state.specs.declared.tables.Row.{Row}
+use Rattle.tfs_state.specs.declared.tables.Tables.{Tables}
+
+-- The number stands for the text without its keys.
+pub record StandsForBare (names : List (List ℕ)) (n : ℕ) (text : List ℕ) : Type 0 where
+  pub bare : List ℕ
+  pub stripped : stripped_text text ≡ Some bare
+  pub named : slice_get names n ≡ Some bare
+
+-- The row is that of an instance with this of its own, whose block stands at a place.
+pub record IsRowOf (names : List (List ℕ)) (place : ℕ) (row : Row) (own : Own) : Type 0 where
+  pub block : row.block ≡ place
+  pub tail : string_bytes row.tail ≡ key_part own.key ++ deposed_part own.deposed
+  pub dependencies : AllZip (StandsForBare names) row.dependencies.items own.dependencies
+
+-- The block is that of a resource.
+pub record IsBlockOf (names : List (List ℕ)) (block : Block) (r : ResourceMembers) : Type 0 where
+  pub front : string_bytes block.front ≡ front_text r.path r.mode r.kind r.name
+  pub config : configuration_address r.path r.mode r.kind r.name ≡ Some (string_bytes block.config)
+  pub named : slice_get names block.number ≡ Some (string_bytes block.config)
+
+-- The row stands for an instance, with the block at its place.
+pub record StandsFor (names : List (List ℕ)) (blocks : List Block) (row : Row) (u : Instance) : Type 0 where
+  pub block : Block
+  pub placed : slice_get blocks row.block ≡ Some block
+  pub front : string_bytes block.front ≡ front_text u.path u.mode u.kind u.name
+  pub config : configuration_address u.path u.mode u.kind u.name ≡ Some (string_bytes block.config)
+  pub named : slice_get names block.number ≡ Some (string_bytes block.config)
+  pub tail : string_bytes row.tail ≡ key_part u.key ++ deposed_part u.deposed
+  pub dependencies : AllZip (StandsForBare names) row.dependencies.items u.dependencies
+
+-- Each row stands for the instance at the same place.
+abbrev pub Tabulates : Tables → List Instance → Type 0
+Tabulates tables instances = AllZip (StandsFor tables.names tables.blocks.items) tables.rows.items instances
+
+-- ---- what the readers give
+
+-- A dependency was read as a number.
+pub record ReadsDependency (value : Data) (old new : List (List ℕ)) (n : ℕ) : Type 0 where
+  pub text : List ℕ
+  pub read : dependency_of value ≡ Some text
+  pub grown : Extends old new
+  pub stands : StandsForBare new n text
+
+-- The dependencies of instance j of resource i were read as numbers.
+pub record ReadsDependencies (i j : ℕ) (values : List Data) (old new : List (List ℕ)) (numbers : List ℕ) : Type 0 where
+  pub texts : List (List ℕ)
+  pub read : read_each (read_dependency i j) 0 values ≡ Ok texts
+  pub grown : Extends old new
+  pub stand : AllZip (StandsForBare new) numbers texts
+
+-- Instance j of resource i was read as a row.
+pub record ReadsInstance (i j place : ℕ) (value : Data) (old new : List (List ℕ)) (row : Row) : Type 0 where
+  pub own : Own
+  pub read : read_instance i j value ≡ Ok own
+  pub grown : Extends old new
+  pub stands : IsRowOf new place row own
+
+-- The instances of resource i were read as rows.
+pub record ReadsInstances (i place : ℕ) (values : List Data) (old new : List (List ℕ)) (rows : List Row) : Type 0 where
+  pub owns : List Own
+  pub read : read_each (read_instance i) 0 values ≡ Ok owns
+  pub grown : Extends old new
+  pub stand : AllZip (IsRowOf new place) rows owns
+
+-- The own members of a resource were read as a block.
+pub record ReadsBlock (r : ResourceMembers) (old new : List (List ℕ)) (block : Block) : Type 0 where
+  pub grown : Extends old new
+  pub stands : IsBlockOf new block r
+
+-- Resource i was read, and its instances were added.
+pub record ReadsResource (i : ℕ) (value : Data) (old new : Tables) : Type 0 where
+  pub more : List Instance
+  pub read : read_resource i value ≡ Ok more
+  pub added : (us : List Instance) → Tabulates old us → Tabulates new (us ++ more)
+
+-- The resources of a list were read.
+pub record ReadsResources (values : List Data) (tables : Tables) : Type 0 where
+  pub lists : List (List Instance)
+  pub read : read_each read_resource 0 values ≡ Ok lists
+  pub stand : Tabulates tables (joined lists)

@@ -1,0 +1,99 @@
+//! What the text of a state says.
+
+ghost use Rattle.std.specs.Prelude.{◌≡◌, ◌≢◌, ◌≤◌, ◌<◌, slice_get, Some, Ok, IfOk, IfErr, length};
+ghost use Rattle.serde_json.specs.View.{view};
+ghost use Rattle.tfs_state.specs.StateText.{first_state_fault, instances_of, content_of};
+ghost use Rattle.tfs_state.specs.Contents.{Keeps, ReadsContent, ReadsInstancesOf};
+ghost use Rattle.tfs_state.specs.declared.fault.StateFault.TheVariants.{NoMemory};
+
+use crate::fault::StateFault;
+use crate::members::{lineage_of, serial_of, version_of};
+use crate::tables::{Block, Row, Tables, block_at, row_at};
+use serde_json::Value;
+use std::alloc::Global;
+use tfs_json::{JsonFault, list_at, read_value};
+
+/// The most resource instances that a state may list.
+const MAX_INSTANCES: usize = 4096;
+
+/// What the value of a state says.
+#[derive(Drop)]
+pub(crate) struct Content {
+    pub(crate) serial: u64,
+    pub(crate) lineage: String,
+    pub(crate) blocks: Vec<Block>,
+    pub(crate) rows: Vec<Row>,
+}
+
+impl Content {
+    /// The row at a place.
+    pub(crate) fn row(&self, place: usize) -> &Row
+        requires { place < length self.now.rows.items }
+        ensures { slice_get self.now.rows.items place ≡ Some result.now }
+    {
+        row_at(self.rows.as_slice(), place)
+    }
+
+    /// The block at a place.
+    pub(crate) fn block(&self, place: usize) -> &Block
+        requires { place < length self.now.blocks.items }
+        ensures { slice_get self.now.blocks.items place ≡ Some result.now }
+    {
+        block_at(self.blocks.as_slice(), place)
+    }
+}
+
+/// The content of a text.
+pub(crate) fn read_text(alloc: Global, bytes: &[u8]) -> Result<Content, StateFault>
+    requires { length bytes.now ≤ 16777216 }
+    ensures ok { IfOk result (Keeps bytes.now) }
+    ensures err { IfErr result (λ fault. fault ≢ NoMemory → first_state_fault bytes.now ≡ Some fault) }
+{
+    match read_value(alloc, bytes) {
+        Ok(value) => read_content(alloc, &value),
+        Err(JsonFault::NotJson) => Err(StateFault::NotJson),
+        Err(JsonFault::NoMemory) => Err(StateFault::NoMemory),
+    }
+}
+
+/// The content of a value.
+fn read_content(alloc: Global, value: &Value) -> Result<Content, StateFault>
+    ensures ok { IfOk result (ReadsContent (view value.now)) }
+    ensures err { IfErr result (λ fault. fault ≢ NoMemory → content_of (view value.now) ≡ Err fault) }
+{
+    if version_of(value) != Some(4) {
+        return Err(StateFault::Version);
+    }
+    let Some(serial) = serial_of(value) else {
+        return Err(StateFault::Serial);
+    };
+    let Some(lineage) = lineage_of(value) else {
+        return Err(StateFault::Lineage);
+    };
+    let Tables { blocks, rows, .. } = read_tables(alloc, value)?;
+    let lineage = String::from_str(alloc, lineage)?;
+    Ok(Content {
+        serial,
+        lineage,
+        blocks,
+        rows,
+    })
+}
+
+/// The tables of a value's instances.
+fn read_tables(alloc: Global, value: &Value) -> Result<Tables, StateFault>
+    ensures ok { IfOk result (ReadsInstancesOf (view value.now)) }
+    ensures err { IfErr result (λ fault. fault ≢ NoMemory → instances_of (view value.now) ≡ Err fault) }
+{
+    let Some(list) = list_at(value, "resources") else {
+        return Err(StateFault::Resource(0));
+    };
+    let mut tables = Tables::read(alloc, list)?;
+    if tables.rows.len() > MAX_INSTANCES {
+        return Err(StateFault::TooManyInstances);
+    }
+    tables.names.apart();
+    tables.blocks.shrink_to_fit();
+    tables.rows.shrink_to_fit();
+    Ok(tables)
+}

@@ -1,0 +1,62 @@
+//! Numbers in place of texts, while a document is read.
+
+ghost use Rattle.std.specs.Prelude.{◌≡◌, Some, IfOk, slice_get, string_bytes, []};
+ghost use Rattle.tfs_state.specs.Names.{AreApart, Extends};
+
+use indexmap::IndexSet;
+use std::alloc::{AllocError, Global};
+use std::marker::Model;
+
+/// Texts with their numbers: equal texts have one number, and different texts have different ones.
+#[derive(Drop)]
+pub(crate) struct Names {
+    texts: IndexSet<String>,
+}
+
+impl Model for Names {
+    ghost use Rattle.std.specs.Prelude.{ℕ, List, map, string_bytes};
+    ghost use Rattle.tfs_state.specs.Names.{AreApart};
+
+    ghost Value = { List (List ℕ) };
+
+    ghost view = { λ n. map string_bytes n.texts.keys };
+
+    ghost invariant = { λ n. AreApart (map string_bytes n.texts.keys) };
+}
+
+impl Names {
+    /// No texts.
+    pub(crate) fn new(alloc: Global) -> Names
+        ensures { result ≡ [] }
+    {
+        Names {
+            texts: IndexSet::new(alloc),
+        }
+    }
+
+    /// The number of a text, which it is given now, where it has none.
+    pub(crate) fn number(&mut self, text: String) -> Result<u32, AllocError>
+        ensures grown { IfOk result (λ _. Extends self.old self.new) }
+        ensures ok { IfOk result (λ n. slice_get self.new n ≡ Some (string_bytes text)) }
+    {
+        let (number, _) = self.texts.insert_full(text)?;
+        short(number)
+    }
+
+    /// Equal texts have one number.
+    pub(crate) fn apart(&self)
+        ensures { AreApart self.now }
+    {
+        let _count = self.texts.len();
+    }
+}
+
+/// The number in 32 bits: a state of 16 MiB has fewer texts than there are such numbers.
+fn short(number: usize) -> Result<u32, AllocError>
+    ensures { IfOk result (λ n. n ≡ number) }
+{
+    match u32::try_from(number) {
+        Ok(number) => Ok(number),
+        Err(_) => Err(AllocError),
+    }
+}

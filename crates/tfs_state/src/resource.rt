@@ -1,0 +1,60 @@
+//! The own members of a resource.
+
+ghost use Rattle.std.specs.Prelude.{◌≡◌, option_map};
+ghost use Rattle.serde_json.specs.View.{view};
+ghost use Rattle.tfs_state.specs.Resources.{mode_named, path_of, resource_members};
+ghost use Rattle.tfs_state.specs.Parts.{resource_view};
+
+use crate::instance::filled;
+use serde_json::Value;
+use tfs_addr::Mode;
+use tfs_json::{list_at, optional_text_at, text_at};
+
+/// What a resource says by its own members.
+#[derive(Clone, Copy)]
+pub(crate) struct ResourceParts<'v> {
+    pub(crate) path: &'v str,
+    pub(crate) mode: Mode,
+    pub(crate) kind: &'v str,
+    pub(crate) name: &'v str,
+    pub(crate) instances: &'v [Value],
+}
+
+/// The own members of a resource, but for the cutting of its module's path.
+pub(crate) fn resource_parts(value: &Value) -> Option<ResourceParts<'_>>
+    ensures { option_map resource_view result ≡ resource_members (view value.now) }
+{
+    let path = path_of(value)?;
+    let mode = mode_named(text_at(value, "mode")?)?;
+    let kind = filled(text_at(value, "type")?)?;
+    let name = filled(text_at(value, "name")?)?;
+    let instances = list_at(value, "instances")?;
+    Some(ResourceParts {
+        path,
+        mode,
+        kind,
+        name,
+        instances,
+    })
+}
+
+/// The path of the module, which is empty for the root module.
+fn path_of(value: &Value) -> Option<&str>
+    ensures { option_map (λ path. path.now) result ≡ path_of (view value.now) }
+{
+    match optional_text_at(value, "module")? {
+        Some(path) => Some(path),
+        None => Some(""),
+    }
+}
+
+/// The mode that a text names.
+fn mode_named(text: &str) -> Option<Mode>
+    ensures { result ≡ mode_named text.now }
+{
+    match text {
+        "managed" => Some(Mode::Managed),
+        "data" => Some(Mode::DataSource),
+        _ => None,
+    }
+}

@@ -1,0 +1,240 @@
+//! What a document keeps of its instances, as it is read from the resources of a JSON value.
+
+ghost use Rattle.std.specs.Prelude.{◌≡◌, ◌≢◌, ◌<◌, [], ◌∷◌, ◌++◌, map, IfOk, IfErr, OnOk, Some, None, length, slice_get};
+ghost use Rattle.serde_json.specs.View.{view};
+ghost use Rattle.tfs_addr.specs.Address.{stripped_text, configuration_address};
+ghost use Rattle.tfs_state.specs.Document.{Instance as InstanceValue};
+ghost use Rattle.tfs_state.specs.Parts.{resource_view};
+ghost use Rattle.tfs_state.specs.Resources.{read_each, dependency_of, read_dependency, read_instance, read_resource};
+ghost use Rattle.tfs_state.specs.Tables.{ReadsDependency, ReadsDependencies, ReadsInstance, ReadsInstances, ReadsResource, ReadsResources, ReadsBlock};
+ghost use Rattle.tfs_state.specs.declared.fault.StateFault.TheVariants.{Dependency, NoMemory, Resource};
+
+use crate::fault::StateFault;
+use crate::instance::instance_parts;
+use crate::names::Names;
+use crate::resource::{ResourceParts, resource_parts};
+use crate::texts::{front_text, tail_text};
+use serde_json::Value;
+use std::alloc::{AllocError, Global};
+use tfs_addr::{AddrFault, config_text, strip};
+
+/// What the instances of one resource share: what their addresses begin with, and their configuration address with its number.
+#[derive(Drop)]
+pub(crate) struct Block {
+    pub(crate) front: String,
+    pub(crate) config: String,
+    pub(crate) number: u32,
+}
+
+/// An instance: the place of its block, what its address ends with, and the numbers of its dependencies.
+#[derive(Drop)]
+pub(crate) struct Row {
+    pub(crate) block: usize,
+    pub(crate) tail: String,
+    pub(crate) dependencies: Vec<u32>,
+}
+
+/// The blocks and rows of the resources so far, with the texts that their numbers stand for.
+#[derive(Drop)]
+pub(crate) struct Tables {
+    pub(crate) blocks: Vec<Block>,
+    pub(crate) rows: Vec<Row>,
+    pub(crate) names: Names,
+}
+
+impl Tables {
+    /// No resources.
+    fn new(alloc: Global) -> Tables
+        ensures { (result.blocks.items ≡ []) × (result.rows.items ≡ []) × (result.names ≡ []) }
+    {
+        Tables {
+            blocks: Vec::new(alloc),
+            rows: Vec::new(alloc),
+            names: Names::new(alloc),
+        }
+    }
+
+    /// Reads the resources of a list.
+    pub(crate) fn read(alloc: Global, list: &[Value]) -> Result<Tables, StateFault>
+        ensures ok { IfOk result (ReadsResources (map view list.now)) }
+        ensures err { IfErr result (λ fault. fault ≢ NoMemory
+            → read_each read_resource 0 (map view list.now) ≡ Err fault) }
+    {
+        let mut tables = Tables::new(alloc);
+        for (i, value) in list.iter().enumerate() {
+            tables.read_resource(alloc, value, i)?;
+        }
+        Ok(tables)
+    }
+
+    /// Reads resource i.
+    fn read_resource(&mut self, alloc: Global, value: &Value, i: usize) -> Result<(), StateFault>
+        ensures ok { OnOk result (ReadsResource i (view value.now) self.old self.new) }
+        ensures err { IfErr result (λ fault. fault ≢ NoMemory → read_resource i (view value.now) ≡ Err fault) }
+    {
+        let Some(resource) = resource_parts(value) else {
+            return Err(StateFault::Resource(i));
+        };
+        let block = read_block(alloc, resource, &mut self.names, i)?;
+        if resource.instances.is_empty() {
+            return Ok(());
+        }
+        let place = self.blocks.len();
+        let mut rows = read_instances(alloc, resource.instances, &mut self.names, place, i)?;
+        self.add(block, &mut rows)?;
+        Ok(())
+    }
+
+    /// Adds a block with its rows.
+    fn add(&mut self, block: Block, rows: &mut Vec<Row>) -> Result<(), AllocError>
+        ensures names { self.new.names ≡ self.old.names }
+        ensures blocks { OnOk result (self.new.blocks.items ≡ self.old.blocks.items ++ block ∷ []) }
+        ensures rows { OnOk result (self.new.rows.items ≡ self.old.rows.items ++ rows.old.items) }
+    {
+        self.blocks.push(block)?;
+        self.rows.append(rows)
+    }
+}
+
+/// The block of resource i, whose module's path has to have a cutting into pieces.
+fn read_block(
+    alloc: Global,
+    resource: ResourceParts,
+    names: &mut Names,
+    i: usize,
+) -> Result<Block, StateFault>
+    ensures ok { IfOk result (ReadsBlock (resource_view resource.entry) names.old names.new) }
+    ensures err { IfErr result (λ fault. fault ≢ NoMemory
+        → (fault ≡ Resource i) × (stripped_text resource.entry.path.now ≡ None)) }
+{
+    let config = match config_text(
+        alloc,
+        resource.path,
+        resource.mode,
+        resource.kind,
+        resource.name,
+    ) {
+        Ok(config) => config,
+        Err(AddrFault::NoMemory) => return Err(StateFault::NoMemory),
+        Err(_) => return Err(StateFault::Resource(i)),
+    };
+    let front = front_text(alloc, resource)?;
+    // The copy has no room to spare.
+    let copy = config.clone()?;
+    let number = names.number(config)?;
+    Ok(Block {
+        front,
+        config: copy,
+        number,
+    })
+}
+
+/// The rows of the instances of resource i, whose block stands at a place.
+fn read_instances(
+    alloc: Global,
+    list: &[Value],
+    names: &mut Names,
+    place: usize,
+    i: usize,
+) -> Result<Vec<Row>, StateFault>
+    ensures ok { IfOk result (λ rows. ReadsInstances i place (map view list.now) names.old names.new rows.items) }
+    ensures err { IfErr result (λ fault. fault ≢ NoMemory
+        → read_each (read_instance i) 0 (map view list.now) ≡ Err fault) }
+{
+    let mut rows = Vec::with_capacity(alloc, list.len())?;
+    for (j, value) in list.iter().enumerate() {
+        let row = read_instance(alloc, value, names, place, i, j)?;
+        keep(&mut rows, row)?;
+    }
+    Ok(rows)
+}
+
+/// The row of instance j of resource i.
+fn read_instance(
+    alloc: Global,
+    value: &Value,
+    names: &mut Names,
+    place: usize,
+    i: usize,
+    j: usize,
+) -> Result<Row, StateFault>
+    ensures ok { IfOk result (ReadsInstance i j place (view value.now) names.old names.new) }
+    ensures err { IfErr result (λ fault. fault ≢ NoMemory → read_instance i j (view value.now) ≡ Err fault) }
+{
+    let Some(instance) = instance_parts(value) else {
+        return Err(StateFault::Instance(i, j));
+    };
+    let tail = tail_text(alloc, instance.key, instance.deposed)?;
+    let dependencies = read_dependencies(alloc, instance.dependencies, names, i, j)?;
+    Ok(Row {
+        block: place,
+        tail,
+        dependencies,
+    })
+}
+
+/// The numbers of the dependencies of instance j of resource i, stripped.
+fn read_dependencies(
+    alloc: Global,
+    list: &[Value],
+    names: &mut Names,
+    i: usize,
+    j: usize,
+) -> Result<Vec<u32>, StateFault>
+    ensures ok { IfOk result (λ numbers. ReadsDependencies i j (map view list.now) names.old names.new numbers.items) }
+    ensures err { IfErr result (λ fault. fault ≢ NoMemory
+        → read_each (read_dependency i j) 0 (map view list.now) ≡ Err fault) }
+{
+    let mut numbers = Vec::with_capacity(alloc, list.len())?;
+    for (k, value) in list.iter().enumerate() {
+        let number = read_dependency(alloc, value, names, i, j, k)?;
+        keep(&mut numbers, number)?;
+    }
+    Ok(numbers)
+}
+
+/// The number of dependency k of instance j of resource i, stripped.
+fn read_dependency(
+    alloc: Global,
+    value: &Value,
+    names: &mut Names,
+    i: usize,
+    j: usize,
+    k: usize,
+) -> Result<u32, StateFault>
+    ensures ok { IfOk result (ReadsDependency (view value.now) names.old names.new) }
+    ensures err { IfErr result (λ fault. fault ≢ NoMemory → read_dependency i j k (view value.now) ≡ Err fault) }
+{
+    let Some(text) = value.as_str() else {
+        return Err(StateFault::Dependency(i, j, k));
+    };
+    match strip(alloc, text) {
+        Ok(bare) => Ok(names.number(bare)?),
+        Err(AddrFault::NoMemory) => Err(StateFault::NoMemory),
+        Err(_) => Err(StateFault::Dependency(i, j, k)),
+    }
+}
+
+/// Puts an element last.
+fn keep<T: Drop>(list: &mut Vec<T>, element: T) -> Result<(), AllocError>
+    ensures { OnOk result (list.new.items ≡ list.old.items ++ element ∷ []) }
+{
+    list.push(element)?;
+    Ok(())
+}
+
+/// The row at a place.
+pub(crate) fn row_at(rows: &[Row], place: usize) -> &Row
+    requires { place < length rows.now }
+    ensures { slice_get rows.now place ≡ Some result.now }
+{
+    &rows[place]
+}
+
+/// The block at a place.
+pub(crate) fn block_at(blocks: &[Block], place: usize) -> &Block
+    requires { place < length blocks.now }
+    ensures { slice_get blocks.now place ≡ Some result.now }
+{
+    &blocks[place]
+}
