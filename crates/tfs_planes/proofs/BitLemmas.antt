@@ -105,6 +105,15 @@ bit_at_word-with_bit words i j within =
           ∙ ap (λ b. b || bit_at_word words j) (sym (ne_eqb j i apart))
     ]
 
+-- Lists with the same words have the same bits.
+pub bit_at_word-same : (xs ys : List ℕ) (j : ℕ) → length xs ≡ length ys → ((k : ℕ) → k < length xs → get_or xs k 0 ≡ get_or ys k 0) →
+    bit_at_word xs j ≡ bit_at_word ys j
+unfolding bit_at_word
+bit_at_word-same xs ys j long same = ap (λ w. eqb (bit_at w (j % 64)) 1) (elim (cases_lt (j / 64) (length xs)) [
+  | inl below ↦ same (j / 64) below
+  | inr past ↦ get_or_past xs (j / 64) 0 past ∙ sym (get_or_past ys (j / 64) 0 (omega (arith, long)))
+])
+
 -- No bit of zeros is set.
 pub bit_at_word-zeros : (n i : ℕ) → bit_at_word (replicate n 0) i ≡ false
 unfolding bit_at_word

@@ -35,6 +35,52 @@ pub(crate) fn set_bit(words: &mut [u64], i: usize)
     words[i / 64] |= 1 << (i % 64);
 }
 
+/// Makes a list equal to another with bit `i` set. Each word is written by itself, so that a look at it right afterwards
+/// needn't wait for the store.
+#[inline(always)]
+fn copy_few_with_bit(words: &mut [u64], others: &[u64], i: usize)
+    requires lengths { length words.old ≡ length others.now }
+    requires within { i < 64 * length others.now }
+    ensures { (j : ℕ) → bit_at_word words.new j ≡ ((j == i) || bit_at_word others.now j) }
+{
+    let one = 1 << (i % 64);
+    for at in 0..words.len() {
+        words[at] = if at == i / 64 {
+            others[at] | one
+        } else {
+            others[at]
+        };
+    }
+}
+
+/// Makes a list equal to another with bit `i` set.
+#[inline(always)]
+pub(crate) fn copy_with_bit(words: &mut [u64], others: &[u64], i: usize)
+    requires lengths { length words.old ≡ length others.now }
+    requires within { i < 64 * length others.now }
+    ensures { (j : ℕ) → bit_at_word words.new j ≡ ((j == i) || bit_at_word others.now j) }
+{
+    if words.len() <= LANES {
+        copy_few_with_bit(words, others, i);
+    } else {
+        words.copy_from_slice(others);
+        set_bit(words, i);
+    }
+}
+
+/// Whether all bits of the first `count` words are set.
+pub(crate) fn are_full(words: &[u64], count: usize) -> bool
+    requires { count ≤ length words.now }
+    ensures { IsTrue result → (i : ℕ) → i < 64 * count → IsTrue (bit_at_word words.now i) }
+{
+    for at in 0..count {
+        if words[at] != u64::MAX {
+            return false;
+        }
+    }
+    true
+}
+
 /// Clears bit `i`.
 #[inline(always)]
 pub(crate) fn clear_bit(words: &mut [u64], i: usize)

@@ -7,7 +7,7 @@ ghost use Rattle.tfs_planes.specs.Row.{bit_at_word};
 ghost use Rattle.tfs_planes.specs.Targets.{IsTarget, ArePlacedClosed, HasCome, Gathers, IsPlacing, IsBetween, IsClosure};
 
 use crate::WORDS;
-use crate::bits::{bit, highest_bit, set_bit};
+use crate::bits::{are_full, bit, copy_with_bit, highest_bit, set_bit};
 use crate::cells::row_at;
 use crate::kernels::{LANES, clear_words, covers_lanes, union_blocks};
 use crate::order::Order;
@@ -129,8 +129,8 @@ fn begin(came: &mut [u64], own: &[u64], words: &[u64], placed: &[u64], row: usiz
         → HasCome (length came.old) words.now own.now row came.new }
 {
     if latest != row && latest < 64 * came.len() && bit(own, latest) && bit(placed, latest) {
-        came.copy_from_slice(row_at(words, came.len(), latest));
-        set_bit(came, latest);
+        let stride = came.len();
+        copy_with_bit(came, row_at(words, stride, latest), latest);
     } else {
         clear_words(came);
     }
@@ -175,7 +175,11 @@ fn are_all_placed(placed: &[u64], count: usize) -> bool
     requires { count ≤ 64 * length placed.now }
     ensures { IsTrue result → (i : ℕ) → i < count → IsTrue (bit_at_word placed.now i) }
 {
-    for row in 0..count {
+    let whole = count / 64;
+    if !are_full(placed, whole) {
+        return false;
+    }
+    for row in 64 * whole..count {
         if !bit(placed, row) {
             return false;
         }

@@ -7,8 +7,8 @@ use Rattle.tfs_planes.proofs.placing.begin.Goals as goal
 pub returns-then-bit-2 : goal.returns-then-bit-2
 returns-then-bit-2 c = λ closed.
     come_target (length c.args.came.now) c.args.words.now c.args.own.now c.args.row c.args.placed.now c.args.latest
-    c.copy_from_slice.new.self c.set_bit.new.words closed (sym c.bit.ensures ∙ c.if-bit.true, c.if-latest-row.true)
-    (sym c.bit-then-bit.ensures ∙ c.if-bit-2.true) (c.copy_from_slice.ensures.after ∙ c.row_at.ensures.row) c.set_bit.ensures
+    c.row_at.result.now c.copy_with_bit.new.words closed (sym c.bit.ensures ∙ c.if-bit.true, c.if-latest-row.true)
+    (sym c.bit-then-bit.ensures ∙ c.if-bit-2.true) c.row_at.ensures.row c.copy_with_bit.ensures
 
 pub returns-else-latest-row : goal.returns-else-latest-row
 returns-else-latest-row c = λ closed.
