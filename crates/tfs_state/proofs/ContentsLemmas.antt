@@ -1,5 +1,6 @@
 -- Laws of specs/Contents.antt, and of the document that a text spells.
-use Rattle.std.proofs.Common.{codes, nat_eq, not, Bool, ◌≡◌, ℕ, ◌≤◌, ◌<◌, List, length, true, false, cond, Option, Some, None, Ok, Err, string_bytes, refl, sym, ap, subst, ◌∙◌, arith}
+use Rattle.std.proofs.Common.{codes, nat_eq, not, Bool, ◌≡◌, ℕ, ◌≤◌, ◌<◌, List, length, true, false, cond, Option, Some, None, Ok, Err, string_bytes}
+use Rattle.std.proofs.Common.{refl, sym, ap, subst, ◌∙◌, arith}
 use Rattle.std.specs.Option.{ok_or, option_eq}
 use Rattle.std.proofs.lemmas.Bool.{le-leb, lt-leb, eqb-true}
 use Rattle.serde_json.specs.Data.{Data}
@@ -66,7 +67,8 @@ content_read value parts tables version serial lineage r blocks rows = record {
     serial = refl;
     lineage = refl;
     limit = r.limit;
-    stand = subst (λ v. Stand v.items parts.rows.items r.instances) (sym blocks) (subst (λ v. Stand tables.blocks.items v.items r.instances) (sym rows) r.stand);
+    stand = subst (λ v. Stand v.items parts.rows.items r.instances) (sym blocks) (subst (λ v. Stand tables.blocks.items v.items r.instances) (sym
+        rows) r.stand);
   };
 }
 

@@ -1,5 +1,6 @@
 -- Laws of a document and the parts that keep its text.
-use Rattle.std.proofs.Common.{◌≡◌, ℕ, zero, suc, ◌≤◌, ◌<◌, ◌↔◌, List, [], ◌∷◌, ◌++◌, length, true, false, ◌||◌, nat_eq, Some, option_map, option_and_then, string_bytes, IsTrue, refl, sym, ap, subst, ◌∙◌, append_assoc, eq-eqb}
+use Rattle.std.proofs.Common.{◌≡◌, ℕ, zero, suc, ◌≤◌, ◌<◌, ◌↔◌, List, [], ◌∷◌, ◌++◌, length, true, false, ◌||◌, nat_eq, Some, option_map}
+use Rattle.std.proofs.Common.{option_and_then, string_bytes, IsTrue, refl, sym, ap, subst, ◌∙◌, append_assoc, eq-eqb}
 use Rattle.std.specs.List.{AllZip, slice_get, list_any}
 use Rattle.std.proofs.lemmas.Bool.{eqb-true}
 use Rattle.std.proofs.Math.Bool.{or-true}
@@ -72,7 +73,8 @@ module _ (bytes : List ℕ) (parts : Content) (keeps : Keeps bytes parts) (d : D
   pub kept_block : (i : ℕ) (row : Row) → slice_get parts.rows.items i ≡ Some row → row.block < length parts.blocks.items
   kept_block i row at = let found = kept_row i row at in slice_get_within parts.blocks.items row.block found.2.block found.2.placed
 
-  module _ (i : ℕ) (row : Row) (block : Block) (at : slice_get parts.rows.items i ≡ Some row) (placed : slice_get parts.blocks.items row.block ≡ Some block) where
+  module _ (i : ℕ) (row : Row) (block : Block) (at : slice_get parts.rows.items i ≡ Some row) (placed : slice_get parts.blocks.items row.block ≡ Some
+      block) where
     -- The parts of an address are the address.
     pub kept_address : address_of d i ≡ Some (string_bytes block.front ++ string_bytes row.tail)
     kept_address =

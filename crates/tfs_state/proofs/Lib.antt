@@ -1,6 +1,7 @@
 pub mod AddressLemmas
 pub mod ContentsLemmas
 pub mod DocLemmas
+pub mod FirstFaultLemmas
 pub mod ListLemmas
 pub mod NamesLemmas
 pub mod NumberingLemmas

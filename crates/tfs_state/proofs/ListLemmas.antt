@@ -1,6 +1,7 @@
 -- Laws of lists: of elements at a place, of two lists whose elements are related one by one, and of lists whose elements are
 -- read one after the other.
-use Rattle.std.proofs.Common.{option_map, None, ◌≡◌, ℕ, zero, suc, ◌+◌, ◌<◌, List, [], ◌∷◌, ◌++◌, length, map, take, drop, get_or, Some, Result, Ok, Err, refl, sym, ap, subst, ◌∙◌, arith, add-zero, append_assoc}
+use Rattle.std.proofs.Common.{option_map, None, ◌≡◌, ℕ, zero, suc, ◌+◌, ◌<◌, List, [], ◌∷◌, ◌++◌, length, map, take, drop, get_or, Some, Result, Ok}
+use Rattle.std.proofs.Common.{Err, refl, sym, ap, subst, ◌∙◌, arith, add-zero, append_assoc}
 use Rattle.std.specs.List.{AllZip, slice_get}
 use Rattle.std.proofs.lemmas.Option.{slice_get-map}
 use Rattle.std.proofs.lemmas.List.{take_more, map-append, length-take-le, take-append-drop}
@@ -120,7 +121,8 @@ module _ {A B F : Type 0} (read : ℕ → A → Result B F) where
           → (b : B) (o : Result (List B) F) → read_each read (suc i) xs ≡ o → result_map (λ bs. b ∷ bs) o ≡ Ok ys
           → result_map (λ bs. b ∷ bs) (read_each read (suc i) (xs ++ x ∷ zs)) ≡ Err fault
       rest refused b (Ok bs) is f =
-          let later : read (suc i + length xs) x ≡ Err fault = ap (λ n. read n x) (let same : suc i + length xs ≡ i + suc (length xs) = omega arith in same) ∙ r in
+          let later : read (suc i + length xs) x ≡ Err fault = ap (λ n. read n x) (let same : suc i + length xs ≡ i + suc (length xs) = omega arith
+          in same) ∙ r in
           rw (refused bs is later) refl
       rest refused b (Err other) is f = cc
 

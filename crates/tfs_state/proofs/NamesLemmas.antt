@@ -1,5 +1,6 @@
 -- Laws of specs/Names.antt.
-use Rattle.std.proofs.Common.{◌≡◌, ℕ, ◌<◌, List, [], ◌++◌, map, get_or, true, false, Some, option_map, String, string_bytes, sym, ap, ◌∙◌, true≢false, arith, append_assoc, append-nil}
+use Rattle.std.proofs.Common.{◌≡◌, ℕ, ◌<◌, List, [], ◌++◌, map, get_or, true, false, Some, option_map, String, string_bytes, sym, ap, ◌∙◌, true≢false}
+use Rattle.std.proofs.Common.{arith, append_assoc, append-nil}
 use Rattle.std.specs.List.{IsDistinct, slice_get}
 use Rattle.std.specs.Str.{bytes_eq}
 use Rattle.std.specs.String.{string_eq}

@@ -1,5 +1,6 @@
 -- Laws of specs/StateText.antt: a content, its document, and the first fault.
-use Rattle.std.proofs.Common.{◌≡◌, ℕ, ◌≤◌, List, [], length, Bool, true, false, cond, nat_eq, nat_le, Option, Some, None, option_map, Result, Ok, Err, refl, sym, ap, subst, ◌∙◌}
+use Rattle.std.proofs.Common.{◌≡◌, ℕ, ◌≤◌, List, [], length, Bool, true, false, cond, nat_eq, nat_le, Option, Some, None, option_map, Result, Ok, Err}
+use Rattle.std.proofs.Common.{refl, sym, ap, subst, ◌∙◌}
 use Rattle.std.specs.Option.{ok_or, unwrap_or, option_eq}
 use Rattle.std.specs.Result.{result_ok, result_err}
 use Rattle.std.proofs.lemmas.Bool.{le-leb, leb-true}
@@ -7,7 +8,8 @@ use Rattle.serde_json.specs.Data.{Data}
 use Rattle.tfs_json.specs.Json.{json_value}
 use Rattle.tfs_state.specs.Document.{Document, Instance}
 use Rattle.tfs_state.specs.Resources.{result_and_then, result_map}
-use Rattle.tfs_state.specs.StateText.{Content, version_of, serial_of, lineage_of, instances_of, content_of, text_content, document_with, Describes, SpellsDocument, first_state_fault, document_of, document_given}
+use Rattle.tfs_state.specs.StateText.{Content, version_of, serial_of, lineage_of, instances_of, content_of, text_content, document_with, Describes}
+use Rattle.tfs_state.specs.StateText.{SpellsDocument, first_state_fault, document_of, document_given}
 use Rattle.tfs_state.specs.Contents.{Keeps}
 use Rattle.tfs_state.specs.declared.content.Content.{Content as Parts}
 use Rattle.tfs_state.specs.declared.fault.StateFault.{StateFault}
@@ -16,7 +18,12 @@ use Rattle.tfs_state.proofs.ContentsLemmas.{is_number}
 
 -- Where four answers give a content, they are its parts.
 parts_of : (b : Bool) (s : Option ℕ) (l : Option (List ℕ)) (r : Result (List Instance) StateFault) (content : Content)
-    → cond b (result_and_then (λ serial. result_and_then (λ lineage. result_map (λ instances. record { serial = serial; lineage = lineage; instances = instances }) r)
+    → cond b (result_and_then (λ serial. result_and_then (λ lineage. result_map (λ instances. record {
+      serial = serial;
+      lineage = lineage;
+      instances
+          = instances;
+    }) r)
     (ok_or l Lineage)) (ok_or s Serial)) (Err Version) ≡ Ok content
     → (b ≡ true) × (s ≡ Some content.serial) × (l ≡ Some content.lineage) × (r ≡ Ok content.instances)
 parts_of false s l r content e = cc
@@ -42,9 +49,11 @@ unfolding content_of
 content_described value d h = rw h.version (rw h.serial (rw h.lineage (rw h.instances refl)))
 
 -- A text with a content spells its document.
-pub content_spells : (bytes : List ℕ) (content : Content) → length bytes ≤ 16777216 → text_content bytes ≡ Ok content → SpellsDocument bytes (document_with bytes content)
+pub content_spells : (bytes : List ℕ) (content : Content) → length bytes ≤ 16777216 → text_content bytes ≡ Ok content
+    → SpellsDocument bytes (document_with bytes content)
 content_spells bytes content size e =
-    elim (json_value bytes) as (λ o. json_value bytes ≡ o → result_and_then content_of (ok_or o NotJson) ≡ Ok content → SpellsDocument bytes (document_with bytes content)) [
+    elim (json_value bytes) as (λ o. json_value bytes ≡ o → result_and_then content_of (ok_or o NotJson) ≡ Ok content
+    → SpellsDocument bytes (document_with bytes content)) [
       | None ↦ λ _ f. cc
       | Some value ↦ λ json f. record { size = size; kept = refl; described = (value, json, described bytes value content f) }
     ] refl e
@@ -59,7 +68,8 @@ spelled_content bytes d h = (
 )
 
 -- A text with a content has its document.
-content_computed : (bytes : List ℕ) (content : Content) → length bytes ≤ 16777216 → text_content bytes ≡ Ok content → document_of bytes ≡ Some (document_with bytes content)
+content_computed : (bytes : List ℕ) (content : Content) → length bytes ≤ 16777216 → text_content bytes ≡ Ok content
+    → document_of bytes ≡ Some (document_with bytes content)
 content_computed bytes content size e =
     ap (λ b. cond b (option_map (document_with bytes) (result_ok (text_content bytes))) None) (le-leb (length bytes) 16777216 size)
     ∙ ap (λ r. option_map (document_with bytes) (result_ok r)) e
@@ -83,13 +93,16 @@ faultless_spelled bytes size e =
 -- Bytes that have a document spell it.
 pub given_spelled : (bytes : List ℕ) (d : Document) → document_of bytes ≡ Some d → SpellsDocument bytes d
 given_spelled bytes d e =
-    elim (nat_le (length bytes) 16777216) as (λ b. nat_le (length bytes) 16777216 ≡ b → cond b (option_map (document_with bytes) (result_ok (text_content bytes))) None ≡ Some d → SpellsDocument bytes d) [
+    elim (nat_le (length bytes) 16777216) as (λ b. nat_le (length bytes) 16777216 ≡ b
+    → cond b (option_map (document_with bytes) (result_ok (text_content bytes))) None ≡ Some d → SpellsDocument bytes d) [
       | true ↦ λ size f. with_content (leb-true (length bytes) 16777216 size) (text_content bytes) refl f
       | false ↦ λ size f. cc
     ] refl e
   where
-    with_content : length bytes ≤ 16777216 → (r : Result Content StateFault) → text_content bytes ≡ r → option_map (document_with bytes) (result_ok r) ≡ Some d → SpellsDocument bytes d
-    with_content size (Ok content) is f = subst (SpellsDocument bytes) (let same : document_with bytes content ≡ d = cc in same) (content_spells bytes content size is)
+    with_content : length bytes ≤ 16777216 → (r : Result Content StateFault) → text_content bytes ≡ r
+        → option_map (document_with bytes) (result_ok r) ≡ Some d → SpellsDocument bytes d
+    with_content size (Ok content) is f = subst (SpellsDocument bytes) (let same : document_with bytes content ≡ d = cc in same) (content_spells
+        bytes content size is)
     with_content size (Err fault) is f = cc
 
 -- The document of parts that keep a text.

@@ -1,5 +1,6 @@
 -- Laws of specs/Tables.antt.
-use Rattle.std.proofs.Common.{◌≡◌, ℕ, ◌+◌, ◌<◌, List, [], ◌∷◌, ◌++◌, length, map, take, get_or, Some, None, option_map, option_and_then, Ok, Err, string_bytes, refl, sym, ap, subst, ◌∙◌, option_copied, append-nil, suc, true, nat_eq, arith}
+use Rattle.std.proofs.Common.{◌≡◌, ℕ, ◌+◌, ◌<◌, List, [], ◌∷◌, ◌++◌, length, map, take, get_or, Some, None, option_map, option_and_then, Ok, Err}
+use Rattle.std.proofs.Common.{string_bytes, refl, sym, ap, subst, ◌∙◌, option_copied, append-nil, suc, true, nat_eq, arith}
 use Rattle.std.specs.List.{AllZip, slice_get}
 use Rattle.std.specs.Option.{ok_or}
 use Rattle.std.proofs.lemmas.Bool.{eqb-true}
@@ -11,8 +12,10 @@ use Rattle.tfs_addr.specs.Address.{stripped_text, configuration_address, key_of,
 use Rattle.tfs_state.specs.Document.{Instance}
 use Rattle.tfs_state.specs.Names.{Extends}
 use Rattle.tfs_state.specs.Parts.{instance_view}
-use Rattle.tfs_state.specs.Resources.{Own, ResourceMembers, own_of, instance_of, result_and_then, result_map, read_each, read_dependency, instance_members, read_instance, resource_members, resource_of, read_resource, joined}
-use Rattle.tfs_state.specs.Tables.{StandsForBare, IsRowOf, StandsFor, ReadsBlock, ReadsDependency, ReadsDependencies, ReadsInstance, ReadsInstances, ReadsResource, ReadsResources, Tabulates}
+use Rattle.tfs_state.specs.Resources.{Own, ResourceMembers, own_of, instance_of, result_and_then, result_map, read_each, read_dependency}
+use Rattle.tfs_state.specs.Resources.{instance_members, read_instance, resource_members, resource_of, read_resource, joined}
+use Rattle.tfs_state.specs.Tables.{StandsForBare, IsRowOf, StandsFor, ReadsBlock, ReadsDependency, ReadsDependencies, ReadsInstance, ReadsInstances}
+use Rattle.tfs_state.specs.Tables.{ReadsResource, ReadsResources, Tabulates}
 use Rattle.tfs_state.specs.declared.fault.StateFault.{StateFault}
 use Rattle.tfs_state.specs.declared.fault.StateFault.TheVariants.{Dependency, Resource, Instance as InstanceFault}
 use Rattle.tfs_state.specs.declared.instance.InstanceParts.{InstanceParts}
@@ -29,7 +32,8 @@ stands_longer : (a b : List (List ℕ)) → Extends a b → (n : ℕ) (text : Li
 stands_longer a b p n text s = record { bare = s.bare; stripped = s.stripped; named = keeps_number a b n s.bare p s.named }
 
 -- Numbers that stand for texts do so among more texts.
-pub all_stand_longer : (a b : List (List ℕ)) → Extends a b → (ns : List ℕ) (texts : List (List ℕ)) → AllZip (StandsForBare a) ns texts → AllZip (StandsForBare b) ns texts
+pub all_stand_longer : (a b : List (List ℕ)) → Extends a b → (ns : List ℕ) (texts : List (List ℕ)) → AllZip (StandsForBare a) ns texts
+    → AllZip (StandsForBare b) ns texts
 all_stand_longer a b p ns texts s = zip_weaken (StandsForBare a) (StandsForBare b) (stands_longer a b p) ns texts s
 
 -- Before the first dependency nothing is read.
@@ -97,7 +101,8 @@ pub instance_read : (i j place : ℕ) (value : Data) (a b : List (List ℕ)) (pa
     → ReadsInstance i j place value a b row
 instance_read i j place value a b parts row own d at tail = record {
   own = own_of (instance_view parts) d.texts;
-  read = ap (λ o. result_and_then (λ members. result_map (own_of members) (read_each (read_dependency i j) 0 members.dependencies)) (ok_or o (InstanceFault i j))) (sym own)
+  read = ap (λ o. result_and_then (λ members. result_map (own_of members) (read_each (read_dependency i j) 0 members.dependencies)) (ok_or o
+      (InstanceFault i j))) (sym own)
       ∙ ap (result_map (own_of (instance_view parts))) d.read;
   grown = d.grown;
   stands = record { block = at; tail = tail; dependencies = d.stand };
@@ -106,7 +111,8 @@ instance_read i j place value a b parts row own d at tail = record {
 -- ---- resources
 
 -- A row that stands for an instance does so among more texts and blocks.
-stands_for_longer : (a b : List (List ℕ)) (blocks more : List Block) → Extends a b → (row : Row) (u : Instance) → StandsFor a blocks row u → StandsFor b (blocks ++ more) row u
+stands_for_longer : (a b : List (List ℕ)) (blocks more : List Block) → Extends a b → (row : Row) (u : Instance) → StandsFor a blocks row u
+    → StandsFor b (blocks ++ more) row u
 stands_for_longer a b blocks more p row u s = record {
   block = s.block;
   placed = slice_get_longer blocks more row.block s.block s.placed;
@@ -122,13 +128,15 @@ resource_is : (value : Data) (r : ResourceMembers) (config : List ℕ) → Some 
     → configuration_address r.path r.mode r.kind r.name ≡ Some config → resource_of value ≡ Some r
 resource_is value r config own is =
     ap (option_and_then (λ q. option_map (λ _. q) (stripped_text q.path))) (sym own)
-    ∙ elim (stripped_text r.path) as (λ o. option_map (λ bare. module_part r.path bare ++ resource_part r.mode r.kind r.name) o ≡ Some config → option_map (λ _. r) o ≡ Some r) [
+    ∙ elim (stripped_text r.path) as (λ o. option_map (λ bare. module_part r.path bare ++ resource_part r.mode r.kind r.name) o ≡ Some config
+    → option_map (λ _. r) o ≡ Some r) [
       | Some bare ↦ λ e. refl
       | None ↦ λ e. cc
     ] is
 
 -- A resource that is one is read by its instances.
-resource_read : (i : ℕ) (value : Data) (r : ResourceMembers) (owns : List Own) → resource_of value ≡ Some r → read_each (read_instance i) 0 r.instances ≡ Ok owns
+resource_read : (i : ℕ) (value : Data) (r : ResourceMembers) (owns : List Own) → resource_of value ≡ Some r
+    → read_each (read_instance i) 0 r.instances ≡ Ok owns
     → read_resource i value ≡ Ok (map (instance_of r) owns)
 resource_read i value r owns is e =
     ap (λ o. result_and_then (λ q. result_map (map (instance_of q)) (read_each (read_instance i) 0 q.instances)) (ok_or o (Resource i))) is
@@ -164,7 +172,8 @@ row_stands r blocks block a b is p row own s = record {
 }
 
 -- A resource with instances adds its block and its rows.
-pub resource_with_instances : (i place : ℕ) (late : List (List ℕ)) (value : Data) (r : ResourceMembers) (old new : Tables) (block : Block) (mid : List (List ℕ)) (rows : List Row)
+pub resource_with_instances : (i place : ℕ) (late : List (List ℕ)) (value : Data) (r : ResourceMembers) (old new : Tables) (block : Block) (mid :
+    List (List ℕ)) (rows : List Row)
     → Some r ≡ resource_members value → ReadsBlock r old.names mid block
     → ReadsInstances i place r.instances mid late rows → place ≡ length old.blocks.items → new.names ≡ late
     → new.blocks.items ≡ old.blocks.items ++ block ∷ [] → new.rows.items ≡ old.rows.items ++ rows → ReadsResource i value old new
@@ -177,9 +186,11 @@ resource_with_instances i place late value r old new block mid rows own b read a
           (subst (λ bs. AllZip (StandsFor new.names bs) (old.rows.items ++ rows) (us ++ map (instance_of r) is.owns)) (sym blocks)
           (zip_append (StandsFor new.names (old.blocks.items ++ block ∷ [])) old.rows.items rows us (map (instance_of r) is.owns)
           (zip_weaken (StandsFor old.names old.blocks.items) (StandsFor new.names (old.blocks.items ++ block ∷ []))
-          (stands_for_longer old.names new.names old.blocks.items (block ∷ []) (extends_more old.names mid new.names b.grown is.grown)) old.rows.items us h)
+          (stands_for_longer old.names new.names old.blocks.items (block ∷ []) (extends_more old.names mid new.names b.grown is.grown))
+          old.rows.items us h)
           (zip_map (StandsFor new.names (old.blocks.items ++ block ∷ [])) (instance_of r) rows is.owns
-          (zip_weaken (IsRowOf new.names (length old.blocks.items)) (λ row own. StandsFor new.names (old.blocks.items ++ block ∷ []) row (instance_of r own)) (row_stands r old.blocks.items block mid new.names b is.grown) rows is.owns is.stand))));
+          (zip_weaken (IsRowOf new.names (length old.blocks.items)) (λ row own. StandsFor new.names (old.blocks.items ++ block ∷ []) row
+          (instance_of r own)) (row_stands r old.blocks.items block mid new.names b is.grown) rows is.owns is.stand))));
     }
 
 -- Before the first resource nothing is read.

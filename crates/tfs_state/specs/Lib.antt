@@ -1,6 +1,7 @@
 pub mod Contents
 pub mod Dependency
 pub mod Document
+pub mod FirstFault
 pub mod Names
 pub mod Numbering
 pub mod Parts

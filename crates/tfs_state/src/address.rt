@@ -1,7 +1,10 @@
 //! The address of an instance.
 
-ghost use Rattle.std.specs.Prelude.{◌≡◌, ◌++◌, ◌↔◌, IsTrue};
+ghost use Rattle.std.specs.Prelude.{◌≡◌, ◌≤◌, ◌++◌, ◌↔◌, IsTrue, length};
+ghost use Rattle.std.specs.Cmp.Lexicographic.{slice_cmp};
+ghost use Rattle.std.specs.Ordering.{nat_cmp};
 
+use std::cmp::Ordering;
 use std::fmt;
 use std::marker::Model;
 
@@ -44,6 +47,59 @@ impl<'a> Address<'a> {
             None => false,
         }
     }
+}
+
+impl<'a> Address<'a> {
+    /// The order of two addresses, by their bytes.
+    pub fn cmp(&self, other: &Address<'_>) -> Ordering
+        ensures value { result ≡ slice_cmp nat_cmp self.now other.now }
+    {
+        order(
+            self.front.as_bytes(),
+            self.tail.as_bytes(),
+            other.front.as_bytes(),
+            other.tail.as_bytes(),
+        )
+    }
+
+    /// The order of the address and a text, by their bytes.
+    pub fn cmp_text(&self, text: &str) -> Ordering
+        ensures value { result ≡ slice_cmp nat_cmp self.now text.now }
+    {
+        order_to_one(self.front.as_bytes(), self.tail.as_bytes(), text.as_bytes())
+    }
+}
+
+/// The order of two texts, each in two parts.
+fn order(front: &[u8], tail: &[u8], other: &[u8], rest: &[u8]) -> Ordering
+    ensures { result ≡ slice_cmp nat_cmp (front.now ++ tail.now) (other.now ++ rest.now) }
+{
+    if front.len() <= other.len() {
+        order_from_shorter(front, tail, other, rest)
+    } else {
+        order_from_shorter(other, rest, front, tail).reverse()
+    }
+}
+
+/// The order of two texts, each in two parts, of which the first begins with the shorter part.
+fn order_from_shorter(front: &[u8], tail: &[u8], other: &[u8], rest: &[u8]) -> Ordering
+    requires { length front.now ≤ length other.now }
+    ensures { result ≡ slice_cmp nat_cmp (front.now ++ tail.now) (other.now ++ rest.now) }
+{
+    let (start, middle) = other.split_at(front.len());
+    let later = order_to_one(middle, rest, tail).reverse();
+    front.cmp(&start).then(later)
+}
+
+/// The order of a text in two parts and a whole one.
+fn order_to_one(front: &[u8], tail: &[u8], text: &[u8]) -> Ordering
+    ensures { result ≡ slice_cmp nat_cmp (front.now ++ tail.now) text.now }
+{
+    if text.len() < front.len() {
+        return front.cmp(&text);
+    }
+    let (start, rest) = text.split_at(front.len());
+    front.cmp(&start).then(tail.cmp(&rest))
 }
 
 impl<'a> fmt::Display for Address<'a> {

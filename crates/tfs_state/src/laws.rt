@@ -1,7 +1,10 @@
 //! Laws of state texts, which hold whoever reads them.
 
-ghost use Rattle.std.specs.Prelude.{◌≡◌, ℕ, ◌≤◌, List, Some, None, length};
+ghost use Rattle.std.specs.Prelude.{◌≡◌, ℕ, ◌≤◌, ◌↔◌, List, Some, None, Err, length};
+ghost use Rattle.serde_json.specs.Data.{Data};
 ghost use Rattle.tfs_state.specs.Document.{Document};
+ghost use Rattle.tfs_state.specs.FirstFault.{IsFirstFault, IsDependencyFault, IsInstanceFault, IsResourceFault};
+ghost use Rattle.tfs_state.specs.Resources.{read_dependency, read_instance, read_resource, read_resources};
 ghost use Rattle.tfs_state.specs.StateText.{SpellsDocument, first_state_fault, document_of};
 ghost use Rattle.tfs_state.specs.declared.fault.StateFault.{StateFault};
 
@@ -19,4 +22,17 @@ pub fn bytes_spell_a_document_or_have_a_fault()
         → document_of bytes ≡ Some d }
     ensures none_else { (bytes : List ℕ) (fault : StateFault) → first_state_fault bytes ≡ Some fault
         → document_of bytes ≡ None }
+{}
+
+/// The fault of resources is the first one, by positions: a resource's own before those of its instances, and an instance's own
+/// before those of its dependencies.
+pub fn faults_are_first_by_position()
+    ensures resources { (values : List Data) (fault : StateFault)
+        → (read_resources values ≡ Err fault) ↔ IsFirstFault read_resource values fault }
+    ensures resource { (i : ℕ) (value : Data) (fault : StateFault)
+        → (read_resource i value ≡ Err fault) ↔ IsResourceFault i value fault }
+    ensures instance { (i j : ℕ) (value : Data) (fault : StateFault)
+        → (read_instance i j value ≡ Err fault) ↔ IsInstanceFault i j value fault }
+    ensures dependency { (i j k : ℕ) (value : Data) (fault : StateFault)
+        → (read_dependency i j k value ≡ Err fault) ↔ IsDependencyFault i j k value fault }
 {}

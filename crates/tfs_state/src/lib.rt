@@ -18,7 +18,7 @@ mod texts;
 pub use address::Address;
 pub use doc::{Doc, MAX_STATE_BYTES};
 pub use fault::StateFault;
-pub use laws::bytes_spell_a_document_or_have_a_fault;
+pub use laws::{bytes_spell_a_document_or_have_a_fault, faults_are_first_by_position};
 pub use numbers::Numbers;
 
 #[cfg(test)]

@@ -1,6 +1,9 @@
 //! Texts with their answers, worked out by hand from RFC 8259 and from Terraform's state format, version 4.
 
-mod resources;
+mod addresses;
+mod faults;
+mod given;
+mod written;
 
 use super::*;
 use std::alloc::Global;

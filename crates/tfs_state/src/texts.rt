@@ -11,13 +11,23 @@ use serde_json::Value;
 use std::alloc::{AllocError, Global};
 use tfs_addr::{Key, Mode};
 
+/// The length of two dots and of `data.`.
+const DOTS_AND_MODE: usize = 7;
+
 /// What the addresses of a resource's instances begin with: the module's path as it came and a dot, `data.` before a data
 /// source, type and name.
 pub(crate) fn front_text(alloc: Global, resource: ResourceParts) -> Result<String, AllocError>
     ensures { IfOk result (λ text. string_bytes text
         ≡ front_text resource.entry.path.now resource.entry.mode resource.entry.kind.now resource.entry.name.now) }
 {
-    let mut text = String::from_str(alloc, resource.path)?;
+    let names = resource.kind.len().saturating_add(resource.name.len());
+    let room = resource
+        .path
+        .len()
+        .saturating_add(names)
+        .saturating_add(DOTS_AND_MODE);
+    let mut text = String::with_capacity(alloc, room)?;
+    text.push_str(resource.path)?;
     if !resource.path.is_empty() {
         text.push('.')?;
     }
@@ -27,7 +37,6 @@ pub(crate) fn front_text(alloc: Global, resource: ResourceParts) -> Result<Strin
     text.push_str(resource.kind)?;
     text.push('.')?;
     text.push_str(resource.name)?;
-    text.shrink_to_fit();
     Ok(text)
 }
 

@@ -11,5 +11,6 @@ returns-clause-value c = c.as_slice.ensures.value
 
 pub returns-clause-spelled : goal.returns-clause-spelled
 returns-clause-spelled c =
-    let spells = subst (SpellsDocument c.self.inside.bytes.items) c.self.view_is (kept_spells c.self.inside.bytes.items c.self.inside.content c.self.invariant) in
+    let spells = subst (SpellsDocument c.self.inside.bytes.items) c.self.view_is (kept_spells c.self.inside.bytes.items c.self.inside.content
+    c.self.invariant) in
     subst (λ (bytes : List ℕ). SpellsDocument bytes c.args.self.now) (sym spells.kept) spells

@@ -6,14 +6,16 @@ use Rattle.tfs_state.proofs.DocLemmas.{kept_length, kept_block, kept_depends}
 use Rattle.tfs_state.proofs.doc.Doc.depends.Goals as goal
 
 pub row-row-requires : goal.row-row-requires
-row-row-requires c = let long = kept_length c.self.inside.bytes.items c.self.inside.content c.self.invariant c.args.self.now c.self.view_is in let low = c.requires.v in omega (arith, long, low)
+row-row-requires c = let long = kept_length c.self.inside.bytes.items c.self.inside.content c.self.invariant c.args.self.now c.self.view_is in
+    let low = c.requires.v in omega (arith, long, low)
 
 pub block-block-requires : goal.block-block-requires
 block-block-requires c = kept_block c.self.inside.bytes.items c.self.inside.content c.self.invariant c.args.self.now c.self.view_is
     c.args.v c.row-row.result.now c.row-row.ensures
 
 pub row-other-requires : goal.row-other-requires
-row-other-requires c = let long = kept_length c.self.inside.bytes.items c.self.inside.content c.self.invariant c.args.self.now c.self.view_is in let low = c.requires.u in omega (arith, long, low)
+row-other-requires c = let long = kept_length c.self.inside.bytes.items c.self.inside.content c.self.invariant c.args.self.now c.self.view_is in
+    let low = c.requires.u in omega (arith, long, low)
 
 pub returns : goal.returns
 returns c = record {
