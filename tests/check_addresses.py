@@ -2,39 +2,21 @@
 `tfs_addr` then answers that memory ran out, or what it answers with ample memory; a text with a fault has its fault.
 
 It needs gcc, and builds the program where it isn't built. The last line counts what passed."""
-import os
-import shutil
-import subprocess
 import sys
-import tempfile
-from pathlib import Path
 
+import refused_requests
+from refused_requests import FOREVER
 from repository import TOP
 
-CRATE = TOP / "crates" / "addr_bench"
-PROGRAM = CRATE / "out" / "addr_bench"
-FOLDER = tempfile.TemporaryDirectory(prefix="addr_bench-")
-SHIM = Path(FOLDER.name) / "refuse_memory.so"
-AMPLE = (CRATE / "stdout").read_text(encoding="utf-8").splitlines()
+PROGRAM = [refused_requests.built("addr_bench")]
+AMPLE = (TOP / "crates" / "addr_bench" / "stdout").read_text(encoding="utf-8").splitlines()
 CALLS = ("strip", "config", "instance")
-FOREVER = 10**9
-SECONDS = 60
-
-
-def build_shim():
-    source = TOP / "tests" / "refuse_memory.c"
-    subprocess.run(["gcc", "-O1", "-Wall", "-shared", "-fPIC", "-o", str(SHIM), str(source)], check=True)
 
 
 def run_refused(first, last):
     """Runs the program, whose requests from the first to the last are refused: its lines, its status, and its requests."""
-    reading, writing = os.pipe()
-    given = {"LD_PRELOAD": str(SHIM), "REFUSE_FROM": str(first), "REFUSE_TO": str(last), "COUNTS": str(writing)}
-    ran = subprocess.run([str(PROGRAM)], env=given, pass_fds=[writing], capture_output=True, timeout=SECONDS, check=False)
-    os.close(writing)
-    with os.fdopen(reading) as counts:
-        own, _ = map(int, counts.read().split())
-    return ran.stdout.decode("utf-8").splitlines(), ran.returncode, own
+    output, status, _, own, _ = refused_requests.run_refused(PROGRAM, first, last)
+    return output.decode("utf-8").splitlines(), status, own
 
 
 def call_of(line):
@@ -99,12 +81,7 @@ def check_all_requests_from_each_one_on_are_refused():
 
 
 def main():
-    if shutil.which("gcc") is None:
-        print("FAILED: gcc is missing, which builds tests/refuse_memory.c\n0 passed, 1 failed")
-        return 1
-    if not PROGRAM.is_file() and subprocess.run(["rt", "run"], cwd=CRATE, stdout=subprocess.DEVNULL, check=False).returncode:
-        sys.exit("the program can't be built: see `rt run` in crates/addr_bench")
-    build_shim()
+    refused_requests.build_shim()
     passed = failed = 0
     for name, check in list(globals().items()):
         if not name.startswith("check_"):

@@ -4,25 +4,19 @@ stored run, whose outputs are written here by hand; the other one has locks, unl
 
 All requests are the program's own, by malloc and realloc; the loader and the C library make none. The first ones are
 for the arguments: refused, the arguments can't be had and count as other arguments."""
-import os
-import shutil
-import subprocess
 import sys
-import tempfile
 from itertools import combinations
-from pathlib import Path
 
+import refused_requests
+from refused_requests import FOREVER
 from stdio_model import DONE, Table, refusal_text, reply_text
-from stdio_program import CRATE, PROGRAM, S1, SECONDS, USAGE, checks_in, expect, request_text, run_checks
+from stdio_program import CRATE, PROGRAM, S1, USAGE, checks_in, expect, request_text, run_checks
 
-FOLDER = tempfile.TemporaryDirectory(prefix="tfstated-")
-SHIM = Path(FOLDER.name) / "refuse_memory.so"
 PUSH_AND_GET = (CRATE / "stdin").read_bytes()
 STATE = reply_text(200, S1)
 NO_MEMORY = refusal_text("OutOfMemory")
 NO_STATE = refusal_text("NoState")
 FAULT = b"tfstated: NoMemory\n"
-FOREVER = 10**9
 
 A, B = b'{"ID":"A" ,"Who":""}', b'{"ID":"B"}'
 LOCKS = [
@@ -33,22 +27,9 @@ LOCKS_TEXT = b"".join(request_text(*request) for request in LOCKS)
 LOCKS_REPLIES = [DONE, DONE, STATE, reply_text(423, A), DONE, DONE]
 
 
-def build_shim():
-    source = Path(__file__).resolve().parent / "refuse_memory.c"
-    subprocess.run(["gcc", "-O1", "-Wall", "-shared", "-fPIC", "-o", str(SHIM), str(source)], check=True)
-
-
 def run_refused(first, last, word="stdio", data=PUSH_AND_GET):
-    """Runs the program, whose requests from the first to the last are refused: what it wrote, its status, what it wrote on
-    standard error, and the counts of its own requests and of others."""
-    reading, writing = os.pipe()
-    given = {"LD_PRELOAD": str(SHIM), "REFUSE_FROM": str(first), "REFUSE_TO": str(last), "COUNTS": str(writing)}
-    how = {"input": data, "capture_output": True, "timeout": SECONDS, "check": False}
-    ran = subprocess.run([PROGRAM, word], env=given, pass_fds=[writing], **how)
-    os.close(writing)
-    with os.fdopen(reading) as counts:
-        own, others = map(int, counts.read().split())
-    return ran.stdout, ran.returncode, ran.stderr, own, others
+    """Runs `tfstated`, whose requests from the first to the last are refused."""
+    return refused_requests.run_refused([PROGRAM, word], first, last, data)
 
 
 def ample_counts(data=PUSH_AND_GET, wanted=DONE + STATE):
@@ -143,8 +124,5 @@ def check_all_requests_from_each_one_on_of_a_conversation_with_locks_are_refused
 
 
 if __name__ == "__main__":
-    if shutil.which("gcc") is None:
-        print("FAILED: gcc is missing, which builds tests/refuse_memory.c\n0 passed, 1 failed")
-        sys.exit(1)
-    build_shim()
+    refused_requests.build_shim()
     sys.exit(run_checks(checks_in(globals())))

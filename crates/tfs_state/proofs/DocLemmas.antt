@@ -10,7 +10,7 @@ use Rattle.tfs_state.specs.Document.{Document, Instance}
 use Rattle.tfs_state.specs.Dependency.{instance_config, address_of, config_of, DependsOn}
 use Rattle.tfs_state.specs.Names.{AreApart}
 use Rattle.tfs_state.specs.StateText.{document_given}
-use Rattle.tfs_state.specs.Tables.{StandsForBare, StandsFor}
+use Rattle.tfs_state.specs.Tables.{HasDigests, StandsForBare, StandsFor}
 use Rattle.tfs_state.specs.Contents.{Keeps}
 use Rattle.tfs_state.specs.declared.content.Content.{Content}
 use Rattle.tfs_state.specs.declared.tables.Block.{Block}
@@ -92,6 +92,13 @@ module _ (bytes : List ℕ) (parts : Content) (keeps : Keeps bytes parts) (d : D
         let found = kept_row i row at in
         let same : found.2.block ≡ block = let e = found.2.placed in cc in
         ap (option_and_then instance_config) found.1 ∙ found.2.config ∙ ap (λ (b : Block). Some (string_bytes b.config)) same
+
+    -- The block has the digests of its texts.
+    pub kept_digests : HasDigests block
+    kept_digests =
+        let found = kept_row i row at in
+        let same : found.2.block ≡ block = let e = found.2.placed in cc in
+        subst HasDigests same found.2.digests
 
     -- The number stands for the configuration address.
     kept_named : slice_get keeps.holds.stand.names block.number ≡ Some (string_bytes block.config)

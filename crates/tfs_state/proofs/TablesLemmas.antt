@@ -119,6 +119,7 @@ stands_for_longer a b blocks more p row u s = record {
   front = s.front;
   config = s.config;
   named = keeps_number a b s.block.number (string_bytes s.block.config) p s.named;
+  digests = s.digests;
   tail = s.tail;
   dependencies = all_stand_longer a b p row.dependencies.items u.dependencies s.dependencies;
 }
@@ -167,6 +168,7 @@ row_stands r blocks block a b is p row own s = record {
   front = is.stands.front;
   config = is.stands.config;
   named = keeps_number a b block.number (string_bytes block.config) p is.stands.named;
+  digests = is.stands.digests;
   tail = s.tail;
   dependencies = s.dependencies;
 }

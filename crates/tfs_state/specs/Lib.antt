@@ -1,5 +1,6 @@
 pub mod Contents
 pub mod Dependency
+pub mod Digest
 pub mod Document
 pub mod FirstFault
 pub mod Names

@@ -3,6 +3,7 @@ use Rattle.std.specs.Prelude.{◌≡◌, ℕ, List, ◌++◌, slice_get, Some, O
 use Rattle.std.specs.List.{AllZip}
 use Rattle.serde_json.specs.Data.{Data}
 use Rattle.tfs_addr.specs.Address.{stripped_text, configuration_address, key_part, deposed_part}
+use Rattle.tfs_state.specs.Digest.{digest_of}
 use Rattle.tfs_state.specs.Document.{Instance}
 use Rattle.tfs_state.specs.Names.{Extends}
 use Rattle.tfs_state.specs.Parts.{front_text}
@@ -23,11 +24,17 @@ pub record IsRowOf (names : List (List ℕ)) (place : ℕ) (row : Row) (own : Ow
   pub tail : string_bytes row.tail ≡ key_part own.key ++ deposed_part own.deposed
   pub dependencies : AllZip (StandsForBare names) row.dependencies.items own.dependencies
 
+-- The texts of the block have its digests.
+pub record HasDigests (block : Block) : Type 0 where
+  pub front : block.front_digest ≡ digest_of (string_bytes block.front)
+  pub config : block.config_digest ≡ digest_of (string_bytes block.config)
+
 -- The block is that of a resource.
 pub record IsBlockOf (names : List (List ℕ)) (block : Block) (r : ResourceMembers) : Type 0 where
   pub front : string_bytes block.front ≡ front_text r.path r.mode r.kind r.name
   pub config : configuration_address r.path r.mode r.kind r.name ≡ Some (string_bytes block.config)
   pub named : slice_get names block.number ≡ Some (string_bytes block.config)
+  pub digests : HasDigests block
 
 -- The row stands for an instance, with the block at its place.
 pub record StandsFor (names : List (List ℕ)) (blocks : List Block) (row : Row) (u : Instance) : Type 0 where
@@ -36,6 +43,7 @@ pub record StandsFor (names : List (List ℕ)) (blocks : List Block) (row : Row)
   pub front : string_bytes block.front ≡ front_text u.path u.mode u.kind u.name
   pub config : configuration_address u.path u.mode u.kind u.name ≡ Some (string_bytes block.config)
   pub named : slice_get names block.number ≡ Some (string_bytes block.config)
+  pub digests : HasDigests block
   pub tail : string_bytes row.tail ≡ key_part u.key ++ deposed_part u.deposed
   pub dependencies : AllZip (StandsForBare names) row.dependencies.items u.dependencies
 

@@ -3,32 +3,44 @@
 ghost use Rattle.std.specs.Prelude.{◌≡◌, ◌≤◌, ◌++◌, ◌↔◌, IsTrue, length};
 ghost use Rattle.std.specs.Cmp.Lexicographic.{slice_cmp};
 ghost use Rattle.std.specs.Ordering.{nat_cmp};
+ghost use Rattle.tfs_state.specs.Digest.{digest_of};
 
+use crate::digest::longer_digest;
 use std::cmp::Ordering;
 use std::fmt;
 use std::marker::Model;
 
-/// The address of an instance, lent in two parts: what all instances of its resource have, and the rest.
+/// The address of an instance, lent in two parts: what all instances of its resource have, and the rest. The digest is that of
+/// the first part.
 #[derive(Drop)]
 pub struct Address<'a> {
     front: &'a str,
     tail: &'a str,
+    digest: u64,
 }
 
 impl<'a> Model for Address<'a> {
-    ghost use Rattle.std.specs.Prelude.{ℕ, List, ◌++◌};
+    ghost use Rattle.std.specs.Prelude.{◌≡◌, ℕ, List, ◌++◌};
+    ghost use Rattle.tfs_state.specs.Digest.{digest_of};
 
     ghost Value = { List ℕ };
 
     ghost view = { λ a. a.front.now ++ a.tail.now };
+
+    ghost invariant = { λ a. a.digest ≡ digest_of a.front.now };
 }
 
 impl<'a> Address<'a> {
-    /// The address of these parts.
-    pub(crate) fn new(front: &'a str, tail: &'a str) -> Address<'a>
+    /// The address of these parts, of which the first has this digest.
+    pub(crate) fn new(front: &'a str, tail: &'a str, digest: u64) -> Address<'a>
+        requires { digest ≡ digest_of front.now }
         ensures { result ≡ front.now ++ tail.now }
     {
-        Address { front, tail }
+        Address {
+            front,
+            tail,
+            digest,
+        }
     }
 
     /// The two parts, which one after the other are the address.
@@ -46,6 +58,13 @@ impl<'a> Address<'a> {
             Some(rest) => rest == self.tail.as_bytes(),
             None => false,
         }
+    }
+
+    /// The digest of the address. It costs as much as the second part is long.
+    pub fn digest(&self) -> u64
+        ensures value { result ≡ digest_of self.now }
+    {
+        longer_digest(self.front, self.digest, self.tail)
     }
 }
 

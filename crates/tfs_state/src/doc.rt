@@ -1,16 +1,19 @@
 //! The state document.
 
-ghost use Rattle.std.specs.Prelude.{◌≡◌, ◌≢◌, ◌≤◌, ◌<◌, ◌↔◌, ◌==◌, Some, IfOk, IfErr, IsTrue, length};
+ghost use Rattle.std.specs.Prelude.{◌≡◌, ◌≢◌, ◌≤◌, ◌<◌, ◌↔◌, ◌==◌, ◌++◌, Some, IfOk, IfErr, IsTrue, length, option_map, string_bytes};
 ghost use Rattle.std.specs.List.{list_any};
 ghost use Rattle.tfs_state.specs.Dependency.{DependsOn, address_of, config_of};
+ghost use Rattle.tfs_state.specs.Digest.{digest_of};
 ghost use Rattle.tfs_state.specs.Numbering.{IsNumbering};
 ghost use Rattle.tfs_state.specs.StateText.{SpellsDocument, first_state_fault};
+ghost use Rattle.tfs_state.specs.Tables.{HasDigests};
 ghost use Rattle.tfs_state.specs.declared.fault.StateFault.TheVariants.{NoMemory};
 
 use crate::address::Address;
 use crate::content::{Content, read_text};
 use crate::fault::StateFault;
 use crate::numbers::Numbers;
+use crate::tables::{Block, Row};
 use std::alloc::Global;
 use std::marker::Model;
 
@@ -87,9 +90,8 @@ impl Doc {
         requires { i < length self.now.instances }
         ensures value { address_of self.now i ≡ Some result }
     {
-        let row = self.content.row(i);
-        let block = self.content.block(row.block);
-        Address::new(block.front.as_str(), row.tail.as_str())
+        let (row, block) = self.row_and_block(i);
+        Address::new(block.front.as_str(), row.tail.as_str(), block.front_digest)
     }
 
     /// The configuration address of an instance.
@@ -97,9 +99,30 @@ impl Doc {
         requires { i < length self.now.instances }
         ensures value { config_of self.now i ≡ Some result.now }
     {
+        let (_, block) = self.row_and_block(i);
+        block.config.as_str()
+    }
+
+    /// The digest of the configuration address of an instance.
+    pub fn config_digest(&self, i: usize) -> u64
+        requires { i < length self.now.instances }
+        ensures value { option_map digest_of (config_of self.now i) ≡ Some result }
+    {
+        let (_, block) = self.row_and_block(i);
+        block.config_digest
+    }
+
+    /// The row of an instance, and its block.
+    fn row_and_block(&self, i: usize) -> (&Row, &Block)
+        requires { i < length self.now.instances }
+        ensures address { address_of self.now i
+            ≡ Some (string_bytes result.1.now.front ++ string_bytes result.0.now.tail) }
+        ensures config { config_of self.now i ≡ Some (string_bytes result.1.now.config) }
+        ensures digests { HasDigests result.1.now }
+    {
         let row = self.content.row(i);
         let block = self.content.block(row.block);
-        block.config.as_str()
+        (row, block)
     }
 
     /// The numbers of the instances' configuration addresses and dependencies.

@@ -4,6 +4,7 @@
 
 mod address;
 mod content;
+mod digest;
 mod doc;
 mod fault;
 mod instance;
@@ -16,6 +17,7 @@ mod tables;
 mod texts;
 
 pub use address::Address;
+pub use digest::text_digest;
 pub use doc::{Doc, MAX_STATE_BYTES};
 pub use fault::StateFault;
 pub use laws::{bytes_spell_a_document_or_have_a_fault, faults_are_first_by_position};

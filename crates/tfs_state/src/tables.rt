@@ -9,6 +9,7 @@ ghost use Rattle.tfs_state.specs.Resources.{read_each, dependency_of, read_depen
 ghost use Rattle.tfs_state.specs.Tables.{ReadsDependency, ReadsDependencies, ReadsInstance, ReadsInstances, ReadsResource, ReadsResources, ReadsBlock};
 ghost use Rattle.tfs_state.specs.declared.fault.StateFault.TheVariants.{Dependency, NoMemory, Resource};
 
+use crate::digest::{digest_beside, text_digest};
 use crate::fault::StateFault;
 use crate::instance::instance_parts;
 use crate::names::Names;
@@ -18,11 +19,14 @@ use serde_json::Value;
 use std::alloc::{AllocError, Global};
 use tfs_addr::{AddrFault, config_text, strip};
 
-/// What the instances of one resource share: what their addresses begin with, and their configuration address with its number.
+/// What the instances of one resource share: what their addresses begin with, and their configuration address with its number,
+/// both texts with their digests.
 #[derive(Drop)]
 pub(crate) struct Block {
     pub(crate) front: String,
+    pub(crate) front_digest: u64,
     pub(crate) config: String,
+    pub(crate) config_digest: u64,
     pub(crate) number: u32,
 }
 
@@ -122,9 +126,13 @@ fn read_block(
     // The copy has no room to spare.
     let copy = config.clone()?;
     let number = names.number(config)?;
+    let front_digest = text_digest(front.as_str());
+    let config_digest = digest_beside(copy.as_str(), front.as_str(), front_digest);
     Ok(Block {
         front,
+        front_digest,
         config: copy,
+        config_digest,
         number,
     })
 }

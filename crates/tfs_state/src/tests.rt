@@ -1,6 +1,7 @@
 //! Texts with their answers, worked out by hand from RFC 8259 and from Terraform's state format, version 4.
 
 mod addresses;
+mod digests;
 mod faults;
 mod given;
 mod written;

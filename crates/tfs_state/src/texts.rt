@@ -14,6 +14,9 @@ use tfs_addr::{Key, Mode};
 /// The length of two dots and of `data.`.
 const DOTS_AND_MODE: usize = 7;
 
+/// The length of two brackets.
+const BRACKETS: usize = 2;
+
 /// What the addresses of a resource's instances begin with: the module's path as it came and a dot, `data.` before a data
 /// source, type and name.
 pub(crate) fn front_text(alloc: Global, resource: ResourceParts) -> Result<String, AllocError>
@@ -68,6 +71,7 @@ fn push_key(alloc: Global, text: &mut String, key: Key) -> Result<(), AllocError
         Key::Number(number) => write!(text, "[{number}]"),
         Key::Text(key) => {
             let key = json_text(alloc, key)?;
+            text.reserve(key.len().saturating_add(BRACKETS))?;
             write!(text, "[{key}]")
         }
     }

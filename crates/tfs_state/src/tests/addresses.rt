@@ -1,6 +1,9 @@
 //! Addresses and dependencies, worked out by hand.
 
-use super::given::{expect_addresses, expect_dependencies, expect_fault, read, resource, with_instances, with_resources};
+use super::given::{
+    expect_addresses, expect_dependencies, expect_fault, read, resource, with_instances,
+    with_resources,
+};
 use crate::*;
 use std::test::Fail;
 

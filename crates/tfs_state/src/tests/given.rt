@@ -21,7 +21,11 @@ pub(super) fn with_instances(rt: &impl Alloc<A = Global>, instances: &str) -> Re
 }
 
 /// A resource of the root module with one instance, whose dependencies are given with their quotes.
-pub(super) fn resource(rt: &impl Alloc<A = Global>, name: &str, dependencies: &str) -> Result<String, Fail> {
+pub(super) fn resource(
+    rt: &impl Alloc<A = Global>,
+    name: &str,
+    dependencies: &str,
+) -> Result<String, Fail> {
     Ok(format!(in rt.alloc();
         "{{\"mode\":\"managed\",\"type\":\"t\",\"name\":\"{name}\",\"instances\":[{{\"dependencies\":[{dependencies}]}}]}}"
     )?)
