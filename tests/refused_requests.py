@@ -43,3 +43,22 @@ def run_refused(words, first, last, data=b""):
     with os.fdopen(reading) as counts:
         own, others = map(int, counts.read().split())
     return ran.stdout, ran.returncode, ran.stderr, own, others
+
+
+def fault_of(words, ample, first, last):
+    """Runs a program, whose requests from the first to the last are refused: what it wrote, and its fault, which is empty where
+    there is none. It has to write its ample output, or whole lines of it and end with status 1."""
+    output, status, fault = run_refused(words, first, last)[:3]
+    lines = ample.splitlines(keepends=True)
+    is_cut = output in [b"".join(lines[:count]) for count in range(len(lines) + 1)]
+    if (output, status, fault) != (ample, 0, b"") and not (is_cut and status == 1 and fault):
+        raise AssertionError(f"requests {first} to {last}: {output[-200:]}, status {status}, {fault}")
+    return output, fault
+
+
+def count_of(words, ample):
+    """How many requests a program makes with ample memory, of which it has to write this output."""
+    output, status, fault, own, _ = run_refused(words, 0, 0)
+    if (output, status, fault) != (ample, 0, b"") or not own:
+        raise AssertionError(f"with ample memory: {output[-200:]}, status {status}, {fault}, {own} requests")
+    return own

@@ -1,0 +1,8 @@
+pub mod BucketLemmas
+pub mod DirectoryLemmas
+pub mod ImpactLemmas
+pub mod IndexLemmas
+pub mod LawLemmas
+pub mod LinkLemmas
+pub mod PlainLemmas
+pub mod ReachLemmas

@@ -1,0 +1,8 @@
+-- The buckets so far.
+use Rattle.std.proofs.Common.{◌≡◌, length}
+use Rattle.tfs_state.specs.Dependency.{address_of}
+use Rattle.tfs_index.specs.Directory.{AreBuckets}
+use Rattle.tfs_index.proofs.directory.address_buckets.Given as goal
+
+abbrev pub invariant-loop-v : goal.invariant-loop-v
+invariant-loop-v l = record { long : length l.numbers.items ≡ l.v; buckets : AreBuckets l.mask (address_of l.doc) l.numbers.items }

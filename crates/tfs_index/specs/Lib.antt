@@ -1,0 +1,5 @@
+pub mod Directory
+pub mod Impact
+pub mod Index
+pub mod Links
+pub mod Reach

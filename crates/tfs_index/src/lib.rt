@@ -1,0 +1,21 @@
+//! The impact index of state documents: which resource instances a change of an instance reaches, by walks of dependencies,
+//! and the answers to queries by address.
+#![tactic(auto)]
+
+mod directory;
+mod fault;
+mod impact;
+mod index;
+mod laws;
+mod links;
+mod names;
+#[cfg(test)]
+mod plain;
+mod version;
+
+pub use fault::ImpactFault;
+pub use laws::impact_follows_names_and_walks;
+pub use version::Version;
+
+#[cfg(test)]
+mod tests;

@@ -1,0 +1,30 @@
+"""Refuses the requests for memory of the program `index_bench`, which reads a small state, builds its index and asks it for any
+and all of two addresses: each request in turn, and all from each one on. Each run writes what it writes with ample memory, or
+whole lines of it and that memory ran out."""
+import sys
+
+from refused_requests import FOREVER, build_shim, built, count_of, fault_of
+from stdio_program import checks_in, expect, run_checks
+
+ANY, ALL = b"".join(b"any %d\n" % u for u in range(12, 16)), b"all 14\nall 15\n"
+AMPLE = b"read\nbuilt\n" + ANY + ALL
+PROGRAM = [built("index_bench"), "small"]
+
+
+def check_each_request_is_refused_in_turn():
+    seen = {fault_of(PROGRAM, AMPLE, request, request) for request in range(1, count_of(PROGRAM, AMPLE) + 1)}
+    expect([fault for _, fault in seen if fault and b"memory" not in fault], [], "memory runs out")
+    refused = {output for output, fault in seen if fault}
+    expect(refused >= {b"", b"read\n", b"read\nbuilt\n", b"read\nbuilt\n" + ANY}, True, "reading, build, any and all are refused some")
+
+
+def check_all_requests_from_each_one_on_are_refused():
+    requests = count_of(PROGRAM, AMPLE)
+    faults = {fault_of(PROGRAM, AMPLE, request, FOREVER)[1] for request in range(1, requests + 1)}
+    expect([fault for fault in faults if b"memory" not in fault], [], "memory runs out")
+    expect(fault_of(PROGRAM, AMPLE, requests + 1, FOREVER), (AMPLE, b""), "there is no further request")
+
+
+if __name__ == "__main__":
+    build_shim()
+    sys.exit(run_checks(checks_in(globals())))
