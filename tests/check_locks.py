@@ -6,7 +6,7 @@ import sys
 from collections import Counter
 
 import stdio_model as model
-from stdio_model import CLEAN, CUT, MAX_ENTRIES, MAX_NAMES, Table
+from stdio_model import CLEAN, CUT, MAX_ENTRIES, MAX_NAMES, Request, Table
 from stdio_program import MAX_READ, S1, checks_in, expect, request_text, run, run_checks, run_in_pieces
 
 A = b'{"ID":"A" ,"Who":""}'
@@ -82,7 +82,7 @@ def expect_talk(rows):
     """Runs rows of method, target, body and reply as one conversation, over the program and over the model's table."""
     requests, wanted = [row[:3] for row in rows], [row[3] for row in rows]
     table = Table()
-    expect_replies(b"".join(table.reply(*request) for request in requests), wanted, requests, "the model")
+    expect_replies(b"".join(table.reply(Request(*request)) for request in requests), wanted, requests, "the model")
     output, status, errors = run(b"".join(request_text(*request) for request in requests))
     expect_replies(output, wanted, requests, "the program")
     expect((status, errors), (CLEAN, b""), "the program's end")

@@ -9,7 +9,7 @@ from itertools import combinations
 
 import refused_requests
 from refused_requests import FOREVER
-from stdio_model import DONE, Table, refusal_text, reply_text
+from stdio_model import DONE, Request, Table, refusal_text, reply_text
 from stdio_program import CRATE, PROGRAM, S1, USAGE, checks_in, expect, request_text, run_checks
 
 PUSH_AND_GET = (CRATE / "stdin").read_bytes()
@@ -84,7 +84,7 @@ def check_all_requests_from_each_one_on_are_refused():
 def replies_without(refused):
     """The replies to the second conversation, where those of these numbers are OutOfMemory and change nothing."""
     table = Table()
-    return [NO_MEMORY if number in refused else table.reply(*request) for number, request in enumerate(LOCKS)]
+    return [NO_MEMORY if number in refused else table.reply(Request(*request)) for number, request in enumerate(LOCKS)]
 
 
 def whole_run(refused):

@@ -23,10 +23,10 @@ NO_STATE = (
     b"HTTP/1.1 404 Not Found\r\nContent-Type: application/json\r\nContent-Length: 19\r\n\r\n"
     b'{"error":"NoState"}'
 )
-# Some that are refused by framing, and one that isn't finished unless more bytes follow.
+# Some that are refused by framing, and some that aren't finished unless more bytes follow.
 BROKEN = [
-    b"GET\r\n\r\n", b"\x00\n\n", b"POST / HTTP/1.1\nContent-Length: x\n\n", b"POST / HTTP/1.1\nContent-Length: 9\n\n1",
-    b"POST /state/a HTTP/1.1\nTransfer-Encoding: chunked\n\n0\r\n\r\n",
+    b"GET\r\n\r\n", b"\x00\n\n", b"GET /state/a HTTP/1.1\n\n", b"POST / HTTP/1.1\nHost: h\nContent-Length: x\n\n",
+    b"POST / HTTP/1.1\nHost: h\nContent-Length: 9\n\n1", b"POST / HTTP/1.0\nTransfer-Encoding: chunked\n\n0\r\n\r\n",
 ]
 MAX_READS = 1048576
 MAX_BODY = 16777216
@@ -168,73 +168,6 @@ def check_a_state_has_at_most_4096_instances():
            b'Content-Length: 28\r\n\r\n{"error":"TooManyInstances"}')
 
 
-def check_refused_heads_end_the_conversation():
-    def fields(count):
-        return b"GET /state/a HTTP/1.1\r\n" + b"A: b\r\n" * count + b"\r\n"
-
-    def length(*values):
-        lines = b"".join(b"Content-Length: %s\r\n" % value for value in values)
-        return b"POST /state/a HTTP/1.1\r\n" + lines + b"\r\n"
-
-    refused = [
-        (length(b"16777217"), "BodyTooLarge"), (length(b"9" * 400), "BodyTooLarge"), (fields(65), "HeadTooLarge"),
-        (b"GET /" + b"a" * 16379, "HeadTooLarge"), (b"\r\n" * 8192, "HeadTooLarge"), (b"GET\r\n\r\n", "BadHead"),
-        (length(b"1", b"1"), "BadLength"), (length(b"+3"), "BadLength"), (length(b""), "BadLength"),
-    ]
-    for data, name in refused:
-        expect(run(data + GET), (refusal_text(name, close=True), REFUSED, b""), name)
-    expect(refusal_text("BodyTooLarge", close=True), b"HTTP/1.1 413 Content Too Large\r\nConnection: close\r\n"
-           b'Content-Type: application/json\r\nContent-Length: 24\r\n\r\n{"error":"BodyTooLarge"}')
-    expect(run(fields(64)), (NO_STATE, CLEAN, b""), "64 fields")
-    expect(run(b"GET /" + b"a" * 16378), (b"", CUT, b""), "16,383 bytes of a head")
-    expect(run(length(b" 00041\t") + S1), (DONE, CLEAN, b""), "zeros and blanks")
-
-
-def check_a_transfer_coding_is_refused_and_ends_the_conversation():
-    lock = b'{"ID":"A"}'
-    locked = b"LOCK /state/a HTTP/1.1\r\nHost: h\r\nContent-Length: %d\r\n\r\n%s" % (len(lock), lock)
-    chunked = b"%s /state/a HTTP/1.1\r\nHost: h\r\n%sTransfer-Encoding: %s\r\n\r\n%s"
-    hidden = b"29\r\n" + S1 + b"\r\n0\r\n\r\n"
-    table = [
-        (chunked % (b"UNLOCK", b"", b"chunked", b"0\r\n\r\n"), "TransferCoding"),
-        (chunked % (b"POST", b"", b"chunked", hidden), "TransferCoding"),
-        (chunked % (b"POST", b"", b"gzip, chunked", hidden), "TransferCoding"),
-        (chunked % (b"POST", b"", b"", b""), "TransferCoding"),
-        (chunked % (b"POST", b"Content-Length: 41\r\n", b"chunked", S1), "BadLength"),
-        (chunked % (b"UNLOCK", b"Content-Length: 0\r\n", b"identity", b""), "BadLength"),
-        (chunked % (b"POST", b"Content-Length: 16777217\r\n", b"chunked", b""), "BadLength"),
-    ]
-    for data, name in table:
-        expect(run(locked + data + push(S1)), (DONE + refusal_text(name, close=True), REFUSED, b""), data[:80])
-    expect(refusal_text("TransferCoding", close=True), b"HTTP/1.1 501 Not Implemented\r\nConnection: close\r\n"
-           b'Content-Type: application/json\r\nContent-Length: 26\r\n\r\n{"error":"TransferCoding"}')
-
-
-def check_the_reply_to_head_has_no_body():
-    head = b"HEAD /state/a HTTP/1.1\r\nHost: h\r\n\r\n"
-    bare = (b"HTTP/1.1 405 Method Not Allowed\r\nAllow: DELETE, GET, LOCK, POST, UNLOCK\r\n"
-            b"Content-Type: application/json\r\nContent-Length: 28\r\n\r\n")
-    expect(len(bare), 127)
-    expect(run(push(S1) + head + GET), (DONE + bare + REPLIES[38:], CLEAN, b""))
-    missing = head.replace(b"/state/a", b"/state/")
-    expect(run(missing + GET)[0], refusal_text("NoRoute")[: -len(b'{"error":"NoRoute"}')] + NO_STATE)
-
-
-def check_targets_and_methods_are_judged_in_order():
-    table = [
-        (b"GET /state/", "NoRoute"), (b"GET /", "NoRoute"), (b"GET /state/a/b", "NoRoute"), (b"GET *", "NoRoute"),
-        (b"PUT /state/a", "MethodNotAllowed"), (b"get /state/a", "MethodNotAllowed"),
-        (b"OPTIONS /state/a", "MethodNotAllowed"), (b"Lock /state/a", "MethodNotAllowed"), (b"UNLOCK /state/", "NoRoute"),
-        (b"PUT /state/a%20b", "MethodNotAllowed"), (b"GET /state/a%20b", "BadName"), (b"GET /state/" + b"n" * 65, "BadName"),
-        (b"GET /state/" + b"n" * 64, "NoState"), (b"GET /state/a?b=c", "NoState"), (b"GET /state/..", "NoState"),
-    ]
-    requests = b"".join(line + b" HTTP/1.1\r\nHost: h\r\n\r\n" for line, _ in table)
-    expect(run(requests), (b"".join(refusal_text(name) for _, name in table), CLEAN, b""))
-    expect(refusal_text("MethodNotAllowed"), b"HTTP/1.1 405 Method Not Allowed\r\n"
-           b"Allow: DELETE, GET, LOCK, POST, UNLOCK\r\n"
-           b'Content-Type: application/json\r\nContent-Length: 28\r\n\r\n{"error":"MethodNotAllowed"}')
-
-
 def check_a_body_that_is_too_large_is_refused_at_once():
     talk = Talk()
     talk.give(b"POST /state/a HTTP/1.1\r\nHost: h\r\nContent-Length: 16777217\r\n\r\n")
@@ -287,8 +220,9 @@ def random_message(chance):
         return chance.choice(BROKEN)
     if chance.random() < 0.5:
         end = chance.choice([b"\r\n", b"\n"])
-        line = b"%s /state/%s HTTP/1.%d" % (chance.choice([b"GET", b"GET", b"PUT", b"HEAD"]), name.encode(), chance.choice([1, 1, 0]))
-        return b"\r\n" * chance.choice([0, 0, 2]) + line + end + b"X-Long: " + b"y" * chance.randrange(600) + end + end
+        line = b"%s /state/%s HTTP/1.%d" % (chance.choice([b"GET", b"GET", b"PUT", b"HEAD"]), name.encode(), chance.random() < 0.97)
+        more = b"X-Long: " + b"y" * chance.randrange(600) + end
+        return b"\r\n" * chance.choice([0, 0, 2]) + line + end + b"host:h" + end + more + end
     return push(random_state(chance), name)
 
 
@@ -305,22 +239,6 @@ def check_random_streams_in_random_cuts_are_answered_as_the_model_says():
         expect(run_in_pieces(pieces), (output, status, b""), f"stream {turn}")
         ends.add(status)
     expect(ends, {CLEAN, CUT, REFUSED}, "each end is met")
-
-
-def check_what_isnt_http_is_refused_or_cut():
-    table = [
-        (b"\x16\x03\x01\x02\x00\x01\x00\x01\xfc\x03\x03", b"", CUT), (b"\x00" * 16383, b"", CUT),
-        (b"\x00" * 16384, refusal_text("HeadTooLarge", close=True), REFUSED), (b"\r\n\r\n", b"", CUT),
-    ]
-    bad = [b"SSH-2.0-client\r\n\r\n", b"PRI * HTTP/2.0\r\n\r\nSM\r\n\r\n", b"GET /\r\n\r\n", b"\xff\n\n", b"{}\n\n" + S1]
-    table += [(data, refusal_text("BadHead", close=True), REFUSED) for data in bad]
-    for data, output, status in table:
-        expect(run(data), (output, status, b""), data[:40])
-    chance = random.Random(7)
-    for turn in range(60):
-        size = chance.randrange(1, 40000)
-        data = chance.getrandbits(8 * size).to_bytes(size, "little")
-        expect(run(data), (*model.conversation(data), b""), f"noise {turn}")
 
 
 def check_a_reader_of_the_output_that_goes_away_is_a_fault():

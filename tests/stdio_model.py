@@ -1,9 +1,10 @@
 """A plain model of a conversation over a new table: what `tfstated stdio` writes for a list of bytes, and its status.
 
 It is written from docs/DEFINITIONS.md and docs/FORMATS.md, as far as these are built: GET, POST, DELETE, LOCK and UNLOCK
-of a state; `Host`, the version, `Connection` and `Content-MD5` aren't looked at. It always
-looks at all of the bytes and never at how they were cut. It never runs out of memory.
+of a state; chunks aren't read. It always looks at all of the bytes and never at how they were cut. It never runs out of memory.
 """
+import base64
+import hashlib
 import json
 import re
 from urllib.parse import unquote_to_bytes
@@ -20,16 +21,16 @@ PHRASES = {
     507: "Insufficient Storage",
 }
 STATUSES = {
-    "HeadTooLarge": 431, "BadHead": 400, "BadLength": 400, "TransferCoding": 501, "BodyTooLarge": 413, "NoRoute": 404,
-    "MethodNotAllowed": 405, "BadName": 400, "BadLockInfo": 400, "BadState": 400, "TooManyInstances": 413, "LockLost": 409,
-    "LineageDiffers": 409, "SerialTooLow": 409, "SerialReused": 409, "NoState": 404, "TableFull": 507, "JournalFull": 507,
-    "OutOfMemory": 503,
+    "HeadTooLarge": 431, "BadHead": 400, "NoHost": 400, "BadLength": 400, "TransferCoding": 501, "BodyTooLarge": 413,
+    "NoRoute": 404, "MethodNotAllowed": 405, "BadName": 400, "BadDigest": 400, "BadLockInfo": 400, "BadState": 400,
+    "TooManyInstances": 413, "LockLost": 409, "LineageDiffers": 409, "SerialTooLow": 409, "SerialReused": 409, "NoState": 404,
+    "TableFull": 507, "JournalFull": 507, "OutOfMemory": 503,
 }
 METHODS = ["DELETE", "GET", "LOCK", "POST", "UNLOCK"]
-CLEAN, CUT, REFUSED = 0, 3, 4
+CLEAN, ASKED, CUT, REFUSED = 0, 0, 3, 4
 
 TOKEN = rb"[!#$%&'*+\-.^_`|~0-9A-Za-z]+"
-REQUEST_LINE = re.compile(rb"(" + TOKEN + rb") ([^\x00-\x20\x7f]+) HTTP/1\.[01]\r?\n")
+REQUEST_LINE = re.compile(rb"(" + TOKEN + rb") ([^\x00-\x20\x7f]+) HTTP/1\.([01])\r?\n")
 FIELD_LINE = re.compile(rb"(" + TOKEN + rb"):[ \t]*([^\x00-\x08\x0a-\x1f\x7f]*)\r?\n")
 NAME = re.compile(r"[A-Za-z0-9_.-]{1,64}")
 PIECES = re.compile(r'(?:[^\[\]]|\[[0-9]+\]|\["(?:[^"\\]|\\.)*"\])*', re.DOTALL)
@@ -78,8 +79,30 @@ def head_of(data):
     return skipped, head
 
 
-def parts_of(head):
-    """Method, target and fields of a head."""
+class Request:
+    """A request: what its head says, and its body."""
+
+    def __init__(self, method, target, body=b"", version=1, fields=()):
+        self.method, self.target, self.body = method, target, body
+        self.version, self.fields = version, fields
+
+    def values(self, name):
+        """The values of the fields of one name, without spaces and tabs at both ends."""
+        return [value.strip(b" \t") for own, value in self.fields if own == name]
+
+    def asks_to_close(self):
+        """Whether the conversation ends after the reply."""
+        parts = [part.strip(b" \t").lower() for value in self.values(b"connection") for part in value.split(b",")]
+        return self.version == 0 or b"close" in parts
+
+    def has_good_digest(self):
+        """Whether there is no digest, or just the right one."""
+        values = self.values(b"content-md5")
+        return not values or values == [base64.b64encode(hashlib.md5(self.body).digest())]
+
+
+def request_of(head):
+    """The request of a head."""
     line = REQUEST_LINE.match(head)
     if line is None:
         raise Refused("BadHead")
@@ -94,16 +117,22 @@ def parts_of(head):
             raise Refused("BadHead")
         fields.append((field[1].lower(), field[2]))
         at = field.end()
-    return method, target, fields
+    return Request(method, target, version=int(line[3]), fields=fields)
 
 
-def length_of(fields):
+def require_host(request):
+    """Refuses a request of version 1.1 that has not just one host, and one of version 1.0 with more than one."""
+    hosts = len(request.values(b"host"))
+    if hosts > 1 or hosts == 0 and request.version == 1:
+        raise Refused("NoHost")
+
+
+def length_of(request):
     """The length of the body."""
-    values = [value.strip(b" \t") for name, value in fields if name == b"content-length"]
-    coded = any(name == b"transfer-encoding" for name, _ in fields)
-    if len(values) > 1 or values and coded or any(not re.fullmatch(rb"[0-9]+", value) for value in values):
+    values, codings = request.values(b"content-length"), request.values(b"transfer-encoding")
+    if len(values) > 1 or values and codings or any(not re.fullmatch(rb"[0-9]+", value) for value in values):
         raise Refused("BadLength")
-    if coded:
+    if codings:
         raise Refused("TransferCoding")
     digits = values[0].lstrip(b"0") if values else b""
     if len(digits) > len(str(MAX_BODY)) or int(digits or b"0") > MAX_BODY:
@@ -112,14 +141,16 @@ def length_of(fields):
 
 
 def take(data):
-    """The message that the bytes begin with: method, target, body, and how many bytes it has."""
+    """The request that the bytes begin with, and how many bytes it has."""
     skipped, head = head_of(data)
-    method, target, fields = parts_of(head)
+    request = request_of(head)
+    require_host(request)
     start = skipped + len(head)
-    end = start + length_of(fields)
+    end = start + length_of(request)
     if len(data) < end:
         raise Unfinished
-    return method, target, data[start:end], end
+    request.body = data[start:end]
+    return request, end
 
 
 def refuse_constant(text):
@@ -319,37 +350,39 @@ class Table:
         else:
             self.states.pop(name, None)
 
-    def answer(self, method, target, body):
-        """The bytes of the reply to a request that isn't refused."""
-        path, _, query = target.partition("?")
+    def answer(self, request):
+        """The status and the body of the reply to a request that isn't refused."""
+        path, _, query = request.target.partition("?")
         route = re.fullmatch(r"/state/([^/]+)", path)
         if route is None:
             raise Refused("NoRoute")
-        if method not in METHODS:
+        if request.method not in METHODS:
             raise Refused("MethodNotAllowed")
         name = route[1]
         if not NAME.fullmatch(name):
             raise Refused("BadName")
-        if method != "GET":
-            self.change(method, name, query, body)
-            return DONE
+        if not request.has_good_digest():
+            raise Refused("BadDigest")
+        if request.method != "GET":
+            self.change(request.method, name, query, request.body)
+            return b""
         if name not in self.states:
             raise Refused("NoState")
-        return reply_text(200, self.states[name][2])
+        return self.states[name][2]
 
-    def reply(self, method, target, body):
+    def reply(self, request):
         """The bytes of the reply to a request; HEAD gets no body."""
-        text = self.whole_reply(method, target, body)
-        return text[: text.index(b"\r\n\r\n") + 4] if method == "HEAD" else text
+        text = self.whole_reply(request, request.asks_to_close())
+        return text[: text.index(b"\r\n\r\n") + 4] if request.method == "HEAD" else text
 
-    def whole_reply(self, method, target, body):
+    def whole_reply(self, request, close):
         """The bytes of the reply to a request, with its body."""
         try:
-            return self.answer(method, target, body)
+            return reply_text(200, self.answer(request), close)
         except Locked as locked:
-            return reply_text(423, locked.args[0])
+            return reply_text(423, locked.args[0], close)
         except Refused as refusal:
-            return refusal_text(str(refusal))
+            return refusal_text(str(refusal), close)
 
 
 def replies_to(data):
@@ -357,13 +390,15 @@ def replies_to(data):
     table, replies = Table(), []
     while data:
         try:
-            method, target, body, used = take(data)
+            request, used = take(data)
         except Unfinished:
             return replies, CUT
         except Refused as refusal:
             return [*replies, refusal_text(str(refusal), close=True)], REFUSED
         data = data[used:]
-        replies.append(table.reply(method, target, body))
+        replies.append(table.reply(request))
+        if request.asks_to_close():
+            return replies, ASKED
     return replies, CLEAN
 
 

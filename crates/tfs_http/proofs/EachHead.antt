@@ -10,7 +10,7 @@ use Rattle.httparse.proofs.PieceLemmas.{Blank_deterministic, Method_deterministi
 use Rattle.httparse.proofs.PieceLemmas.{Target_deterministic, Version_deterministic, Name_deterministic, RequestStart_deterministic, FieldLine_parts}
 use Rattle.httparse.proofs.PieceLemmas.{print_field-append, Section_line, Section_skip, space_ends_token, colon_ends_token}
 use Rattle.httparse.proofs.GrammarLemmas.{request_tree, request_head, request_pieces, request_from_pieces, request_unique}
-use Rattle.tfs_http.specs.Framing.{IsHeadOf}
+use Rattle.tfs_http.specs.Head.{IsHeadOf}
 use Rattle.tfs_http.proofs.EachPiece.{IsDecided, then_decided, nothing_begins, newline_decided, blank_decided, word_decided}
 use Rattle.tfs_http.proofs.EachPiece.{target_decided, version_decided, text_decided}
 

@@ -1,21 +1,25 @@
 -- Each list of bytes begins with a message, or is refused, or is unfinished.
 use Rattle.std.proofs.Common.{◌≡◌, ◌≤◌, ◌<◌, ◌⊎◌, ◌∙◌, ℕ, zero, suc, List, [], ◌∷◌, ◌++◌, length, take, drop, min, nat_le, nat_lt, ◌&&◌, Bool, true}
-use Rattle.std.proofs.Common.{false, cond, Result, Ok, Err, map, codes, refl, sym, ap, subst, inl, inr, arith, append_assoc}
+use Rattle.std.proofs.Common.{false, cond, Result, Ok, Err, codes, refl, sym, ap, subst, inl, inr, arith, append_assoc, length-take}
 use Rattle.std.specs.List.{list_all}
 use Rattle.std.specs.Char.{is_ascii_digit}
 use Rattle.std.specs.Str.Parse.{digits_value}
 use Rattle.std.proofs.lemmas.Bool.{leb-true, leb-false}
 use Rattle.httparse.specs.Ascii.{line_feed}
 use Rattle.httparse.specs.Grammar.{LineEnd, crlf, lf, print_end, print_blank, RequestHead}
-use Rattle.httparse.specs.Spans.{name_and_value}
 use Rattle.tfs_table.specs.declared.refusal.Refusal.{Refusal}
-use Rattle.tfs_table.specs.declared.refusal.Refusal.TheVariants.{HeadTooLarge, BadHead, BadLength, TransferCoding, BodyTooLarge}
-use Rattle.tfs_http.specs.Framing.{StartsWithEmptyLine, EndsWithEmptyLine, IsMessageHead, HasHead, HasNoHead, IsHeadOf, line_feeds, values_named}
-use Rattle.tfs_http.specs.Framing.{length_of_text, length_told, body_length, IsHeadRefused, Frames}
+use Rattle.tfs_table.specs.declared.refusal.Refusal.TheVariants.{HeadTooLarge, BadHead, NoHost, BadLength, TransferCoding, BodyTooLarge}
+use Rattle.tfs_http.specs.Head.{StartsWithEmptyLine, EndsWithEmptyLine, IsMessageHead, HasHead, HasNoHead, IsHeadOf, line_feeds}
+use Rattle.tfs_http.specs.Fields.{fields_of, values_named}
+use Rattle.tfs_http.specs.Body.{length_of_text, length_told, names_host, body_length}
+use Rattle.tfs_http.specs.Request.{request_of}
+use Rattle.tfs_http.specs.Framing.{IsHeadRefused, Frames}
+use Rattle.tfs_http.specs.declared.length.BodyLength.{BodyLength}
+use Rattle.tfs_http.specs.declared.length.BodyLength.TheVariants.{Absent, Sized}
 use Rattle.tfs_http.specs.declared.taken.Take.{Take}
 use Rattle.tfs_http.specs.declared.taken.Take.TheVariants.{Need, Got, Fault}
 use Rattle.tfs_http.proofs.HeadLemmas.{PassedOver, byte_passed, head_found, passed_all, head_of_window, no_head_of_window}
-use Rattle.tfs_http.proofs.WantedLemmas.{unfinished_without_head, unfinished_without_body, begins_with_request}
+use Rattle.tfs_http.proofs.WantedLemmas.{unfinished_without_head, unfinished_without_body, too_few, begins_with_request}
 use Rattle.tfs_http.proofs.EachPiece.{same_or_not, newline_decided, nothing_begins}
 use Rattle.tfs_http.proofs.EachHead.{head_decided}
 
@@ -96,48 +100,53 @@ head_or_none bytes =
 
 -- The refusals that the fields of a head have.
 abbrev IsLengthRefusal : Refusal → Type 0
-IsLengthRefusal refusal = (refusal ≡ BadLength) ⊎ ((refusal ≡ TransferCoding) ⊎ (refusal ≡ BodyTooLarge))
+IsLengthRefusal refusal = (refusal ≡ NoHost) ⊎ ((refusal ≡ BadLength) ⊎ ((refusal ≡ TransferCoding) ⊎ (refusal ≡ BodyTooLarge)))
 
 -- The refusals of the text of a length.
 text_refused : (text : List ℕ) (refusal : Refusal) → length_of_text text ≡ Err refusal → IsLengthRefusal refusal
 text_refused text refusal e = by_digits (nat_lt 0 (length text) && list_all is_ascii_digit text) e
   where
-    by_size : (b : Bool) → cond b (Ok (digits_value 10 text)) (Err BodyTooLarge) ≡ Err refusal → IsLengthRefusal refusal
+    by_size : (b : Bool) → cond b (Ok (Sized (digits_value 10 text))) (Err BodyTooLarge) ≡ Err refusal → IsLengthRefusal refusal
     by_size true f = cc
-    by_size false f = inr (inr (cc))
+    by_size false f = inr (inr (inr (cc)))
 
-    by_digits : (b : Bool) → cond b (cond (nat_le (digits_value 10 text) 16777216) (Ok (digits_value 10 text)) (Err BodyTooLarge))
+    by_digits : (b : Bool) → cond b (cond (nat_le (digits_value 10 text) 16777216) (Ok (Sized (digits_value 10 text))) (Err BodyTooLarge))
         (Err BadLength) ≡ Err refusal
         → IsLengthRefusal refusal
     by_digits true f = by_size (nat_le (digits_value 10 text) 16777216) f
-    by_digits false f = inl (cc)
+    by_digits false f = inr (inl (cc))
 
 -- The refusals of the values of all fields.
 told_refused : (lengths codings : List (List ℕ)) (refusal : Refusal) → length_told lengths codings ≡ Err refusal → IsLengthRefusal refusal
 told_refused [] [] refusal e = cc
-told_refused [] (coding ∷ codings) refusal e = inr (inl (cc))
--- The refusals of the values of all fields.
+told_refused [] (coding ∷ codings) refusal e = inr (inr (inl (cc)))
 told_refused (text ∷ []) [] refusal e = text_refused text refusal e
--- The refusals of the values of all fields.
-told_refused (text ∷ other ∷ texts) [] refusal e = inl (cc)
--- The refusals of the values of all fields.
-told_refused (text ∷ []) (coding ∷ codings) refusal e = inl (cc)
--- The refusals of the values of all fields.
-told_refused (text ∷ other ∷ texts) (coding ∷ codings) refusal e = inl (cc)
+told_refused (text ∷ other ∷ texts) [] refusal e = inr (inl (cc))
+told_refused (text ∷ []) (coding ∷ codings) refusal e = inr (inl (cc))
+told_refused (text ∷ other ∷ texts) (coding ∷ codings) refusal e = inr (inl (cc))
+
+-- The refusals of what a head says of its body.
+length_refused : (h : RequestHead) (refusal : Refusal) → body_length h ≡ Err refusal → IsLengthRefusal refusal
+length_refused h refusal e = by (names_host h.minor (values_named (codes "host") (fields_of h))) e
+  where
+    told : Result BodyLength Refusal
+    told = length_told (values_named (codes "content-length") (fields_of h)) (values_named (codes "transfer-encoding") (fields_of h))
+
+    by : (b : Bool) → cond b told (Err NoHost) ≡ Err refusal → IsLengthRefusal refusal
+    by true f =
+        told_refused (values_named (codes "content-length") (fields_of h)) (values_named (codes "transfer-encoding") (fields_of h)) refusal f
+    by false f = inl (cc)
 
 -- A head of few lines whose fields are refused is refused.
 refused_by_fields : (head : List ℕ) (h : RequestHead) (refusal : Refusal) → line_feeds head ≤ 66 → IsHeadOf head h → body_length h ≡ Err refusal
     → IsHeadRefused head refusal
-refused_by_fields head h refusal few is e =
-    by (told_refused (values_named (codes "content-length") fields) (values_named (codes "transfer-encoding") fields) refusal e)
+refused_by_fields head h refusal few is e = by (length_refused h refusal e)
   where
-    fields : List (List ℕ × List ℕ)
-    fields = map name_and_value h.fields
-
     by : IsLengthRefusal refusal → IsHeadRefused head refusal
     by (inl r) = subst (IsHeadRefused head) (sym r) (few, h, is, e ∙ ap Err r)
     by (inr (inl r)) = subst (IsHeadRefused head) (sym r) (few, h, is, e ∙ ap Err r)
-    by (inr (inr r)) = subst (IsHeadRefused head) (sym r) (few, h, is, e ∙ ap Err r)
+    by (inr (inr (inl r))) = subst (IsHeadRefused head) (sym r) (few, h, is, e ∙ ap Err r)
+    by (inr (inr (inr r))) = subst (IsHeadRefused head) (sym r) (few, h, is, e ∙ ap Err r)
 
 -- Bytes that have a head begin with something.
 with_head : (bytes : List ℕ) (skipped : List LineEnd) (head rest : List ℕ) → HasHead bytes skipped head rest → (t : Take) × Frames bytes t
@@ -146,21 +155,28 @@ with_head bytes skipped head rest has = by_lines (nat_le (line_feeds head) 66) r
     refused : (refusal : Refusal) → IsHeadRefused head refusal → (t : Take) × Frames bytes t
     refused refusal is = (Fault refusal, inr (record { skipped = skipped; head = head; rest = rest; has_head = has; refused = is }))
 
-    by_size : (h : RequestHead) (n : ℕ) → line_feeds head ≤ 66 → IsHeadOf head h → body_length h ≡ Ok n → (v : Bool) → nat_le n (length rest) ≡ v
-        → (t : Take) × Frames bytes t
+    by_size : (h : RequestHead) (n : ℕ) → line_feeds head ≤ 66 → IsHeadOf head h → body_length h ≡ Ok (Sized n) → (v : Bool)
+        → nat_le n (length rest) ≡ v → (t : Take) × Frames bytes t
     by_size h n few is e true v = (
-      Got (record { method = h.method; target = h.target; body = take n rest }) _,
-      begins_with_request bytes skipped head rest h.method h.target (take n rest) (drop n rest) _ n has
-          (record { lines = few; h = h; is_head_of = is; is_method = refl; is_target = refl; body = e }) refl refl (leb-true n (length rest) v) refl,
+      Got (request_of h (take n rest)) _,
+      begins_with_request bytes skipped head rest (take n rest) (drop n rest) h (Sized n) n has
+          (record { lines = few; is_head_of = is; body = e }) refl refl
+          (leb-true n (length rest) v, take n rest, (refl, length-take n rest ∙ (let fits = leb-true n (length rest) v in omega arith))),
     )
     by_size h n few is e false v = (
       Need,
-      unfinished_without_body bytes skipped head rest h.method h.target n has
-          (record { lines = few; h = h; is_head_of = is; is_method = refl; is_target = refl; body = e }) (leb-false n (length rest) v),
+      unfinished_without_body bytes skipped head rest h (Sized n) has (record { lines = few; is_head_of = is; body = e })
+          (too_few n rest (leb-false n (length rest) v)),
     )
 
-    by_length : (h : RequestHead) (r : Result ℕ Refusal) → line_feeds head ≤ 66 → IsHeadOf head h → body_length h ≡ r → (t : Take) × Frames bytes t
-    by_length h (Ok n) few is e = by_size h n few is e (nat_le n (length rest)) refl
+    by_length : (h : RequestHead) (r : Result BodyLength Refusal) → line_feeds head ≤ 66 → IsHeadOf head h → body_length h ≡ r
+        → (t : Take) × Frames bytes t
+    by_length h (Ok (Sized n)) few is e = by_size h n few is e (nat_le n (length rest)) refl
+    by_length h (Ok Absent) few is e = (
+      Got (request_of h []) _,
+      begins_with_request bytes skipped head rest [] rest h Absent 0 has (record { lines = few; is_head_of = is; body = e }) refl refl
+          (omega arith, [], (refl, refl)),
+    )
     by_length h (Err refusal) few is e = refused refusal (refused_by_fields head h refusal few is e)
 
     by_lines : (v : Bool) → nat_le (line_feeds head) 66 ≡ v → (t : Take) × Frames bytes t

@@ -1,5 +1,6 @@
 -- Each request has a call or a refusal.
-use Rattle.std.proofs.Common.{◌≡◌, ◌⊎◌, ◌∙◌, ℕ, List, [], ◌∷◌, ◌++◌, length, drop, nat_eq, nat_le, Bool, true, false, Result, Ok, Err, Contains}
+use Rattle.std.proofs.Common.{◌≡◌, ◌⊎◌, ◌∙◌, ℕ, zero, suc, List, [], ◌∷◌, ◌++◌, length, drop, get_or, nat_eq, nat_le, Bool, true, false, Result, Ok}
+use Rattle.std.proofs.Common.{Err, Contains}
 use Rattle.std.proofs.Common.{codes, refl, sym, ap, subst, inl, inr, arith}
 use Rattle.std.specs.List.{starts_with, list_all}
 use Rattle.std.specs.Cmp.Lexicographic.{bytes_decides}
@@ -11,14 +12,16 @@ use Rattle.matchit.proofs.LookupLemmas.{append-cancel}
 use Rattle.tfs_rules.specs.Name.{IsName, is_name_byte}
 use Rattle.tfs_table.specs.declared.call.Call.{Call}
 use Rattle.tfs_table.specs.declared.call.Call.TheVariants.{Read, Change}
+use Rattle.tfs_table.specs.declared.call.Raw.{Raw}
 use Rattle.tfs_table.specs.declared.call.Raw.TheVariants.{Lock, Unlock, Push, Delete}
 use Rattle.tfs_table.specs.declared.refusal.Methods.TheVariants.{State}
 use Rattle.tfs_table.specs.declared.refusal.Refusal.{Refusal}
-use Rattle.tfs_table.specs.declared.refusal.Refusal.TheVariants.{NoRoute, MethodNotAllowed, BadName}
+use Rattle.tfs_table.specs.declared.refusal.Refusal.TheVariants.{NoRoute, MethodNotAllowed, BadName, BadDigest}
 use Rattle.tfs_http.specs.Request.{RequestValue}
 use Rattle.tfs_http.specs.Query.{identifier_parameter}
-use Rattle.tfs_http.specs.Routing.{slash, path_of, IsStatePath, NamesState, IsStateMethod, HasCall, RoutesTo}
-use Rattle.tfs_http.proofs.RoutingLemmas.{slash_found, slash_tested, front_split, front_joined}
+use Rattle.tfs_http.specs.Routing.{slash, path_of, Route, IsPathOf, IsOneOf, HasRoute, IsTaken, IsSound, HasChange, HasCall, routing_refusal}
+use Rattle.tfs_http.specs.Routing.{RoutesTo, methods_of, routes, state_path}
+use Rattle.tfs_http.proofs.RoutingLemmas.{IsStatePath, state_path_is, is_state_path, slash_found, slash_tested, front_split, front_joined}
 
 -- A path is the one of a state, or the one of none.
 abbrev IsDecided : List ℕ → Type 0
@@ -61,48 +64,60 @@ text_decided text other = by (same_text text other) refl
     by true e = inl ((bytes_decides text other).0 e)
     by false e = inr (λ is. cc (e, (bytes_decides text other).1 is))
 
--- Where both of two facts are decided, so is one of them.
-either_decided : {A B : Type 0} → A ⊎ ¬ A → B ⊎ ¬ B → (A ⊎ B) ⊎ ¬ (A ⊎ B)
--- Where both of two facts are decided, so is one of them.
-either_decided (inl a) other = inl (inl a)
--- Where both of two facts are decided, so is one of them.
-either_decided (inr not_a) (inl b) = inl (inr b)
--- Where both of two facts are decided, so is one of them.
-either_decided (inr not_a) (inr not_b) = inr (λ is. elim is [ inl a ↦ not_a a | inr b ↦ not_b b ])
+-- A text is one of a list or another.
+one_decided : (text : List ℕ) (items : List (List ℕ)) → IsOneOf text items ⊎ ¬ (IsOneOf text items)
+one_decided text [] = inr (λ is. is)
+one_decided text (first ∷ items) = elim (text_decided text first) [
+  | inl is ↦ inl (inl is)
+  | inr other ↦ elim (one_decided text items) [
+    | inl later ↦ inl (inr later)
+    | inr none ↦ inr (λ is. elim is [ inl a ↦ other a | inr b ↦ none b ])
+  ]
+]
 
--- A method is one of a state or another.
-method_decided : (method : List ℕ) → IsStateMethod method ⊎ ¬ (IsStateMethod method)
-method_decided method =
-    -- Where both of two facts are decided, so is one of them.
-    either_decided (text_decided method (codes "GET"))
-    (either_decided (text_decided method (codes "POST"))
-    (either_decided (text_decided method (codes "DELETE"))
-    (either_decided (text_decided method (codes "LOCK")) (text_decided method (codes "UNLOCK")))))
+-- The one route is the route of a state.
+pub one_route : (route : Route) → Contains routes route → route ≡ state_path
+one_route route (zero, within, is) = sym is
+one_route route (suc k, within, is) = absurd (omega (arith, within))
 
--- A request with a name and a method of a state has a call.
-method_called : (r : RequestValue) (name : List ℕ) → NamesState r.target name → IsName name → IsStateMethod r.method → (call : Call) × HasCall r call
-method_called r name names is (inl get) = (Read name, (names, is, get))
-method_called r name names is (inr (inl post)) = (Change name (Push (identifier_parameter r.target) r.body), (names, is, (post, refl, refl)))
-method_called r name names is (inr (inr (inl delete))) = (Change name (Delete (identifier_parameter r.target)), (names, is, (delete, refl)))
-method_called r name names is (inr (inr (inr (inl lock)))) = (Change name (Lock r.body), (names, is, (lock, refl)))
-method_called r name names is (inr (inr (inr (inr unlock)))) = (
-  Change name (Unlock r.body (identifier_parameter r.target)),
-  (names, is, (unlock, refl, refl)),
+-- It is listed.
+pub state_is_listed : Contains routes state_path
+state_is_listed = (0, omega arith, refl)
+
+-- A sound request with a method of a state has a call.
+method_called : (r : RequestValue) (name : List ℕ) → IsSound r state_path name → IsOneOf r.method (methods_of State)
+    → (call : Call) × HasCall r call
+method_called r name is (inl delete) = (Change name (Delete (identifier_parameter r.target)), (is, (delete, refl)))
+method_called r name is (inr (inl get)) = (Read name, (is, get))
+method_called r name is (inr (inr (inl lock))) = (Change name (Lock r.body), (is, (lock, refl)))
+method_called r name is (inr (inr (inr (inl post)))) = (
+  Change name (Push (identifier_parameter r.target) r.body),
+  (is, (post, refl, refl)),
 )
+method_called r name is (inr (inr (inr (inr (inl unlock))))) = (
+  Change name (Unlock r.body (identifier_parameter r.target)),
+  (is, (unlock, refl, refl)),
+)
+method_called r name is (inr (inr (inr (inr (inr none))))) = absurd none
 
 -- The request has a call or a refusal.
 abbrev IsRouted : RequestValue → Type 0
 IsRouted r = (x : Result Call Refusal) × RoutesTo r x
 
--- A request whose target names a state has one.
-state_routed : (r : RequestValue) (part : List ℕ) → NamesState r.target part → IsRouted r
-state_routed r part names = elim (method_decided r.method) [
+-- A request whose target has the route of a state has one.
+state_routed : (r : RequestValue) (part : List ℕ) → HasRoute r.target state_path part → IsRouted r
+state_routed r part has = elim (one_decided r.method (methods_of State)) [
   | inl method ↦ elim (name_decided part) [
-    | inl is ↦ (let called = method_called r part names is method in (Ok called.0, called.1))
-    | inr not ↦ (Err BadName, (part, names, method, not))
+    | inl is ↦ by (record { has_route = has; method = method }) is r.intact refl
+    | inr not ↦ (Err BadName, (state_path, part, record { has_route = has; method = method }, not))
   ]
-  | inr none ↦ (Err (MethodNotAllowed State), (part, names, none))
+  | inr none ↦ (Err (MethodNotAllowed State), (state_path, part, has, refl, none))
 ]
+  where
+    by : IsTaken r state_path part → IsName part → (v : Bool) → r.intact ≡ v → IsRouted r
+    by taken is true e =
+        let called = method_called r part (record { taken = taken; is_name = is; intact = e }) taken.method in (Ok called.0, called.1)
+    by taken is false e = (Err BadDigest, (state_path, part, taken, is, e))
 
 -- Each request has one.
 pub each_routed : (r : RequestValue) → IsRouted r
@@ -110,7 +125,143 @@ each_routed r = by (is_utf8 r.target) refl
   where
     by : (v : Bool) → is_utf8 r.target ≡ v → IsRouted r
     by true e = elim (path_decided (path_of r.target)) [
-      | inl p ↦ state_routed r p.0 (record { text = IsUtf8-from_is_utf8 r.target e; path = p.1 })
-      | inr none ↦ (Err NoRoute, λ part n. none part n.path)
+      | inl p ↦ state_routed r p.0
+          (record { listed = state_is_listed; text = IsUtf8-from_is_utf8 r.target e; path = state_path_is (path_of r.target) p.0 p.1 })
+      | inr none ↦ (
+        Err NoRoute,
+        λ route part n.
+            none part (is_state_path (path_of r.target) part (subst (λ t. IsPathOf t (path_of r.target) part) (one_route route n.listed) n.path)),
+      )
     ]
-    by false e = (Err NoRoute, λ part n. cc (e, is_utf8-from_IsUtf8 r.target n.text))
+    by false e = (Err NoRoute, λ route part n. cc (e, is_utf8-from_IsUtf8 r.target n.text))
+
+-- A target has one route, and one part.
+part_once : (target : List ℕ) (route other : Route) (part last : List ℕ) → HasRoute target route part → HasRoute target other last
+    → (route ≡ other) × (part ≡ last)
+part_once target route other part last p q =
+    let one = one_route route p.listed in
+    let two = one_route other q.listed in
+    let a = is_state_path (path_of target) part (subst (λ t. IsPathOf t (path_of target) part) one p.path) in
+    let b = is_state_path (path_of target) last (subst (λ t. IsPathOf t (path_of target) last) two q.path) in
+    (one ∙ sym two, append-cancel (codes "/state/") part last (sym a.parts ∙ b.parts))
+
+-- The first letter of a change's method.
+abbrev letter_of : Raw → ℕ
+letter_of (Push id body) = 80
+letter_of (Delete id) = 68
+letter_of (Lock body) = 76
+letter_of (Unlock body id) = 85
+
+-- A request that asks for a change has its letter.
+letter_is : (r : RequestValue) (raw : Raw) → HasChange r raw → get_or r.method 0 0 ≡ letter_of raw
+letter_is r (Push id body) p = ap (λ t. get_or t 0 0) p.0
+letter_is r (Delete id) p = ap (λ t. get_or t 0 0) p.0
+letter_is r (Lock body) p = ap (λ t. get_or t 0 0) p.0
+letter_is r (Unlock body id) p = ap (λ t. get_or t 0 0) p.0
+
+-- A request asks for one change.
+change_once : (r : RequestValue) (raw other : Raw) → HasChange r raw → HasChange r other → raw ≡ other
+change_once r raw other p q = by raw other p q (sym (letter_is r raw p) ∙ letter_is r other q)
+  where
+    by : (raw other : Raw) → HasChange r raw → HasChange r other → letter_of raw ≡ letter_of other → raw ≡ other
+    by (Push id body) (Push also last) p q e = ap (λ t. Push t body) (p.1 ∙ sym q.1) ∙ ap (λ t. Push also t) (p.2 ∙ sym q.2)
+    by (Push id body) (Delete also) p q e = absurd (omega arith)
+    by (Push id body) (Lock last) p q e = absurd (omega arith)
+    by (Push id body) (Unlock last also) p q e = absurd (omega arith)
+    by (Delete id) (Push also last) p q e = absurd (omega arith)
+    by (Delete id) (Delete also) p q e = ap Delete (p.1 ∙ sym q.1)
+    by (Delete id) (Lock last) p q e = absurd (omega arith)
+    by (Delete id) (Unlock last also) p q e = absurd (omega arith)
+    by (Lock body) (Push also last) p q e = absurd (omega arith)
+    by (Lock body) (Delete also) p q e = absurd (omega arith)
+    by (Lock body) (Lock last) p q e = ap Lock (p.1 ∙ sym q.1)
+    by (Lock body) (Unlock last also) p q e = absurd (omega arith)
+    by (Unlock body id) (Push also last) p q e = absurd (omega arith)
+    by (Unlock body id) (Delete also) p q e = absurd (omega arith)
+    by (Unlock body id) (Lock last) p q e = absurd (omega arith)
+    by (Unlock body id) (Unlock last also) p q e = ap (λ t. Unlock t id) (p.1 ∙ sym q.1) ∙ ap (λ t. Unlock last t) (p.2 ∙ sym q.2)
+
+-- GET asks for no change.
+get_changes_nothing : (r : RequestValue) (raw : Raw) → r.method ≡ codes "GET" → ¬ (HasChange r raw)
+get_changes_nothing r raw get p = by raw (sym (letter_is r raw p) ∙ ap (λ t. get_or t 0 0) get)
+  where
+    by : (raw : Raw) → ¬ (letter_of raw ≡ 71)
+    by (Push id body) e = omega arith
+    by (Delete id) e = omega arith
+    by (Lock body) e = omega arith
+    by (Unlock body id) e = omega arith
+
+-- A request has one call.
+call_once : (r : RequestValue) (call other : Call) → HasCall r call → HasCall r other → call ≡ other
+call_once r (Read a) (Read b) p q = ap Read (part_once r.target state_path state_path a b p.0.taken.has_route q.0.taken.has_route).1
+call_once r (Read a) (Change b raw) p q = absurd (get_changes_nothing r raw p.1 q.1)
+call_once r (Change a raw) (Read b) p q = absurd (get_changes_nothing r raw q.1 p.1)
+call_once r (Change a raw) (Change b other) p q =
+    ap (λ t. Change t raw) (part_once r.target state_path state_path a b p.0.taken.has_route q.0.taken.has_route).1
+    ∙ ap (λ t. Change b t) (change_once r raw other p.1 q.1)
+
+-- Why a request is refused, in four reasons.
+abbrev Reasons : RequestValue → Refusal → Type 0
+Reasons r refusal = (((route : Route) (part : List ℕ) → ¬ (HasRoute r.target route part)) × (refusal ≡ NoRoute))
+    ⊎ (((route : Route) × (part : List ℕ) × HasRoute r.target route part × ¬ (IsOneOf r.method (methods_of route.methods))
+    × (refusal ≡ MethodNotAllowed route.methods))
+    ⊎ (((route : Route) × (part : List ℕ) × IsTaken r route part × ¬ (IsName part) × (refusal ≡ BadName))
+    ⊎ ((route : Route) × (part : List ℕ) × IsTaken r route part × IsName part × (r.intact ≡ false) × (refusal ≡ BadDigest))))
+
+-- A refused request is refused for one of them.
+reasons : (r : RequestValue) (refusal : Refusal) → routing_refusal r refusal → Reasons r refusal
+reasons r NoRoute p = inl (p, refl)
+reasons r (MethodNotAllowed methods) p = inr (inl (p.0, p.1, p.2, p.4, ap MethodNotAllowed p.3))
+reasons r BadName p = inr (inr (inl (p.0, p.1, p.2, p.3, refl)))
+reasons r BadDigest p = inr (inr (inr (p.0, p.1, p.2, p.3, p.4, refl)))
+reasons r _ p = absurd p
+
+-- The route that takes a request takes it by any other that it has.
+taken_as : (r : RequestValue) (route other : Route) (part last : List ℕ) → IsTaken r route part → HasRoute r.target other last
+    → IsOneOf r.method (methods_of other.methods) × (part ≡ last)
+taken_as r route other part last t has =
+    let same = part_once r.target route other part last t.has_route has in
+    (subst (λ (x : Route). IsOneOf r.method (methods_of x.methods)) same.0 t.method, same.1)
+
+-- A sound request isn't refused.
+sound_not_refused : (r : RequestValue) (route : Route) (name : List ℕ) (refusal : Refusal) → IsSound r route name → ¬ (Reasons r refusal)
+sound_not_refused r route name refusal s (inl p) = p.0 route name s.taken.has_route
+sound_not_refused r route name refusal s (inr (inl p)) = p.3 (taken_as r route p.0 name p.1 s.taken p.2).0
+sound_not_refused r route name refusal s (inr (inr (inl p))) =
+    p.3 (subst IsName (taken_as r route p.0 name p.1 s.taken p.2.has_route).1 s.is_name)
+sound_not_refused r route name refusal s (inr (inr (inr p))) = let wrong : true ≡ false = sym s.intact ∙ p.4 in cc
+
+-- A request that has a call isn't refused.
+called_not_refused : (r : RequestValue) (call : Call) (refusal : Refusal) → HasCall r call → ¬ (routing_refusal r refusal)
+called_not_refused r (Read name) refusal p q = sound_not_refused r state_path name refusal p.0 (reasons r refusal q)
+called_not_refused r (Change name raw) refusal p q = sound_not_refused r state_path name refusal p.0 (reasons r refusal q)
+
+-- A request is refused for one reason.
+refused_once : (r : RequestValue) (f g : Refusal) → routing_refusal r f → routing_refusal r g → f ≡ g
+refused_once r f g p q = by (reasons r f p) (reasons r g q)
+  where
+    by : Reasons r f → Reasons r g → f ≡ g
+    by (inl a) (inl b) = a.1 ∙ sym b.1
+    by (inl a) (inr (inl b)) = absurd (a.0 b.0 b.1 b.2)
+    by (inl a) (inr (inr (inl b))) = absurd (a.0 b.0 b.1 b.2.has_route)
+    by (inl a) (inr (inr (inr b))) = absurd (a.0 b.0 b.1 b.2.has_route)
+    by (inr (inl a)) (inl b) = absurd (b.0 a.0 a.1 a.2)
+    by (inr (inl a)) (inr (inl b)) =
+        a.4 ∙ ap (λ (x : Route). MethodNotAllowed x.methods) (part_once r.target a.0 b.0 a.1 b.1 a.2 b.2).0 ∙ sym b.4
+    by (inr (inl a)) (inr (inr (inl b))) = absurd (a.3 (taken_as r b.0 a.0 b.1 a.1 b.2 a.2).0)
+    by (inr (inl a)) (inr (inr (inr b))) = absurd (a.3 (taken_as r b.0 a.0 b.1 a.1 b.2 a.2).0)
+    by (inr (inr (inl a))) (inl b) = absurd (b.0 a.0 a.1 a.2.has_route)
+    by (inr (inr (inl a))) (inr (inl b)) = absurd (b.3 (taken_as r a.0 b.0 a.1 b.1 a.2 b.2).0)
+    by (inr (inr (inl a))) (inr (inr (inl b))) = a.4 ∙ sym b.4
+    by (inr (inr (inl a))) (inr (inr (inr b))) = absurd (a.3 (subst IsName (taken_as r b.0 a.0 b.1 a.1 b.2 a.2.has_route).1 b.3))
+    by (inr (inr (inr a))) (inl b) = absurd (b.0 a.0 a.1 a.2.has_route)
+    by (inr (inr (inr a))) (inr (inl b)) = absurd (b.3 (taken_as r a.0 b.0 a.1 b.1 a.2 b.2).0)
+    by (inr (inr (inr a))) (inr (inr (inl b))) = absurd (b.3 (subst IsName (taken_as r a.0 b.0 a.1 b.1 a.2 b.2.has_route).1 a.3))
+    by (inr (inr (inr a))) (inr (inr (inr b))) = a.5 ∙ sym b.5
+
+-- What becomes of a request is one thing.
+pub routed_once : (r : RequestValue) (x y : Result Call Refusal) → RoutesTo r x → RoutesTo r y → x ≡ y
+routed_once r (Ok call) (Ok other) p q = ap Ok (call_once r call other p q)
+routed_once r (Ok call) (Err refusal) p q = absurd (called_not_refused r call refusal p q)
+routed_once r (Err refusal) (Ok call) p q = absurd (called_not_refused r call refusal q p)
+routed_once r (Err refusal) (Err other) p q = ap Err (refused_once r refusal other p q)

@@ -5,9 +5,12 @@ use Rattle.httparse.specs.Grammar.{LineEnd, print_blank, RequestHead}
 use Rattle.httparse.proofs.GrammarLemmas.{request_unique}
 use Rattle.tfs_table.specs.declared.refusal.Refusal.{Refusal}
 use Rattle.tfs_table.specs.declared.refusal.Refusal.TheVariants.{HeadTooLarge, BadHead}
-use Rattle.tfs_http.specs.Request.{RequestValue}
-use Rattle.tfs_http.specs.Framing.{HasHead, HasNoHead, IsHeadOf, line_feeds, body_length, ReadsHead, IsHeadRefused, ReadsMessage, framing_refusal}
-use Rattle.tfs_http.specs.Framing.{BeginsWith, Frames}
+use Rattle.tfs_http.specs.Request.{RequestValue, request_of}
+use Rattle.tfs_http.specs.Head.{HasHead, HasNoHead, IsHeadOf, line_feeds}
+use Rattle.tfs_http.specs.Body.{body_length, SpellsBody}
+use Rattle.tfs_http.specs.Framing.{ReadsHead, IsHeadRefused, ReadsMessage, framing_refusal, BeginsWith, Frames}
+use Rattle.tfs_http.specs.declared.length.BodyLength.{BodyLength}
+use Rattle.tfs_http.specs.declared.length.BodyLength.TheVariants.{Absent, Sized}
 use Rattle.tfs_http.specs.declared.taken.Take.{Take}
 use Rattle.tfs_http.specs.declared.taken.Take.TheVariants.{Need, Got, Fault}
 use Rattle.tfs_http.proofs.HeadLemmas.{cuts, same_cut, blank_unique, head_starts}
@@ -45,18 +48,23 @@ head_unique bytes a b head other rest last has also =
     ]
 
 -- A head is read in one way.
-pub record SameLines (method other target last : List ℕ) (m n : ℕ) : Type 0 where
-  pub methods : method ≡ other
-  pub targets : target ≡ last
-  pub lens : m ≡ n
+pub reads_once : (head : List ℕ) (h k : RequestHead) (m n : BodyLength) → ReadsHead head h m → ReadsHead head k n → (h ≡ k) × (m ≡ n)
+reads_once head h k m n r s =
+    let same : h ≡ k = (request_unique head h k [] [] r.is_head_of.reads s.is_head_of.reads).0 in
+    let sizes : ◌≡◌ {A = Result BodyLength Refusal} (Ok m) (Ok n) = sym r.body ∙ ap body_length same ∙ s.body in
+    (same, cc)
 
--- Two readings of a head are one.
-pub reads_once : (head method other target last : List ℕ) (m n : ℕ) → ReadsHead head method target m → ReadsHead head other last n
-    → SameLines method other target last m n
-reads_once head method other target last m n r s =
-    let same : r.h ≡ s.h = (request_unique head r.h s.h [] [] r.is_head_of.reads s.is_head_of.reads).0 in
-    let lens : ◌≡◌ {A = Result ℕ Refusal} (Ok m) (Ok n) = sym r.body ∙ ap body_length same ∙ s.body in
-    record { methods = sym r.is_method ∙ ap (λ h. h.method) same ∙ s.is_method; targets = sym r.is_target ∙ ap (λ h. h.target) same ∙ s.is_target; lens = cc }
+-- Bytes begin with one body of a length.
+pub spells_once : (size : BodyLength) (coded body after other also last : List ℕ) → SpellsBody size coded body → SpellsBody size other also
+    → coded ++ after ≡ other ++ last → (coded ≡ other) × (body ≡ also) × (after ≡ last)
+spells_once Absent coded body after other also last s t e =
+    let front : coded ≡ other = s.0 ∙ sym t.0 in
+    (front, s.1 ∙ sym t.1, (same_cut coded after other last e (ap length front)).1)
+spells_once (Sized n) coded body after other also last s t e =
+    let one : length coded ≡ n = ap length s.0 ∙ s.1 in
+    let two : length other ≡ n = ap length t.0 ∙ t.1 in
+    let same = same_cut coded after other last e (one ∙ sym two) in
+    (same.0, sym s.0 ∙ same.0 ∙ t.0, same.1)
 
 -- How a head is refused, by its three reasons.
 abbrev Reasons : List ℕ → Refusal → Type 0
@@ -71,14 +79,14 @@ reasons head BadHead p = inr (inl (p.0, p.1, refl))
 reasons head _ p = inr (inr p)
 
 -- A head that is read isn't refused.
-pub reads_not_refused : (head method target : List ℕ) (n : ℕ) (refusal : Refusal) → ReadsHead head method target n → ¬ (IsHeadRefused head refusal)
-reads_not_refused head method target n refusal r refused = elim (reasons head refusal refused) [
+pub reads_not_refused : (head : List ℕ) (h : RequestHead) (n : BodyLength) (refusal : Refusal) → ReadsHead head h n → ¬ (IsHeadRefused head refusal)
+reads_not_refused head h n refusal r refused = elim (reasons head refusal refused) [
   | inl p ↦ let few = r.lines in omega arith
   | inr q ↦ elim q [
-    | inl p ↦ p.1 r.h r.is_head_of
+    | inl p ↦ p.1 h r.is_head_of
     | inr p ↦
-        let same : r.h ≡ p.1 = (request_unique head r.h p.1 [] [] r.is_head_of.reads p.2.reads).0 in
-        let wrong : ◌≡◌ {A = Result ℕ Refusal} (Ok n) (Err refusal) = sym r.body ∙ ap body_length same ∙ p.3 in
+        let same : h ≡ p.1 = (request_unique head h p.1 [] [] r.is_head_of.reads p.2.reads).0 in
+        let wrong : ◌≡◌ {A = Result BodyLength Refusal} (Ok n) (Err refusal) = sym r.body ∙ ap body_length same ∙ p.3 in
         cc
   ]
 ]
@@ -101,7 +109,7 @@ refused_once head f g p q = elim (reasons head f p) [
         | inl d ↦ absurd (d.1 c.1 c.2)
         | inr d ↦
             let same : c.1 ≡ d.1 = (request_unique head c.1 d.1 [] [] c.2.reads d.2.reads).0 in
-            let both : ◌≡◌ {A = Result ℕ Refusal} (Err f) (Err g) = sym c.3 ∙ ap body_length same ∙ d.3 in
+            let both : ◌≡◌ {A = Result BodyLength Refusal} (Err f) (Err g) = sym c.3 ∙ ap body_length same ∙ d.3 in
             cc
       ]
     ]
@@ -110,47 +118,40 @@ refused_once head f g p q = elim (reasons head f p) [
 
 -- A message's head is the head of the bytes that it begins.
 pub head_of_message : (bytes frame rest : List ℕ) (r : RequestValue) → bytes ≡ frame ++ rest → (m : ReadsMessage frame r)
-    → HasHead bytes m.skipped m.head (r.body ++ rest)
-head_of_message bytes frame rest r e m = subst (λ (t : List ℕ). HasHead t m.skipped m.head (r.body ++ rest)) (sym e)
-    (head_more frame rest m.skipped m.head r.body m.has_head)
-
--- The request of these three.
-request_of : List ℕ → List ℕ → List ℕ → RequestValue
-request_of method target body = record { method = method; target = target; body = body }
-
--- Requests of equal parts are equal.
-same_request : (r q : RequestValue) → r.method ≡ q.method → r.target ≡ q.target → r.body ≡ q.body → r ≡ q
-unfolding request_of
-same_request r q methods targets bodies =
-    ap (λ t. request_of t r.target r.body) methods ∙ ap (λ t. request_of q.method t r.body) targets ∙ ap (λ t. request_of q.method q.target t) bodies
+    → HasHead bytes m.skipped m.head (m.coded ++ rest)
+head_of_message bytes frame rest r e m = subst (λ (t : List ℕ). HasHead t m.skipped m.head (m.coded ++ rest)) (sym e)
+    (head_more frame rest m.skipped m.head m.coded m.has_head)
 
 -- Two messages at the beginning of the same bytes are one.
 pub message_once : (bytes : List ℕ) (r q : RequestValue) (m n : ℕ) → BeginsWith bytes r m → BeginsWith bytes q n → (r ≡ q) × (m ≡ n)
 message_once bytes r q m n b d =
     let one = head_of_message bytes b.frame b.rest r b.parts b.reads in
     let two = head_of_message bytes d.frame d.rest q d.parts d.reads in
-    let same = head_unique bytes b.reads.skipped d.reads.skipped b.reads.head d.reads.head (r.body ++ b.rest) (q.body ++ d.rest) one two in
-    let lines = reads_once b.reads.head r.method q.method r.target q.target (length r.body) (length q.body) b.reads.reads
-    (subst (λ (t : List ℕ). ReadsHead t q.method q.target (length q.body)) (sym same.heads) d.reads.reads) in
-    let bodies = same_cut r.body b.rest q.body d.rest same.rests lines.lens in
-    let rests = ap length bodies.1 in
+    let same = head_unique bytes b.reads.skipped d.reads.skipped b.reads.head d.reads.head (b.reads.coded ++ b.rest) (d.reads.coded ++ d.rest) one two in
+    let lines = reads_once b.reads.head b.reads.h d.reads.h b.reads.size d.reads.size b.reads.reads
+    (subst (λ (t : List ℕ). ReadsHead t d.reads.h d.reads.size) (sym same.heads) d.reads.reads) in
+    let bodies = spells_once b.reads.size b.reads.coded b.reads.body b.rest d.reads.coded d.reads.body d.rest b.reads.spells
+    (subst (λ (t : BodyLength). SpellsBody t d.reads.coded d.reads.body) (sym lines.1) d.reads.spells) same.rests in
+    let rests = ap length bodies.2 in
     let wholes = sym b.parts ∙ d.parts in
     let sizes = ap length wholes in
     let left = length-append b.frame b.rest in
     let right = length-append d.frame d.rest in
     let one_len = b.used_is in
-    let two_len = d.used_is in
-    (same_request r q lines.methods lines.targets bodies.0, omega arith)
+    let two_len = d.used_is in (
+      b.reads.is_request ∙ ap (λ t. request_of t b.reads.body) lines.0 ∙ ap (λ t. request_of d.reads.h t) bodies.1 ∙ sym d.reads.is_request,
+      omega arith,
+    )
 
 -- A message isn't refused.
 pub message_not_refused : (bytes : List ℕ) (r : RequestValue) (m : ℕ) (refusal : Refusal) → BeginsWith bytes r m → ¬ (framing_refusal bytes refusal)
 message_not_refused bytes r m refusal b p =
     let has = head_of_message bytes b.frame b.rest r b.parts b.reads in
     elim p [
-      | inl q ↦ q.1 b.reads.skipped b.reads.head (r.body ++ b.rest) has
+      | inl q ↦ q.1 b.reads.skipped b.reads.head (b.reads.coded ++ b.rest) has
       | inr q ↦
-          let same = head_unique bytes b.reads.skipped q.skipped b.reads.head q.head (r.body ++ b.rest) q.rest has q.has_head in
-          reads_not_refused b.reads.head r.method r.target (length r.body) refusal b.reads.reads
+          let same = head_unique bytes b.reads.skipped q.skipped b.reads.head q.head (b.reads.coded ++ b.rest) q.rest has q.has_head in
+          reads_not_refused b.reads.head b.reads.h b.reads.size refusal b.reads.reads
           (subst (λ (t : List ℕ). IsHeadRefused t refusal) (sym same.heads) q.refused)
     ]
 

@@ -4,7 +4,7 @@ use Rattle.std.proofs.Common.{inr, subst, take, drop, min, take-append-drop, len
 use Rattle.std.proofs.Math.Seq.{take-append_seam, drop-append_seam}
 use Rattle.httparse.specs.Ascii.{line_feed, carriage_return}
 use Rattle.httparse.specs.Grammar.{LineEnd, crlf, lf, print_end, print_blank}
-use Rattle.tfs_http.specs.Framing.{StartsWithEmptyLine, EndsWithEmptyLine, IsMessageHead, HasHead, HasNoHead}
+use Rattle.tfs_http.specs.Head.{StartsWithEmptyLine, EndsWithEmptyLine, IsMessageHead, HasHead, HasNoHead}
 
 -- The front was passed over: no line feed in it has an empty line behind it.
 pub record PassedOver (bytes front rest : List ℕ) : Type 0 where

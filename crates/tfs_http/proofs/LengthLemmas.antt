@@ -12,7 +12,8 @@ use Rattle.std.proofs.lemmas.Fmt.{IsAscii-from_digits}
 use Rattle.tfs_table.specs.declared.refusal.Refusal.TheVariants.{BodyTooLarge}
 use Rattle.httparse.specs.declared.spans.HeaderSpan.{HeaderSpan}
 use Rattle.httparse.specs.Spans.{span_bytes, header_bytes, IsHeaderWithin}
-use Rattle.tfs_http.specs.Framing.{length_of_text, values_named}
+use Rattle.tfs_http.specs.Body.{length_of_text}
+use Rattle.tfs_http.specs.Fields.{values_named}
 
 -- Both parts of a true conjunction are true.
 and_true : (x y : Bool) → (x && y) ≡ true → (x ≡ true) × (y ≡ true)

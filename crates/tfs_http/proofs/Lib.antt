@@ -10,3 +10,5 @@ pub mod EachPiece
 pub mod EachHead
 pub mod EachMessage
 pub mod QueryLemmas
+pub mod ConnectionLemmas
+pub mod FieldLemmas

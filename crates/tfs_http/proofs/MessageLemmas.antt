@@ -1,6 +1,6 @@
 -- Laws of messages: how long they and their bodies are, and that bytes begin with one alone.
 use Rattle.std.proofs.Common.{◌≡◌, suc, ◌≤◌, ◌<◌, ◌+◌, ℕ, List, [], ◌∷◌, ◌++◌, length, drop, Bool, true, false, ◌&&◌, nat_le, nat_lt, cond}
-use Rattle.std.proofs.Common.{Ok, Err, refl, sym, ◌∙◌, ap, subst, arith, inl, inr, length-append, map, codes}
+use Rattle.std.proofs.Common.{Result, Ok, Err, refl, sym, ◌∙◌, ap, subst, arith, inl, inr, length-append, codes}
 use Rattle.std.specs.List.{list_all}
 use Rattle.std.specs.Char.{is_ascii_digit}
 use Rattle.std.specs.Str.Parse.{digits_value}
@@ -8,52 +8,75 @@ use Rattle.std.proofs.Math.Seq.{drop-append_seam}
 use Rattle.std.proofs.lemmas.Bool.{leb-true}
 use Rattle.httparse.specs.Ascii.{line_feed}
 use Rattle.httparse.specs.Grammar.{LineEnd, print_end, print_blank}
-use Rattle.httparse.specs.Spans.{name_and_value}
+use Rattle.httparse.specs.Grammar.{RequestHead}
 use Rattle.tfs_table.specs.Draft.{CarriesFittingState}
 use Rattle.tfs_table.specs.declared.call.Call.{Call}
 use Rattle.tfs_table.specs.declared.call.Call.TheVariants.{Read, Change}
 use Rattle.tfs_table.specs.declared.call.Raw.TheVariants.{Lock, Unlock, Push, Delete}
 use Rattle.tfs_table.specs.declared.refusal.Refusal.{Refusal}
-use Rattle.tfs_table.specs.declared.refusal.Refusal.TheVariants.{BadLength, BodyTooLarge}
+use Rattle.tfs_table.specs.declared.refusal.Refusal.TheVariants.{NoHost, BadLength, BodyTooLarge}
 use Rattle.tfs_http.specs.Request.{RequestValue}
-use Rattle.tfs_http.specs.Framing.{length_of_text, length_told, values_named, ReadsMessage, BeginsWith, IsUnfinished, framing_refusal}
+use Rattle.tfs_http.specs.Fields.{fields_of, values_named}
+use Rattle.tfs_http.specs.Body.{length_of_text, length_told, names_host, body_length, SpellsBody, Fits}
+use Rattle.tfs_http.specs.Framing.{ReadsMessage, BeginsWith, IsUnfinished, framing_refusal}
+use Rattle.tfs_http.specs.declared.length.BodyLength.{BodyLength}
+use Rattle.tfs_http.specs.declared.length.BodyLength.TheVariants.{Absent, Sized}
 use Rattle.tfs_http.specs.Routing.{HasCall, HasChange}
 use Rattle.tfs_http.proofs.FramingLemmas.{message_once}
 
 -- A length that a text gives is of a body that fits.
-text_fits : (text : List ℕ) (n : ℕ) → length_of_text text ≡ Ok n → n ≤ 16777216
+text_fits : (text : List ℕ) (n : BodyLength) → length_of_text text ≡ Ok n → Fits n
 text_fits text n e = by_digits (nat_lt 0 (length text) && list_all is_ascii_digit text) e
   where
     by_size : (b : Bool) → nat_le (digits_value 10 text) 16777216 ≡ b
-        → cond b (Ok (digits_value 10 text)) (Err BodyTooLarge) ≡ Ok n → n ≤ 16777216
-    by_size true t f = let same : digits_value 10 text ≡ n = cc in let small = leb-true (digits_value 10 text) 16777216 t in omega arith
+        → cond b (Ok (Sized (digits_value 10 text))) (Err BodyTooLarge) ≡ Ok n → Fits n
+    by_size true t f =
+        let same : Sized (digits_value 10 text) ≡ n = cc in subst Fits same (leb-true (digits_value 10 text) 16777216 t)
     by_size false t f = cc
 
-    by_digits : (b : Bool) → cond b (cond (nat_le (digits_value 10 text) 16777216) (Ok (digits_value 10 text)) (Err BodyTooLarge)) (Err BadLength) ≡ Ok n
-        → n ≤ 16777216
+    by_digits : (b : Bool) → cond b (cond (nat_le (digits_value 10 text) 16777216) (Ok (Sized (digits_value 10 text))) (Err BodyTooLarge))
+        (Err BadLength) ≡ Ok n
+        → Fits n
     by_digits true f = by_size (nat_le (digits_value 10 text) 16777216) refl f
     by_digits false f = cc
 
 -- A length that is told is of a body that fits.
-told_fits : (lengths codings : List (List ℕ)) (n : ℕ) → length_told lengths codings ≡ Ok n → n ≤ 16777216
-told_fits [] [] n e = let same : 0 ≡ n = cc in omega arith
+told_fits : (lengths codings : List (List ℕ)) (n : BodyLength) → length_told lengths codings ≡ Ok n → Fits n
+told_fits [] [] n e = let same : Absent ≡ n = cc in subst Fits same tt
 told_fits [] (coding ∷ codings) n e = cc
 told_fits (text ∷ []) [] n e = text_fits text n e
 told_fits (text ∷ other ∷ texts) [] n e = cc
 told_fits (text ∷ []) (coding ∷ codings) n e = cc
 told_fits (text ∷ other ∷ texts) (coding ∷ codings) n e = cc
 
+-- A length that a head says is of a body that fits.
+pub length_fits : (h : RequestHead) (n : BodyLength) → body_length h ≡ Ok n → Fits n
+length_fits h n e = by (names_host h.minor (values_named (codes "host") (fields_of h))) e
+  where
+    told : Result BodyLength Refusal
+    told = length_told (values_named (codes "content-length") (fields_of h)) (values_named (codes "transfer-encoding") (fields_of h))
+
+    by : (b : Bool) → cond b told (Err NoHost) ≡ Ok n → Fits n
+    by true f = told_fits (values_named (codes "content-length") (fields_of h)) (values_named (codes "transfer-encoding") (fields_of h)) n f
+    by false f = cc
+
+-- A body that is spelled fits where its length does.
+spelled_fits : (n : BodyLength) (coded body : List ℕ) → SpellsBody n coded body → Fits n → length body ≤ 16777216
+spelled_fits Absent coded body s fits = let none : length body ≡ 0 = ap length s.1 in omega arith
+spelled_fits (Sized n) coded body s fits = omega (arith, s.1, fits)
+
 -- A message's body has at most 16 MiB.
 pub body_fits : (bytes : List ℕ) (r : RequestValue) (used : ℕ) → BeginsWith bytes r used → length r.body ≤ 16777216
 body_fits bytes r used b =
-    let fields = map name_and_value b.reads.reads.h.fields in
-    told_fits (values_named (codes "content-length") fields) (values_named (codes "transfer-encoding") fields) (length r.body) b.reads.reads.body
+    let m = b.reads in
+    let is : r.body ≡ m.body = ap (λ (q : RequestValue). q.body) m.is_request in
+    subst (λ (t : List ℕ). length t ≤ 16777216) (sym is) (spelled_fits m.size m.coded m.body m.spells (length_fits m.h m.size m.reads.body))
 
 -- The call of a request whose body fits carries a state that fits.
 pub call_fits : (r : RequestValue) (call : Call) → HasCall r call → length r.body ≤ 16777216 → CarriesFittingState call
 call_fits r (Read name) has fits = tt
 call_fits r (Change name (Push id body)) has fits =
-    let change : HasChange r (Push id body) = has.2 in
+    let change : HasChange r (Push id body) = has.1 in
     subst (λ (t : List ℕ). length t ≤ 16777216) (sym change.2) fits
 call_fits r (Change name (Delete id)) has fits = tt
 call_fits r (Change name (Lock body)) has fits = tt
@@ -70,9 +93,9 @@ head_is_no_empty_text front text end is =
 pub frame_is_no_empty_text : (frame : List ℕ) (r : RequestValue) → ReadsMessage frame r → 0 < length frame
 frame_is_no_empty_text frame r m =
     let some : 0 < length m.head = head_is_no_empty_text m.has_head.is_head.ends.0 m.head m.has_head.is_head.ends.1 m.has_head.is_head.ends.2 in
-    let long : length frame ≡ length (print_blank m.skipped) + length (m.head ++ r.body) =
-    ap (λ (t : List ℕ). length t) m.has_head.parts ∙ length-append (print_blank m.skipped) (m.head ++ r.body) in
-    let parts : length (m.head ++ r.body) ≡ length m.head + length r.body = length-append m.head r.body in
+    let long : length frame ≡ length (print_blank m.skipped) + length (m.head ++ m.coded) =
+    ap (λ (t : List ℕ). length t) m.has_head.parts ∙ length-append (print_blank m.skipped) (m.head ++ m.coded) in
+    let parts : length (m.head ++ m.coded) ≡ length m.head + length m.coded = length-append m.head m.coded in
     omega arith
 
 -- No bytes have no refusal.

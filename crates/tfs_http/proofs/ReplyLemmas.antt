@@ -2,8 +2,9 @@
 use Rattle.std.proofs.Common.{◌≡◌, ◌≢◌, ◌∙◌, ℕ, List, [], ◌++◌, length, codes, decimal, Result, Ok, Err, IfOk, string_bytes, String, refl, ap}
 use Rattle.std.proofs.Common.{append_assoc, if◌then◌else◌}
 use Rattle.tfs_table.specs.Refusal.{RefusalValue, head_too_large, bad_head, bad_length, transfer_coding, body_too_large, no_route, method_not_allowed}
-use Rattle.tfs_table.specs.Refusal.{bad_name}
-use Rattle.tfs_table.specs.Refusal.{bad_lock_info, bad_state, too_many_instances, journal_stopped, locked, lock_lost, lineage_differs, serial_too_low, serial_reused, no_state}
+use Rattle.tfs_table.specs.Refusal.{bad_name, no_host, bad_chunk, bad_digest}
+use Rattle.tfs_table.specs.Refusal.{bad_lock_info, bad_state, too_many_instances, journal_stopped, locked, lock_lost, lineage_differs, serial_too_low}
+use Rattle.tfs_table.specs.Refusal.{serial_reused, no_state}
 use Rattle.tfs_table.specs.Refusal.{table_full, journal_full, out_of_memory, journal_fault, row_of}
 use Rattle.tfs_table.specs.Reply.{ReplyValue, done, state, refused}
 use Rattle.tfs_http.specs.ReplyText.{status_of, allow_line, close_line, type_line, phrase_of, name_body, head_text}
@@ -41,12 +42,15 @@ refusal_printed refusal status name allow body text form is_status is_name is_al
 refusal_has_phrase : (refusal : RefusalValue) → phrase_of (row_of refusal).status ≢ []
 refusal_has_phrase head_too_large e = cc
 refusal_has_phrase bad_head e = cc
+refusal_has_phrase no_host e = cc
 refusal_has_phrase bad_length e = cc
 refusal_has_phrase transfer_coding e = cc
 refusal_has_phrase body_too_large e = cc
+refusal_has_phrase bad_chunk e = cc
 refusal_has_phrase no_route e = cc
 refusal_has_phrase (method_not_allowed methods) e = cc
 refusal_has_phrase bad_name e = cc
+refusal_has_phrase bad_digest e = cc
 refusal_has_phrase bad_lock_info e = cc
 refusal_has_phrase bad_state e = cc
 refusal_has_phrase too_many_instances e = cc

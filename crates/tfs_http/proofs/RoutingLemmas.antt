@@ -1,7 +1,7 @@
 -- Laws of routing: the paths that the one route matches are those of a state.
 use Rattle.std.proofs.Common.{◌≡◌, ◌≢◌, ◌<◌, ◌≤◌, ◌-◌, ◌==◌, ℕ, zero, suc, List, [], ◌∷◌, ◌++◌, length, take, drop, get_or, cond, nat_eq, Bool, true}
 use Rattle.std.proofs.Common.{false, Option, Some, None, Bor, MatchOption, IfSome, IfNone, Contains, codes, refl, sym, ◌∙◌, ap, subst, arith, rules}
-use Rattle.std.proofs.Common.{take-append-drop, length-append, Fits, w8}
+use Rattle.std.proofs.Common.{append-nil, take-append-drop, length-append, Fits, w8}
 use Rattle.std.proofs.lemmas.Bool.{eqb-true, lt-ltb, le-leb}
 use Rattle.std.proofs.lemmas.Bool.Decides.{nat_tests}
 use Rattle.std.proofs.lemmas.List.{take_all}
@@ -19,7 +19,29 @@ use Rattle.matchit.proofs.ParamLemmas.{same_text-self}
 use Rattle.matchit.proofs.SeekLemmas.{seek-empty, first-prefix}
 use Rattle.matchit.proofs.RenameLemmas.{first-rename}
 use Rattle.tfs_table.specs.declared.refusal.Methods.{Methods}
-use Rattle.tfs_http.specs.Routing.{slash, IsStatePath, state_route, state_routes}
+use Rattle.tfs_http.specs.Routing.{slash, IsPathOf, state_path, state_route, state_routes}
+
+-- The path of a state: `/state/` and a part, which isn't empty and has no slash.
+pub record IsStatePath (path part : List ℕ) : Type 0 where
+  pub parts : path ≡ codes "/state/" ++ part
+  pub filled : part ≢ []
+  pub whole : ¬ (Contains part slash)
+
+-- It is the path of the route of a state.
+pub state_path_is : (path part : List ℕ) → IsStatePath path part → IsPathOf state_path path part
+state_path_is path part p = record {
+  parts = p.parts ∙ ap (λ t. codes "/state/" ++ t) (sym (append-nil part));
+  filled = p.filled;
+  whole = p.whole;
+}
+
+-- And the other way.
+pub is_state_path : (path part : List ℕ) → IsPathOf state_path path part → IsStatePath path part
+is_state_path path part p = record {
+  parts = p.parts ∙ ap (λ t. codes "/state/" ++ t) (append-nil part);
+  filled = p.filled;
+  whole = p.whole;
+}
 
 -- A text has a slash where one of its bytes is one.
 pub slash_found : (s : List ℕ) → has_slash s ≡ true → Contains s slash
@@ -218,16 +240,17 @@ pub part_found : (r : Option (Bor (List ℕ))) (path taken pattern text : List �
     → rows ≡ state_routes → AreBytes path → IsUtf8 path → taken ≡ path
     → first rows path ≡ Some (record { pattern = pattern; text = text; names = names; value = value })
     → (AllText (walk pattern text taken names 0 0) → GivesName r (walk pattern text taken names 0 0))
-    → IfSome r (λ part. IsStatePath path part.now) × IfNone r ((part : List ℕ) → ¬ (IsStatePath path part))
+    → IfSome r (λ part. IsPathOf state_path path part.now) × IfNone r ((part : List ℕ) → ¬ (IsPathOf state_path path part))
 part_found r path taken pattern text names value rows one bytes utf8 same found gives =
     let p = part_taken r path taken pattern text names value rows one bytes utf8 same found gives in by r p.0 p.1
   where
     by : (o : Option (Bor (List ℕ))) → IsStatePath path (drop 7 path) → MatchOption o ⊥ (λ part. part.now ≡ drop 7 path)
-        → IfSome o (λ part. IsStatePath path part.now) × IfNone o ((part : List ℕ) → ¬ (IsStatePath path part))
+        → IfSome o (λ part. IsPathOf state_path path part.now) × IfNone o ((part : List ℕ) → ¬ (IsPathOf state_path path part))
     by None p e = absurd e
-    by (Some part) p e = (subst (IsStatePath path) (sym e) p, tt)
+    by (Some part) p e = (state_path_is path part.now (subst (IsStatePath path) (sym e) p), tt)
 
 -- Where nothing matches the path is the one of no state.
 pub none_matches : (path : List ℕ) (rows : RowsOf (RouteOf Methods)) → rows ≡ state_routes → AreBytes path → first rows path ≡ None → (part : List ℕ)
-    → ¬ (IsStatePath path part)
-none_matches path rows one bytes none part p = cc (ap (λ t. first t path) one, none, state_path_matches path part bytes p)
+    → ¬ (IsPathOf state_path path part)
+none_matches path rows one bytes none part p =
+    cc (ap (λ t. first t path) one, none, state_path_matches path part bytes (is_state_path path part p))

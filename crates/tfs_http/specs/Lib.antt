@@ -1,7 +1,12 @@
+pub mod Head
+pub mod Fields
+pub mod Body
+pub mod Connection
+pub mod Lines
+pub mod Digest
 pub mod Request
 pub mod Framing
-pub mod Fields
 pub mod Form
-pub mod ReplyText
 pub mod Query
 pub mod Routing
+pub mod ReplyText

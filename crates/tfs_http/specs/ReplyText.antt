@@ -3,8 +3,7 @@ use Rattle.std.specs.Prelude.{ℕ, ◌==◌, nat_lt, List, [], ◌∷◌, ◌++�
 use Rattle.std.specs.Option.{option_map_or}
 use Rattle.tfs_table.specs.Reply.{ReplyValue, done, state, refused}
 use Rattle.tfs_table.specs.Refusal.{RefusalValue, locked, method_not_allowed, row_of}
-use Rattle.tfs_table.specs.declared.refusal.Methods.{Methods}
-use Rattle.tfs_table.specs.declared.refusal.Methods.TheVariants.{State}
+use Rattle.tfs_http.specs.Routing.{methods_of}
 use Rattle.tfs_http.specs.declared.form.Form.{Form}
 
 -- A line, with its end.
@@ -42,13 +41,15 @@ status_of (refused refusal) = (row_of refusal).status
 abbrev pub status_line : ℕ → List ℕ
 status_line status = line (codes "HTTP/1.1 " ++ decimal status ++ codes " " ++ phrase_of status)
 
--- The methods of a route.
-abbrev pub methods_text : Methods → List ℕ
-methods_text State = codes "DELETE, GET, LOCK, POST, UNLOCK"
+-- The items of a list, with a comma and a space between each two (RFC 9110, section 5.6.1).
+abbrev pub list_text : List (List ℕ) → List ℕ
+list_text [] = []
+list_text (item ∷ []) = item
+list_text (item ∷ next ∷ items) = item ++ (codes ", " ++ list_text (next ∷ items))
 
 -- The methods that the route takes (RFC 9110, section 10.2.1), where the request's is another.
 abbrev pub allow_line : ReplyValue → List ℕ
-allow_line (refused (method_not_allowed methods)) = line (codes "Allow: " ++ methods_text methods)
+allow_line (refused (method_not_allowed methods)) = line (codes "Allow: " ++ list_text (methods_of methods))
 allow_line _ = []
 
 -- The conversation ends after the reply (RFC 9112, section 9.6).

@@ -1,5 +1,5 @@
 -- Routing: which call a request has, or why it has none.
-use Rattle.std.specs.Prelude.{◌≡◌, ◌≢◌, ◌⊎◌, ◌==◌, ℕ, List, [], ◌∷◌, ◌++◌, codes, Contains, Result, Ok, Err}
+use Rattle.std.specs.Prelude.{◌≡◌, ◌≢◌, ◌⊎◌, ◌==◌, ℕ, true, false, List, [], ◌∷◌, ◌++◌, codes, Contains, Result, Ok, Err}
 use Rattle.std.specs.List.{before_first}
 use Rattle.std.specs.Str.{IsUtf8}
 use Rattle.matchit.specs.Rows.{RowsOf, param_token}
@@ -12,7 +12,7 @@ use Rattle.tfs_table.specs.declared.call.Raw.TheVariants.{Lock, Unlock, Push, De
 use Rattle.tfs_table.specs.declared.refusal.Methods.{Methods}
 use Rattle.tfs_table.specs.declared.refusal.Methods.TheVariants.{State}
 use Rattle.tfs_table.specs.declared.refusal.Refusal.{Refusal}
-use Rattle.tfs_table.specs.declared.refusal.Refusal.TheVariants.{NoRoute, MethodNotAllowed, BadName}
+use Rattle.tfs_table.specs.declared.refusal.Refusal.TheVariants.{NoRoute, MethodNotAllowed, BadName, BadDigest}
 use Rattle.tfs_http.specs.Request.{RequestValue}
 use Rattle.tfs_http.specs.Query.{question_mark, identifier_parameter}
 
@@ -24,20 +24,51 @@ slash = 47
 abbrev pub path_of : List ℕ → List ℕ
 path_of target = before_first (λ byte. byte == question_mark) target
 
--- The path of a state: `/state/` and a part, which isn't empty and has no slash.
-pub record IsStatePath (path part : List ℕ) : Type 0 where
-  pub parts : path ≡ codes "/state/" ++ part
+-- A route: what stands before the name and behind it in a path, and the methods that it takes.
+pub record Route : Type 0 where
+  pub front : List ℕ
+  pub back : List ℕ
+  pub methods : Methods
+
+-- The route of a state, `/state/{name}`.
+abbrev pub state_path : Route
+state_path = record { front = codes "/state/"; back = []; methods = State }
+
+-- The routes.
+abbrev pub routes : List Route
+routes = state_path ∷ []
+
+-- The methods of a route, in the order of their letters (RFC 9110, sections 9.1 and 9.3; Terraform, http backend).
+abbrev pub methods_of : Methods → List (List ℕ)
+methods_of State = codes "DELETE" ∷ codes "GET" ∷ codes "LOCK" ∷ codes "POST" ∷ codes "UNLOCK" ∷ []
+
+-- The text is one of these, byte for byte.
+abbrev pub IsOneOf : List ℕ → List (List ℕ) → Type 0
+IsOneOf text [] = ⊥
+IsOneOf text (first ∷ others) = (text ≡ first) ⊎ IsOneOf text others
+
+-- The path is that of a route, with a part that isn't empty and has no slash.
+pub record IsPathOf (route : Route) (path part : List ℕ) : Type 0 where
+  pub parts : path ≡ route.front ++ (part ++ route.back)
   pub filled : part ≢ []
   pub whole : ¬ (Contains part slash)
 
--- The target, a text, has the path of a state.
-pub record NamesState (target part : List ℕ) : Type 0 where
+-- The target, a text, has the path of one of the routes.
+pub record HasRoute (target : List ℕ) (route : Route) (part : List ℕ) : Type 0 where
+  pub listed : Contains routes route
   pub text : IsUtf8 target
-  pub path : IsStatePath (path_of target) part
+  pub path : IsPathOf route (path_of target) part
 
--- The methods of a state (RFC 9110, sections 9.1 and 9.3; Terraform, http backend).
-abbrev pub IsStateMethod : List ℕ → Type 0
-IsStateMethod method = (method ≡ codes "GET") ⊎ (method ≡ codes "POST") ⊎ (method ≡ codes "DELETE") ⊎ (method ≡ codes "LOCK") ⊎ (method ≡ codes "UNLOCK")
+-- The target has a route that takes the method.
+pub record IsTaken (r : RequestValue) (route : Route) (part : List ℕ) : Type 0 where
+  pub has_route : HasRoute r.target route part
+  pub method : IsOneOf r.method (methods_of route.methods)
+
+-- And the part is a name, and the body has the digest that is told, if one is.
+pub record IsSound (r : RequestValue) (route : Route) (name : List ℕ) : Type 0 where
+  pub taken : IsTaken r route name
+  pub is_name : IsName name
+  pub intact : r.intact ≡ true
 
 -- The request asks for the change: POST makes the body the state, DELETE takes the state away, LOCK takes the lock and
 -- UNLOCK gives it back (Terraform, http backend). The identifier is the parameter `ID`, also where it is empty.
@@ -49,14 +80,17 @@ HasChange r (Unlock body id) = (r.method ≡ codes "UNLOCK") × (body ≡ r.body
 
 -- The request has the call: GET reads a state, and the other methods change its workspace.
 abbrev pub HasCall : RequestValue → Call → Type 0
-HasCall r (Read name) = NamesState r.target name × IsName name × (r.method ≡ codes "GET")
-HasCall r (Change name raw) = NamesState r.target name × IsName name × HasChange r raw
+HasCall r (Read name) = IsSound r state_path name × (r.method ≡ codes "GET")
+HasCall r (Change name raw) = IsSound r state_path name × HasChange r raw
 
--- The first refusal of a request: its target names no state, or its method isn't one of a state, or the part is no name.
+-- The first refusal of a request: its target has no route, or the route doesn't take its method, or the part is no name, or
+-- the body hasn't the digest that is told.
 abbrev pub routing_refusal : RequestValue → Refusal → Type 0
-routing_refusal r NoRoute = (part : List ℕ) → ¬ (NamesState r.target part)
-routing_refusal r (MethodNotAllowed State) = (part : List ℕ) × NamesState r.target part × ¬ (IsStateMethod r.method)
-routing_refusal r BadName = (part : List ℕ) × NamesState r.target part × IsStateMethod r.method × ¬ (IsName part)
+routing_refusal r NoRoute = (route : Route) (part : List ℕ) → ¬ (HasRoute r.target route part)
+routing_refusal r (MethodNotAllowed methods) = (route : Route) × (part : List ℕ) × HasRoute r.target route part × (methods ≡ route.methods)
+    × ¬ (IsOneOf r.method (methods_of route.methods))
+routing_refusal r BadName = (route : Route) × (part : List ℕ) × IsTaken r route part × ¬ (IsName part)
+routing_refusal r BadDigest = (route : Route) × (part : List ℕ) × IsTaken r route part × IsName part × (r.intact ≡ false)
 routing_refusal r _ = ⊥
 
 -- What becomes of a request, but for want of memory.
@@ -64,10 +98,10 @@ abbrev pub RoutesTo : RequestValue → Result Call Refusal → Type 0
 RoutesTo r (Ok call) = HasCall r call
 RoutesTo r (Err refusal) = routing_refusal r refusal
 
--- The one route, as `matchit` has it: the pattern of `/state/{name}`, where its name stands, and its methods.
+-- The route of a state, as `matchit` has it: the pattern of `/state/{name}`, where its name stands, and its methods.
 abbrev pub state_route : RouteOf Methods
 state_route = record { pattern = codes "/state/" ++ param_token ∷ []; text = codes "/state/{name}"; names = (8, 12) ∷ []; value = State }
 
--- A router that has this route alone.
+-- A router that has the routes.
 abbrev pub state_routes : RowsOf (RouteOf Methods)
 state_routes = (state_route.pattern, state_route) ∷ []

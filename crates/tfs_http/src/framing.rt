@@ -1,19 +1,19 @@
 //! Where a message ends (RFC 9112, sections 2.2, 3, 5 and 6.2).
 
-ghost use Rattle.std.specs.Prelude.{◌≡◌, ◌==◌, ℕ, count_by, IfOk, IfErr, OnErr, IfSome, IfNone};
-ghost use Rattle.httparse.specs.Ascii.{line_feed};
+ghost use Rattle.std.specs.Prelude.{◌≡◌, ℕ, List, IfOk, OnErr};
 ghost use Rattle.httparse.specs.Grammar.{RequestHead};
-ghost use Rattle.httparse.specs.Spans.{IsRequestAt, IsRequestWithin, span_bytes};
-ghost use Rattle.tfs_http.specs.Framing.{IsHeadOf, ReadsHead, IsHeadRefused, BeginsWith, Frames, FramesOrWants, line_feeds};
-ghost use Rattle.tfs_http.specs.Request.{RequestValue};
+ghost use Rattle.tfs_http.specs.Body.{SpellsBody};
+ghost use Rattle.tfs_http.specs.Lines.{IsToldBy};
+ghost use Rattle.tfs_http.specs.Framing.{BeginsWith, Frames, FramesOrWants};
+ghost use Rattle.tfs_http.specs.Request.{RequestValue, request_of};
 
+use crate::body::{Extent, body_end, read_body};
+use crate::digest::fits_digest;
 use crate::head::find_head;
-use crate::length::body_length;
-use crate::limits::{MAX_FIELDS, MAX_HEAD_BYTES, MAX_HEAD_LINES};
+use crate::limits::MAX_HEAD_BYTES;
+use crate::lines::{Lines, read_head};
 use crate::request::Request;
 use crate::taken::{Framed, Take};
-use httparse::Status;
-use httparse::spans::{EMPTY_HEADER_SPAN, HeaderSpan, RequestSpans, Span, parse_request};
 use std::alloc::{AllocError, Global};
 use tfs_table::Refusal;
 
@@ -45,58 +45,21 @@ pub fn frame(alloc: Global, bytes: &[u8]) -> Result<Framed, AllocError>
         Ok(lines) => lines,
         Err(refusal) => return Ok(Framed::Fault(refusal)),
     };
-    if rest.len() < lines.body_len {
-        return Ok(Framed::Want(bytes.len() - rest.len() + lines.body_len));
-    }
-    let (body, after) = rest.split_at(lines.body_len);
-    let request = Request::new(alloc, lines.method, lines.target, body)?;
+    let used = match body_end(lines.size, rest) {
+        Extent::Wanted(wanted) => return Ok(Framed::Want(bytes.len() - rest.len() + wanted)),
+        Extent::Whole(used) => used,
+    };
+    let (coded, after) = rest.split_at(used);
+    let request = read_request(alloc, lines, coded)?;
     Ok(Framed::Got(request, bytes.len() - after.len()))
 }
 
-/// What a head says.
-#[derive(Clone, Copy)]
-struct HeadLines<'h> {
-    method: &'h [u8],
-    target: &'h [u8],
-    body_len: usize,
-}
-
-/// Reads a head, or tells its refusal.
-fn read_head(head: &[u8]) -> Result<HeadLines<'_>, Refusal>
-    ensures ok { IfOk result (λ lines. ReadsHead head.now lines.method.now lines.target.now lines.body_len) }
-    ensures err { IfErr result (IsHeadRefused head.now) }
+/// The request of a head and the coded bytes of its body.
+fn read_request(alloc: Global, lines: Lines<'_>, coded: &[u8]) -> Result<Request, AllocError>
+    ensures { (h : RequestHead) (body : List ℕ) → IsToldBy lines.entry h → SpellsBody lines.entry.size coded.now body
+        → IfOk result (λ request. request ≡ request_of h body) }
 {
-    if count_line_feeds(head) > MAX_HEAD_LINES {
-        return Err(Refusal::HeadTooLarge);
-    }
-    let mut fields = [EMPTY_HEADER_SPAN; MAX_FIELDS];
-    let Some(spans) = parse_whole(head, &mut fields) else {
-        return Err(Refusal::BadHead);
-    };
-    match body_length(head, &fields[..spans.headers]) {
-        Ok(body_len) => Ok(HeadLines {
-            method: spans.method.of(head),
-            target: spans.path.of(head),
-            body_len,
-        }),
-        Err(refusal) => Err(refusal),
-    }
-}
-
-/// The spans of a head that is one of the grammar, all of it.
-fn parse_whole(head: &[u8], fields: &mut [HeaderSpan; MAX_FIELDS]) -> Option<RequestSpans>
-    ensures found { IfSome result (λ spans. (h : RequestHead) × IsHeadOf head.now h
-        × IsRequestAt head.now fields.new spans h × IsRequestWithin head.now fields.new spans) }
-    ensures absent { IfNone result ((h : RequestHead) → ¬ (IsHeadOf head.now h)) }
-{
-    match parse_request(head, fields) {
-        Ok(Status::Complete(spans)) if spans.len == head.len() => Some(spans),
-        _ => None,
-    }
-}
-
-fn count_line_feeds(head: &[u8]) -> usize
-    ensures { result ≡ line_feeds head.now }
-{
-    head.iter().filter(|byte| **byte == b'\n').count()
+    let body = read_body(alloc, lines.size, coded)?;
+    let intact = fits_digest(lines.digest, body.as_slice());
+    Request::new(alloc, lines.method, lines.target, body, lines.close, intact)
 }

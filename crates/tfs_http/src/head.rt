@@ -2,7 +2,7 @@
 
 ghost use Rattle.std.specs.Prelude.{◌≡◌, ◌≤◌, ◌+◌, ℕ, List, ◌∷◌, ◌++◌, length, take, drop, IfSome, IfNone};
 ghost use Rattle.httparse.specs.Grammar.{LineEnd, print_end, print_blank};
-ghost use Rattle.tfs_http.specs.Framing.{StartsWithEmptyLine, EndsWithEmptyLine, IsMessageHead, HasHead, HasNoHead};
+ghost use Rattle.tfs_http.specs.Head.{StartsWithEmptyLine, EndsWithEmptyLine, IsMessageHead, HasHead, HasNoHead};
 
 use crate::limits::MAX_HEAD_BYTES;
 

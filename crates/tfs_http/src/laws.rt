@@ -1,6 +1,10 @@
 //! Laws of framing, routing and replies, which hold of all bytes, all requests and all replies.
 
-ghost use Rattle.std.specs.Prelude.{◌≡◌, ◌≢◌, ℕ, List, [], ◌++◌, Result};
+ghost use Rattle.std.specs.Prelude.{◌≡◌, ◌≢◌, ◌≤◌, ℕ, List, [], ◌++◌, length, All, Result};
+ghost use Rattle.http_header.specs.FieldName.{IsFieldName};
+ghost use Rattle.http_header.specs.FieldValue.{IsFieldValue};
+ghost use Rattle.httparse.specs.Grammar.{RequestHead, field_value};
+ghost use Rattle.tfs_http.specs.Head.{IsHeadOf};
 ghost use Rattle.tfs_http.specs.Framing.{Frames, IsUnfinished};
 ghost use Rattle.tfs_table.specs.declared.call.Call.{Call};
 ghost use Rattle.tfs_table.specs.declared.refusal.Refusal.{Refusal};
@@ -18,6 +22,12 @@ pub fn what_bytes_begin_with_is_one_thing_and_stays()
     ensures once { (bytes : List ℕ) (t u : Take) → Frames bytes t → Frames bytes u → t ≡ u }
     ensures stays { (bytes more : List ℕ) (t : Take) → t ≢ Need → Frames bytes t
         → Frames (bytes ++ more) t }
+{}
+
+/// The crate `http_header` takes each field of a head of the grammar, so that none is refused for it.
+pub fn each_field_is_one_of_http_header()
+    ensures fields { (head : List ℕ) (h : RequestHead) → length head ≤ 16384 → IsHeadOf head h
+        → All (λ f. IsFieldName f.name × IsFieldValue (field_value f)) h.fields }
 {}
 
 /// A request has a call or a refusal, one of them, and not both.

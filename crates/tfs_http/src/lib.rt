@@ -2,12 +2,17 @@
 //! A request reads, pushes or deletes a state, or takes or gives back its lock.
 #![tactic(auto)]
 
+mod body;
+mod connection;
+mod digest;
+mod fields;
 mod form;
 mod framing;
 mod head;
 mod laws;
 mod length;
 mod limits;
+mod lines;
 mod query;
 mod reply;
 mod request;
@@ -19,8 +24,8 @@ mod tests;
 pub use form::Form;
 pub use framing::{frame, take};
 pub use laws::{
-    each_status_has_its_phrase, what_becomes_of_a_request_is_one_thing,
-    what_bytes_begin_with_is_one_thing_and_stays,
+    each_field_is_one_of_http_header, each_status_has_its_phrase,
+    what_becomes_of_a_request_is_one_thing, what_bytes_begin_with_is_one_thing_and_stays,
 };
 pub use limits::{MAX_BODY_BYTES, MAX_FIELDS, MAX_HEAD_BYTES, MAX_HEAD_LINES};
 pub use reply::write_reply;

@@ -8,12 +8,15 @@ use std::alloc::{AllocError, Global};
 use std::marker::Model;
 use tfs_table::Bytes;
 
-/// A request: its method, its target and its body, as they came.
+/// A request: its method, its target and its body, as they came; whether the conversation is to end after the reply; and
+/// whether the body has the digest that the head tells, if it tells one.
 #[derive(Drop)]
 pub struct Request {
     method: Vec<u8>,
     target: Vec<u8>,
     body: Vec<u8>,
+    close: bool,
+    intact: bool,
 }
 
 impl Model for Request {
@@ -21,7 +24,7 @@ impl Model for Request {
 
     ghost Value = { RequestValue };
 
-    ghost view = { λ r. record { method = r.method.items; target = r.target.items; body = r.body.items } };
+    ghost view = { λ r. record { method = r.method.items; target = r.target.items; body = r.body.items; close = r.close; intact = r.intact } };
 }
 
 impl Request {
@@ -31,14 +34,18 @@ impl Request {
         alloc: Global,
         method: &[u8],
         target: &[u8],
-        body: &[u8],
+        body: Vec<u8>,
+        close: bool,
+        intact: bool,
     ) -> Result<Request, AllocError>
-        ensures { IfOk result (λ r. r ≡ record { method = method.now; target = target.now; body = body.now }) }
+        ensures { IfOk result (λ r. r ≡ record { method = method.now; target = target.now; body = body.items; close = close; intact = intact }) }
     {
         Ok(Request {
             method: Vec::from_slice(alloc, method)?,
             target: Vec::from_slice(alloc, target)?,
-            body: Vec::from_slice(alloc, body)?,
+            body,
+            close,
+            intact,
         })
     }
 
@@ -70,12 +77,19 @@ impl Request {
         Bytes::new(self.body)
     }
 
+    /// Whether the body has the digest that the head tells; also where it tells none.
+    pub(crate) fn is_intact(&self) -> bool
+        ensures { result ≡ self.now.intact }
+    {
+        self.intact
+    }
+
     /// The form that the request gives its reply.
     pub fn form(&self) -> Form
         ensures value { result ≡ form_of self.now }
     {
         Form {
-            close: false,
+            close: self.close,
             bare: self.method() == b"HEAD".as_slice(),
         }
     }

@@ -1,10 +1,11 @@
 //! From a request to a call.
 
 ghost use Rattle.std.specs.Prelude.{◌≡◌, ◌≢◌, ℕ, List, codes, IfOk, IfErr, IfSome, IfNone};
+ghost use Rattle.tfs_table.specs.declared.refusal.Methods.TheVariants.{State};
 ghost use Rattle.tfs_rules.specs.Name.{IsName};
 ghost use Rattle.tfs_table.specs.declared.refusal.Refusal.TheVariants.{OutOfMemory, BadName};
 ghost use Rattle.tfs_http.specs.Query.{identifier_parameter};
-ghost use Rattle.tfs_http.specs.Routing.{path_of, IsStatePath, NamesState, IsStateMethod, HasCall, routing_refusal, state_routes};
+ghost use Rattle.tfs_http.specs.Routing.{path_of, Route, IsPathOf, HasRoute, IsTaken, IsOneOf, HasCall, methods_of, routing_refusal, state_path, state_routes};
 
 use crate::query::identifier_parameter;
 use crate::request::Request;
@@ -50,8 +51,8 @@ impl Routes {
 
     /// What stands for `{name}` in the path of a state.
     fn part<'p>(&self, path: &'p str) -> Option<&'p str>
-        ensures found { IfSome result (λ part. IsStatePath path.now part.now) }
-        ensures absent { IfNone result ((part : List ℕ) → ¬ (IsStatePath path.now part)) }
+        ensures found { IfSome result (λ part. IsPathOf state_path path.now part.now) }
+        ensures absent { IfNone result ((part : List ℕ) → ¬ (IsPathOf state_path path.now part)) }
     {
         match self.router.at(path) {
             Ok(found) => found.params.get("name"),
@@ -60,13 +61,13 @@ impl Routes {
     }
 }
 
-/// The call of a request, or its first refusal in the order of their numbers. Memory is asked for only where the target is
-/// that of a state and the method is one of a state's; where it is refused, so is the request, with `OutOfMemory`.
+/// The call of a request, or its first refusal in the order of their numbers. Memory is asked for only where the target has a
+/// route that takes the method; where it is refused, so is the request, with `OutOfMemory`.
 pub fn call_of(alloc: Global, routes: &Routes, request: Request) -> Result<Call, Refusal>
     ensures ok { IfOk result (HasCall request) }
     ensures err { IfErr result (λ refusal. refusal ≢ OutOfMemory → routing_refusal request refusal) }
     ensures memory { IfErr result (λ refusal. refusal ≡ OutOfMemory
-        → (part : List ℕ) × NamesState request.target part × IsStateMethod request.method) }
+        → (route : Route) × (part : List ℕ) × IsTaken request route part) }
 {
     let Some((target, part)) = named_state(routes, request.target()) else {
         return Err(Refusal::NoRoute);
@@ -75,6 +76,9 @@ pub fn call_of(alloc: Global, routes: &Routes, request: Request) -> Result<Call,
         return Err(Refusal::MethodNotAllowed(Methods::State));
     };
     let name = read_name(alloc, part)?;
+    if !request.is_intact() {
+        return Err(Refusal::BadDigest);
+    }
     match method {
         Method::Get => Ok(Call::Read(name)),
         Method::Post => {
@@ -95,8 +99,8 @@ pub fn call_of(alloc: Global, routes: &Routes, request: Request) -> Result<Call,
 
 /// The target, and the part of its path that stands for a name, if the target is the one of a state.
 fn named_state<'t>(routes: &Routes, target: &'t [u8]) -> Option<(&'t str, &'t str)>
-    ensures found { IfSome result (λ texts. (texts.0.now ≡ target.now) × NamesState target.now texts.1.now) }
-    ensures absent { IfNone result ((part : List ℕ) → ¬ (NamesState target.now part)) }
+    ensures found { IfSome result (λ texts. (texts.0.now ≡ target.now) × HasRoute target.now state_path texts.1.now) }
+    ensures absent { IfNone result ((route : Route) (part : List ℕ) → ¬ (HasRoute target.now route part)) }
 {
     let Ok(text) = str::from_utf8(target) else {
         return None;
@@ -132,8 +136,8 @@ fn method_of(text: &[u8]) -> Option<Method>
     ensures delete { IfSome result (λ method. method ≡ Method.Delete → text.now ≡ codes "DELETE") }
     ensures lock { IfSome result (λ method. method ≡ Method.Lock → text.now ≡ codes "LOCK") }
     ensures unlock { IfSome result (λ method. method ≡ Method.Unlock → text.now ≡ codes "UNLOCK") }
-    ensures known { IfSome result (λ method. IsStateMethod text.now) }
-    ensures absent { IfNone result (¬ (IsStateMethod text.now)) }
+    ensures known { IfSome result (λ method. IsOneOf text.now (methods_of State)) }
+    ensures absent { IfNone result (¬ (IsOneOf text.now (methods_of State))) }
 {
     match text {
         b"GET" => Some(Method::Get),

@@ -1,6 +1,7 @@
 //! Messages, replies and calls, each worked out by hand.
 
 mod calls;
+mod fields;
 mod messages;
 mod replies;
 

@@ -1,5 +1,6 @@
 -- Laws of conversations: one more read, one more message, and each way to end.
-use Rattle.std.proofs.Common.{◌≡◌, ◌<◌, ◌⊎◌, ℕ, List, [], ◌∷◌, ◌++◌, length, drop, Option, refl, sym, ◌∙◌, ap, subst, inl, inr}
+use Rattle.std.proofs.Common.{◌≡◌, ◌<◌, ◌⊎◌, ◌||◌, ℕ, Bool, true, false, List, [], ◌∷◌, ◌++◌, length, drop, Option, Some, None, IfSome, if◌then◌else◌}
+use Rattle.std.proofs.Common.{refl, sym, ◌∙◌, ap, subst, inl, inr}
 use Rattle.std.proofs.Common.{append_assoc, append-nil}
 use Rattle.std.specs.Io.KnownBytes.{Appends, Consumes, IsAtEnd}
 use Rattle.tfs_table.specs.declared.call.Call.{Call}
@@ -12,15 +13,14 @@ use Rattle.tfs_http.specs.Form.{form_of}
 use Rattle.tfs_http.specs.Framing.{BeginsWith, AreWanted, IsUnfinished, framing_refusal}
 use Rattle.tfs_http.specs.ReplyText.{reply_text}
 use Rattle.tfs_http.proofs.MessageLemmas.{rest_behind}
-use Rattle.tfs_serve.specs.Conversation.{AnswersRequest, Exchange, Serves, Ends, IsReadThrough, ComesInReads, LeftOver, MayGoOn}
+use Rattle.tfs_serve.specs.Conversation.{AnswersRequest, Exchange, has_asked, Serves, Ends, IsReadThrough, ComesInReads}
 use Rattle.tfs_serve.specs.Conversation.{closing_form}
-use Rattle.tfs_serve.specs.Turns.{WritesPart, FailsReading, Moment, moment, Moved, Went, HasEnded, HasBroken}
+use Rattle.tfs_serve.specs.Turns.{Moment, moment, Moved, Went, HasEnded, HasBroken}
 use Rattle.tfs_serve.specs.declared.fault.ServeFault.{ServeFault}
-use Rattle.tfs_serve.specs.declared.fault.ServeFault.TheVariants.{NoMemory}
 use Rattle.tfs_serve.specs.declared.ended.Ended.{Ended}
-use Rattle.tfs_serve.specs.declared.ended.Ended.TheVariants.{Clean, Cut, Refused}
+use Rattle.tfs_serve.specs.declared.ended.Ended.TheVariants.{Clean, Cut, Asked, Refused}
 use Rattle.tfs_serve.proofs.IoLemmas.{appends_more, consumes_more, appends_nothing, consumes_nothing, comes_more, comes_nothing}
-use Rattle.tfs_serve.proofs.FaultLemmas.{comes_reading, comes_writing, comes_later, later}
+use Rattle.tfs_serve.proofs.FaultLemmas.{asked_behind, comes_later, later}
 
 -- Input that was unfinished, with what was read since, is unfinished while fewer bytes are there than are wanted.
 pub still_unfinished : (input left more : List ℕ) (wanted : ℕ) → left ≡ input ++ more → AreWanted input wanted → length left < wanted → IsUnfinished left
@@ -35,25 +35,45 @@ moved_then a b c bytes more text later p q = record {
   came = comes_more bytes more a.reads b.reads c.reads p.came q.came;
 }
 
+-- Where the conversation goes on after a reply, no one asked to close.
+pub not_asked : (asks : Bool) (end : Option Ended) → end ≡ (if asks then Some Asked else None) → end ≡ None → asks ≡ false
+not_asked true end is none = let wrong : Some Asked ≡ None = sym is ∙ none in absurd (cc)
+not_asked false end is none = refl
+
+-- Where it ends after a reply, it was asked to.
+pub asked_ends : (P : Ended → Type 0) (asks : Bool) (end : Option Ended) → end ≡ (if asks then Some Asked else None) → (asks ≡ true → P Asked)
+    → IfSome end P
+asked_ends P true end is so = subst (λ (o : Option Ended). IfSome o P) (sym is) (so refl)
+asked_ends P false end is so = subst (λ (o : Option Ended). IfSome o P) (sym is) tt
+
 module _ {S : Type 0} (step : S → Call → Reply → S → Type 0) where
   -- What was served and what was served after it, with more bytes, was served.
-  serves_then : (old between new : S) (bytes rest left text later more : List ℕ) (xs ys : List Exchange) → Serves step old bytes xs between rest text
-      → Serves step between (rest ++ more) ys new left later → Serves step old (bytes ++ more) (xs ++ ys) new left (text ++ later)
-  serves_then old between new bytes rest left text later more [] ys s t =
+  serves_then : (old between new : S) (bytes rest left text later more : List ℕ) (xs ys : List Exchange) → has_asked xs ≡ false
+      → Serves step old bytes xs between rest text → Serves step between (rest ++ more) ys new left later
+      → Serves step old (bytes ++ more) (xs ++ ys) new left (text ++ later)
+  serves_then old between new bytes rest left text later more [] ys goes_on s t =
       subst (λ (b : List ℕ). Serves step old (b ++ more) ys new left (text ++ later)) (sym s.0)
       (subst (λ (w : List ℕ). Serves step old (rest ++ more) ys new left (w ++ later)) (sym s.1)
       (subst (λ (o : S). Serves step o (rest ++ more) ys new left later) s.2 t))
-  serves_then old between new bytes rest left text later more (x ∷ xs) ys s t = (
-    s.0,
-    s.1 ++ more,
-    ap (λ b. b ++ more) s.2 ∙ append_assoc s.0 s.1 more,
-    s.3,
-    s.4,
-    s.5,
-    s.6 ++ later,
-    ap (λ w. w ++ later) s.7 ∙ append_assoc (reply_text x.reply (form_of x.request)) s.6 later,
-    serves_then s.4 between new s.1 rest left s.6 later more xs ys s.8 t,
-  )
+  serves_then old between new bytes rest left text later more (x ∷ xs) ys goes_on s t =
+      by x.request.close refl goes_on (λ f. serves_then s.5 between new s.1 rest left s.7 later more xs ys f s.9 t)
+    where
+      by : (v : Bool) → x.request.close ≡ v → (v || has_asked xs) ≡ false
+          → (has_asked xs ≡ false → Serves step s.5 (s.1 ++ more) (xs ++ ys) new left (s.7 ++ later))
+          → Serves step old (bytes ++ more) (x ∷ (xs ++ ys)) new left (text ++ later)
+      by true is f behind = let wrong : true ≡ false = f in absurd (cc)
+      by false is f behind = (
+        s.0,
+        s.1 ++ more,
+        ap (λ b. b ++ more) s.2 ∙ append_assoc s.0 s.1 more,
+        s.3,
+        (λ asks. let wrong : true ≡ false = sym asks ∙ is in absurd (cc)),
+        s.5,
+        s.6,
+        s.7 ++ later,
+        ap (λ w. w ++ later) s.8 ∙ append_assoc (reply_text x.reply (form_of x.request)) s.7 later,
+        behind f,
+      )
 
   -- The same from the moment at which a turn begins.
   served_later : (a b : Moment S) (w : Went step a b) (new : S) (rest later more : List ℕ) (ys : List Exchange)
@@ -61,7 +81,7 @@ module _ {S : Type 0} (step : S → Call → Reply → S → Type 0) where
       → Serves step a.desk (a.input ++ (w.more ++ more)) (w.served.0 ++ ys) new rest (w.text ++ later)
   served_later a b w new rest later more ys t =
       subst (λ (bytes : List ℕ). Serves step a.desk bytes (w.served.0 ++ ys) new rest (w.text ++ later)) (append_assoc a.input w.more more)
-      (serves_then a.desk b.desk new (a.input ++ w.more) b.input rest w.text later more w.served.0 ys w.served.1 t)
+      (serves_then a.desk b.desk new (a.input ++ w.more) b.input rest w.text later more w.served.0 ys w.served.2 w.served.1 t)
 
   -- Two turns in a row.
   pub went_then : (a b c : Moment S) → Went step a b → Went step b c → Went step a c
@@ -69,7 +89,11 @@ module _ {S : Type 0} (step : S → Call → Reply → S → Type 0) where
     more = w.more ++ v.more;
     text = w.text ++ v.text;
     moved = moved_then a b c w.more v.more w.text v.text w.moved v.moved;
-    served = (w.served.0 ++ v.served.0, served_later a b w c.desk c.input v.text v.more v.served.0 v.served.1);
+    served = (
+      w.served.0 ++ v.served.0,
+      served_later a b w c.desk c.input v.text v.more v.served.0 v.served.1,
+      asked_behind w.served.0 v.served.0 w.served.2 ∙ v.served.2,
+    );
   }
 
   -- A turn, and an end.
@@ -82,11 +106,12 @@ module _ {S : Type 0} (step : S → Call → Reply → S → Type 0) where
         moved = moved_then a b c w.more e.more w.text e.text w.moved e.moved;
         through = e.through;
         converses = record {
+          exchanges = w.served.0 ++ d.exchanges;
           rest = d.rest;
           served = w.text ++ d.served;
           last = d.last;
-          has_served = (w.served.0 ++ d.has_served.0, served_later a b w c.desk d.rest d.served e.more d.has_served.0 d.has_served.1);
-          ends = d.ends;
+          serves = served_later a b w c.desk d.rest d.served e.more d.exchanges d.serves;
+          ends = subst (λ (v : Bool). Ends v d.rest d.last ended) (sym (asked_behind w.served.0 d.exchanges w.served.2)) d.ends;
           whole = ap (λ t. w.text ++ t) d.whole ∙ sym (append_assoc w.text d.served d.last);
         };
       }
@@ -103,16 +128,20 @@ module _ {S : Type 0} (step : S → Call → Reply → S → Type 0) where
           left = later w.served.0 d.left;
           served = w.text ++ d.served;
           serves = served_later a b w c.desk d.left.rest d.served e.more d.left.exchanges d.serves;
-          end = d.end;
+          end = elim d.end [
+            | inl none ↦ inl none
+            | inr end ↦ inr
+                (subst (λ (v : Bool). Ends v d.left.rest d.left.last Refused) (sym (asked_behind w.served.0 d.left.exchanges w.served.2)) end)
+          ];
           prefix = append_assoc w.text d.served d.left.last ∙ ap (λ t. w.text ++ t) d.prefix ∙ sym (append_assoc w.text e.text d.left.lost);
-          comes_at = comes_later fault w.served.0 d.left a.reads b.reads c.reads w.moved.came.counted d.comes_at;
+          comes_at = comes_later fault w.served.0 d.left a.reads b.reads c.reads w.moved.came.counted w.served.2 d.comes_at;
         };
       }
 
   -- ---- the turns
 
   -- Nothing was read or written yet.
-  moved_nowhere : (desk new : S) (reader writer : Option (List ℕ)) (reads : ℕ) (input left : List ℕ)
+  pub moved_nowhere : (desk new : S) (reader writer : Option (List ℕ)) (reads : ℕ) (input left : List ℕ)
       → Moved (moment desk reader writer reads input) (moment new reader writer reads left) [] []
   moved_nowhere desk new reader writer reads input left = record {
     consumed = consumes_nothing reader;
@@ -121,13 +150,13 @@ module _ {S : Type 0} (step : S → Call → Reply → S → Type 0) where
   }
 
   -- More was read, and nothing written.
-  moved_reading : (desk new : S) (from reader writer : Option (List ℕ)) (before after : ℕ) (input left more : List ℕ) → Consumes from reader more
+  pub moved_reading : (desk new : S) (from reader writer : Option (List ℕ)) (before after : ℕ) (input left more : List ℕ) → Consumes from reader more
       → ComesInReads more before after → Moved (moment desk from writer before input) (moment new reader writer after left) more []
   moved_reading desk new from reader writer before after input left more consumed came =
       record { consumed = consumed; appended = appends_nothing writer; came = came }
 
   -- A text was written, and nothing read.
-  moved_writing : (desk new : S) (reader into writer : Option (List ℕ)) (reads : ℕ) (input left text : List ℕ) → Appends into writer text
+  pub moved_writing : (desk new : S) (reader into writer : Option (List ℕ)) (reads : ℕ) (input left text : List ℕ) → Appends into writer text
       → Moved (moment desk reader into reads input) (moment new reader writer reads left) [] text
   moved_writing desk new reader into writer reads input left text appended =
       record { consumed = consumes_nothing reader; appended = appended; came = comes_nothing reads }
@@ -138,7 +167,7 @@ module _ {S : Type 0} (step : S → Call → Reply → S → Type 0) where
     more = [];
     text = [];
     moved = moved_nowhere a.desk a.desk a.reader a.writer a.reads a.input a.input;
-    served = ([], (append-nil a.input, refl, refl));
+    served = ([], (append-nil a.input, refl, refl), refl);
   }
 
   -- More was read.
@@ -148,27 +177,49 @@ module _ {S : Type 0} (step : S → Call → Reply → S → Type 0) where
     more = more;
     text = [];
     moved = moved_reading desk desk from reader writer before after input left more consumed came;
-    served = ([], (sym is, refl, refl));
+    served = ([], (sym is, refl, refl), refl);
   }
 
   -- One exchange serves the bytes of its message.
-  serves_one : (old new : S) (input left : List ℕ) (r : RequestValue) (used : ℕ) (reply : ReplyValue) → BeginsWith input r used → left ≡ drop used input
+  pub serves_one : (old new : S) (input left : List ℕ) (r : RequestValue) (used : ℕ) (reply : ReplyValue) → BeginsWith input r used → left ≡ drop used input
       → AnswersRequest step old r reply new
       → Serves step old (input ++ []) (record { request = r; reply = reply } ∷ []) new left (reply_text reply (form_of r))
   serves_one old new input left r used reply b is answers =
       let rest : left ≡ b.rest = rest_behind input left r used b is in
-      (b.frame, b.rest, append-nil input ∙ b.parts, b.reads, new, answers, [], sym (append-nil (reply_text reply (form_of r))), (sym rest, refl, refl))
+      let alone = sym (append-nil (reply_text reply (form_of r))) in
+      (b.frame, b.rest, append-nil input ∙ b.parts, b.reads, (λ asks. refl), new, answers, [], alone, (sym rest, refl, refl))
 
   -- A message was answered.
   pub went_answering : (old new : S) (reader into writer : Option (List ℕ)) (reads : ℕ) (input left : List ℕ) (r : RequestValue) (used : ℕ)
       (reply : ReplyValue)
       → BeginsWith input r used → left ≡ drop used input → AnswersRequest step old r reply new → Appends into writer (reply_text reply (form_of r))
-      → Went step (moment old reader into reads input) (moment new reader writer reads left)
-  went_answering old new reader into writer reads input left r used reply b is answers appended = record {
+      → r.close ≡ false → Went step (moment old reader into reads input) (moment new reader writer reads left)
+  went_answering old new reader into writer reads input left r used reply b is answers appended goes_on = record {
     more = [];
     text = reply_text reply (form_of r);
     moved = moved_writing old new reader into writer reads input left (reply_text reply (form_of r)) appended;
-    served = (record { request = r; reply = reply } ∷ [], serves_one old new input left r used reply b is answers);
+    served = (record { request = r; reply = reply } ∷ [], serves_one old new input left r used reply b is answers, rw goes_on refl);
+  }
+
+  -- A message was answered that asks to close.
+  pub ended_asked : (old new : S) (reader into writer : Option (List ℕ)) (reads : ℕ) (input left : List ℕ) (r : RequestValue) (used : ℕ)
+      (reply : ReplyValue)
+      → BeginsWith input r used → left ≡ drop used input → AnswersRequest step old r reply new → Appends into writer (reply_text reply (form_of r))
+      → r.close ≡ true → HasEnded step (moment old reader into reads input) (moment new reader writer reads left) Asked
+  ended_asked old new reader into writer reads input left r used reply b is answers appended asks = record {
+    more = [];
+    text = reply_text reply (form_of r);
+    moved = moved_writing old new reader into writer reads input left (reply_text reply (form_of r)) appended;
+    through = tt;
+    converses = record {
+      exchanges = record { request = r; reply = reply } ∷ [];
+      rest = left;
+      served = reply_text reply (form_of r);
+      last = [];
+      serves = serves_one old new input left r used reply b is answers;
+      ends = (rw asks refl, refl);
+      whole = sym (append-nil (reply_text reply (form_of r)));
+    };
   }
 
   -- The input ended.
@@ -185,14 +236,15 @@ module _ {S : Type 0} (step : S → Call → Reply → S → Type 0) where
       | inr p ↦ subst (λ (e : Ended). IsReadThrough e reader) (sym p.0) at_end
     ];
     converses = record {
+      exchanges = [];
       rest = left;
       served = [];
       last = [];
-      has_served = ([], (sym is, refl, refl));
+      serves = (sym is, refl, refl);
       whole = refl;
       ends = elim how [
-        | inl p ↦ subst (Ends left []) (sym p.0) (p.1, refl)
-        | inr p ↦ subst (Ends left []) (sym p.0) (p.1, still_unfinished input left more wanted is w short, refl)
+        | inl p ↦ subst (Ends false left []) (sym p.0) (refl, p.1, refl)
+        | inr p ↦ subst (Ends false left []) (sym p.0) (refl, p.1, still_unfinished input left more wanted is w short, refl)
       ];
     };
   }
@@ -207,89 +259,12 @@ module _ {S : Type 0} (step : S → Call → Reply → S → Type 0) where
     moved = moved_writing desk desk reader into writer reads input input (reply_text (refused (refusal_value refusal)) closing_form) appended;
     through = tt;
     converses = record {
+      exchanges = [];
       rest = input;
       served = [];
       last = reply_text (refused (refusal_value refusal)) closing_form;
-      has_served = ([], (append-nil input, refl, refl));
-      ends = (refusal, is, refl);
+      serves = (append-nil input, refl, refl);
+      ends = (refl, (refusal, is, refl));
       whole = refl;
     };
   }
-
-  -- A fault while more was read.
-  pub broken_reading : (desk : S) (from reader writer : Option (List ℕ)) (before after : ℕ) (input left more : List ℕ) (wanted : ℕ) (fault : ServeFault)
-      → left ≡ input ++ more → Consumes from reader more → ComesInReads more before after → AreWanted input wanted → length left < wanted
-      → FailsReading fault before after → HasBroken step (moment desk from writer before input) (moment desk reader writer after left) fault
-  broken_reading desk from reader writer before after input left more wanted fault is consumed came w short fails = record {
-    more = more;
-    text = [];
-    moved = moved_reading desk desk from reader writer before after input left more consumed came;
-    breaks = record {
-      left = record { rest = left; exchanges = []; last = []; lost = [] };
-      served = [];
-      serves = (sym is, refl, refl);
-      end = inl refl;
-      prefix = refl;
-      comes_at = comes_reading fault left [] before after fails (still_unfinished input left more wanted is w short);
-    };
-  }
-
-  -- Want of memory between messages.
-  pub broken_at_once : (a : Moment S) → MayGoOn a.input → HasBroken step a a NoMemory
-  broken_at_once a may = record {
-    more = [];
-    text = [];
-    moved = moved_nowhere a.desk a.desk a.reader a.writer a.reads a.input a.input;
-    breaks = record {
-      left = record { rest = a.input; exchanges = []; last = []; lost = [] };
-      served = [];
-      serves = (append-nil a.input, refl, refl);
-      end = inl refl;
-      prefix = refl;
-      comes_at = inl ((refl, refl), may);
-    };
-  }
-
-  -- A fault while a reply was written.
-  pub broken_answering : (old new : S) (reader into writer : Option (List ℕ)) (reads : ℕ) (input left : List ℕ) (r : RequestValue) (used : ℕ)
-      (reply : ReplyValue)
-      (fault : ServeFault) → BeginsWith input r used → left ≡ drop used input → AnswersRequest step old r reply new
-      → WritesPart into writer (reply_text reply (form_of r)) fault → HasBroken step (moment old reader into reads input)
-      (moment new reader writer reads left) fault
-  broken_answering old new reader into writer reads input left r used reply fault b is answers w =
-      let x : Exchange = record { request = r; reply = reply } in
-      let l : LeftOver = record { rest = left; exchanges = x ∷ []; last = []; lost = w.rest } in
-      record {
-        more = [];
-        text = w.part;
-        moved = moved_writing old new reader into writer reads input left w.part w.appended;
-        breaks = record {
-          left = l;
-          served = reply_text reply (form_of r);
-          serves = serves_one old new input left r used reply b is answers;
-          end = inl refl;
-          prefix = append-nil (reply_text reply (form_of r)) ∙ w.split;
-          comes_at = comes_writing fault l (reply_text reply (form_of r)) w.part reads reads (inr ([], x, refl, refl, refl)) w.split w.one_of;
-        };
-      }
-
-  -- A fault while the refusal was written that was to end the conversation.
-  pub broken_refusing : (desk : S) (reader into writer : Option (List ℕ)) (reads : ℕ) (input : List ℕ) (refusal : Refusal) (fault : ServeFault)
-      → framing_refusal input refusal → WritesPart into writer (reply_text (refused (refusal_value refusal)) closing_form) fault
-      → HasBroken step (moment desk reader into reads input) (moment desk reader writer reads input) fault
-  broken_refusing desk reader into writer reads input refusal fault is w =
-      let text : List ℕ = reply_text (refused (refusal_value refusal)) closing_form in
-      let l : LeftOver = record { rest = input; exchanges = []; last = text; lost = w.rest } in
-      record {
-        more = [];
-        text = w.part;
-        moved = moved_writing desk desk reader into writer reads input input w.part w.appended;
-        breaks = record {
-          left = l;
-          served = [];
-          serves = (append-nil input, refl, refl);
-          end = inr (refusal, is, refl);
-          prefix = w.split;
-          comes_at = comes_writing fault l text w.part reads reads (inl (refl, λ none. cc)) w.split w.one_of;
-        };
-      }

@@ -1,18 +1,14 @@
 -- Laws of specs/Rows.antt.
 use Rattle.std.proofs.Common.{◌≡◌, ◌+◌, ◌-◌, ℕ, List, [], ◌∷◌, ◌++◌, length, Bool, true, false, ◌||◌, cond, refl, sym, ◌∙◌, ap, subst, arith}
-use Rattle.std.proofs.Common.{append_assoc, append-nil, length-append, map, filter, fold, get_or, set}
-use Rattle.std.proofs.lemmas.List.{map-append}
+use Rattle.std.proofs.Common.{append_assoc, append-nil, length-append, get_or, set}
 use Rattle.std.proofs.Math.Seq.{get_or-append_seam, set-append_seam}
-use Rattle.std.specs.List.{list_any, flat_map}
+use Rattle.std.specs.List.{list_any}
 use Rattle.std.specs.Str.{bytes_eq}
-use Rattle.std.proofs.lemmas.Bool.{false_from_ne_true}
-use Rattle.std.proofs.lemmas.List.Elements.{filter-append}
-use Rattle.std.proofs.lemmas.List.Sums.{fold-append}
 use Rattle.std.proofs.lemmas.Slice.Eq.{bytes_eq-Decides}
 use Rattle.std.proofs.lemmas.List.Folds.{list_any-append}
 use Rattle.tfs_rules.specs.Act.{ActValue}
 use Rattle.tfs_rules.specs.History.{History, Standing, standing_of}
-use Rattle.tfs_journal.specs.Journal.{Journal, EntryValue, RowValue, acts_of, names_of, with_entry, with_name, opening_acts}
+use Rattle.tfs_journal.specs.Journal.{Journal, EntryValue, acts_of, names_of, with_entry}
 use Rattle.tfs_journal.proofs.NameLemmas.{bytes_same, bytes_eq_sym}
 use Rattle.tfs_journal.proofs.JournalLemmas.{acts_of_own, acts_of_other, names_kept, names_added}
 use Rattle.tfs_serve.specs.declared.row.Row.{Row}

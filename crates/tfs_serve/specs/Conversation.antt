@@ -1,5 +1,6 @@
 -- Conversations: the messages of a list of bytes one after another, the desk's answers, and the texts of the replies.
-use Rattle.std.specs.Prelude.{◌≡◌, ◌≢◌, ◌≤◌, ◌<◌, ◌-◌, ◌*◌, ◌⊎◌, ℕ, Option, List, [], ◌∷◌, ◌++◌, length, true, false}
+use Rattle.std.specs.Prelude.{◌≡◌, ◌≢◌, ◌≤◌, ◌<◌, ◌-◌, ◌*◌, ◌⊎◌, ℕ, Bool, Option, List, [], ◌∷◌, ◌++◌, length, true, false}
+use Rattle.std.specs.List.{list_any}
 use Rattle.std.specs.Io.KnownBytes.{IsAtEnd}
 use Rattle.tfs_table.specs.declared.call.Call.{Call}
 use Rattle.tfs_table.specs.declared.reply.Reply.{Reply}
@@ -30,29 +31,35 @@ pub record Exchange : Type 0 where
   pub request : RequestValue
   pub reply : ReplyValue
 
--- The bytes are the messages of the exchanges and a rest; the desk answers them in turn; the text is that of the replies.
+-- One of the requests asked to close (RFC 9112, section 9.6).
+abbrev pub has_asked : List Exchange → Bool
+has_asked exchanges = list_any (λ x. x.request.close) exchanges
+
+-- The bytes are the messages of the exchanges and a rest; none but the last asks to close; the desk answers them in turn; the
+-- text is that of the replies.
 abbrev pub Serves : {S : Type 0} → (S → Call → Reply → S → Type 0) → S → List ℕ → List Exchange → S → List ℕ → List ℕ → Type 0
 Serves step old bytes [] new rest text = (bytes ≡ rest) × (text ≡ []) × (new ≡ old)
 Serves {S} step old bytes (x ∷ xs) new rest text =
-    (frame : List ℕ) × (after : List ℕ) × (bytes ≡ frame ++ after) × ReadsMessage frame x.request
+    (frame : List ℕ) × (after : List ℕ) × (bytes ≡ frame ++ after) × ReadsMessage frame x.request × (x.request.close ≡ true → xs ≡ [])
     × (between : S) × AnswersRequest step old x.request x.reply between
     × (later : List ℕ) × (text ≡ reply_text x.reply (form_of x.request) ++ later) × Serves step between after xs new rest later
 
--- So far the bytes were served, up to a rest.
+-- So far the bytes were served, up to a rest, and no request asked to close.
 abbrev pub HasServed : {S : Type 0} → (S → Call → Reply → S → Type 0) → S → S → List ℕ → List ℕ → List ℕ → Type 0
-HasServed step old new bytes rest text = (exchanges : List Exchange) × Serves step old bytes exchanges new rest text
+HasServed step old new bytes rest text = (exchanges : List Exchange) × Serves step old bytes exchanges new rest text × (has_asked exchanges ≡ false)
 
 -- The form of a reply after which the conversation ends.
 abbrev pub closing_form : Form
 closing_form = record { close = true; bare = false }
 
--- How a conversation ends with a rest, and the text of its last reply: with no bytes left, or inside a message, and no reply;
--- or with the refusal of the message. None asks to close so far.
-abbrev pub Ends : List ℕ → List ℕ → Ended → Type 0
-Ends rest last Clean = (rest ≡ []) × (last ≡ [])
-Ends rest last Cut = ¬ (rest ≡ []) × IsUnfinished rest × (last ≡ [])
-Ends rest last Asked = ⊥
-Ends rest last Refused = (refusal : Refusal) × framing_refusal rest refusal × (last ≡ reply_text (refused (refusal_value refusal)) closing_form)
+-- How a conversation ends with a rest, and the text behind its exchanges: after a request that asked to close, whatever is
+-- left; without one, where no bytes are left, or inside a message, with no text; or with the refusal of the message.
+abbrev pub Ends : Bool → List ℕ → List ℕ → Ended → Type 0
+Ends asked rest last Clean = (asked ≡ false) × (rest ≡ []) × (last ≡ [])
+Ends asked rest last Cut = (asked ≡ false) × ¬ (rest ≡ []) × IsUnfinished rest × (last ≡ [])
+Ends asked rest last Asked = (asked ≡ true) × (last ≡ [])
+Ends asked rest last Refused = (asked ≡ false)
+    × ((refusal : Refusal) × framing_refusal rest refusal × (last ≡ reply_text (refused (refusal_value refusal)) closing_form))
 
 -- A conversation that ends with the input has a reader that is at its end.
 abbrev pub IsReadThrough : Ended → Option (List ℕ) → Type 0
@@ -63,11 +70,12 @@ IsReadThrough Refused reader = Unit {0}
 
 -- A conversation of these bytes, with this text, which ended so.
 pub record Converses {S : Type 0} (step : S → Call → Reply → S → Type 0) (old new : S) (bytes text : List ℕ) (ended : Ended) : Type 0 where
+  pub exchanges : List Exchange
   pub rest : List ℕ
   pub served : List ℕ
   pub last : List ℕ
-  pub has_served : HasServed step old new bytes rest served
-  pub ends : Ends rest last ended
+  pub serves : Serves step old bytes exchanges new rest served
+  pub ends : Ends (has_asked exchanges) rest last ended
   pub whole : text ≡ served ++ last
 
 -- The bytes came in the reads from one count to another, each of which gives at most 65,536.
@@ -85,7 +93,7 @@ pub record LeftOver : Type 0 where
 
 -- Each reply was written, and none was to end the conversation.
 abbrev pub IsBetween : LeftOver → Type 0
-IsBetween l = (l.last ≡ []) × (l.lost ≡ [])
+IsBetween l = (l.last ≡ []) × (l.lost ≡ []) × (has_asked l.exchanges ≡ false)
 
 -- The bytes have no refusal: they are unfinished, or begin with a message.
 abbrev pub MayGoOn : List ℕ → Type 0
@@ -113,6 +121,6 @@ pub record BreaksOff {S : Type 0} (step : S → Call → Reply → S → Type 0)
   pub left : LeftOver
   pub served : List ℕ
   pub serves : Serves step old bytes left.exchanges new left.rest served
-  pub end : (left.last ≡ []) ⊎ Ends left.rest left.last Refused
+  pub end : (left.last ≡ []) ⊎ Ends (has_asked left.exchanges) left.rest left.last Refused
   pub prefix : served ++ left.last ≡ text ++ left.lost
   pub comes_at : ComesAt fault left before after

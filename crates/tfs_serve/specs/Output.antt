@@ -16,4 +16,4 @@ HadMemory xs = AllByRecursion (λ x. ¬ (x.reply ≡ refused out_of_memory)) xs
 -- From the journal `old`, these bytes have this text, leave the journal `new`, and the conversation ends so.
 pub record HasOutput (old new : Journal) (bytes text : List ℕ) (ended : Ended) : Type 0 where
   pub converses : Converses AnswersCall old new bytes text ended
-  pub had_memory : HadMemory converses.has_served.0
+  pub had_memory : HadMemory converses.exchanges

@@ -1,13 +1,13 @@
 //! Conversations: requests in, replies out.
 
-ghost use Rattle.std.specs.Prelude.{◌≡◌, ◌≤◌, ◌<◌, ◌⊎◌, ◌++◌, ℕ, List, [], length, None, Ok, IfOk, IfErr, IfSome, OnOk};
+ghost use Rattle.std.specs.Prelude.{◌≡◌, ◌≤◌, ◌<◌, ◌⊎◌, ◌++◌, ℕ, List, [], length, Some, None, Ok, if◌then◌else◌, IfOk, IfErr, IfSome, OnOk};
 ghost use Rattle.std.specs.Io.KnownBytes.{Appends, Consumes};
 ghost use Rattle.tfs_table.specs.Reply.{ReplyValue, reply_value};
 ghost use Rattle.tfs_http.specs.Form.{form_of};
 ghost use Rattle.tfs_http.specs.ReplyText.{reply_text};
 ghost use Rattle.tfs_serve.specs.Conversation.{AnswersRequest, ComesInReads, Converses, BreaksOff, IsReadThrough};
 ghost use Rattle.tfs_serve.specs.Turns.{WritesPart, moment, Went, HasEnded, HasBroken, work_left};
-ghost use Rattle.tfs_serve.specs.declared.ended.Ended.TheVariants.{Clean, Cut};
+ghost use Rattle.tfs_serve.specs.declared.ended.Ended.TheVariants.{Clean, Cut, Asked};
 
 use crate::desk::Desk;
 use crate::ended::Ended;
@@ -15,7 +15,7 @@ use crate::fault::ServeFault;
 use crate::input::{Input, fill};
 use crate::output::write_out;
 use crate::reads::Reads;
-use std::alloc::Global;
+use std::alloc::{AllocError, Global};
 use std::io::{Read, Write};
 use tfs_http::{Form, Framed, Request, Routes, call_of, frame, write_reply};
 use tfs_table::{Refusal, Reply};
@@ -26,8 +26,8 @@ const CLOSING: Form = Form {
     bare: false,
 };
 
-/// Answers each message as soon as it is whole, until the input ends or a message is refused whose end isn't known. Each
-/// read is counted before it is made.
+/// Answers each message as soon as it is whole, until the input ends, a request asks to close, or a message is refused whose
+/// end isn't known. Each read is counted before it is made.
 pub fn converse<R: Read, W: Write, D: Desk>(
     alloc: Global,
     reader: &mut R,
@@ -47,32 +47,47 @@ pub fn converse<R: Read, W: Write, D: Desk>(
         × ComesInReads bytes reads.old reads.new
         × BreaksOff D.step desk.old desk.new bytes text fault reads.old reads.new) }
 {
-    let Ok(routes) = Routes::new(alloc) else {
+    let Ok(mut line) = Line::new(alloc) else {
         return Err(ServeFault::NoMemory);
     };
-    let Ok(mut input) = Input::new(alloc) else {
-        return Err(ServeFault::NoMemory);
-    };
-    run(alloc, &routes, &mut input, reader, writer, desk, reads)
+    run(alloc, &mut line, reader, writer, desk, reads)
+}
+
+/// What a conversation keeps of its own.
+#[derive(Drop)]
+struct Line {
+    routes: Routes,
+    input: Input,
+}
+
+impl Line {
+    /// No bytes were read yet.
+    fn new(alloc: Global) -> Result<Line, AllocError>
+        ensures { IfOk result (λ line. line.input ≡ []) }
+    {
+        Ok(Line {
+            routes: Routes::new(alloc)?,
+            input: Input::new(alloc)?,
+        })
+    }
 }
 
 /// Takes turns until the conversation ends.
 fn run<R: Read, W: Write, D: Desk>(
     alloc: Global,
-    routes: &Routes,
-    input: &mut Input,
+    line: &mut Line,
     reader: &mut R,
     writer: &mut W,
     desk: &mut D,
     reads: &mut Reads,
 ) -> Result<Ended, ServeFault>
-    ensures ended { IfOk result (HasEnded D.step (moment desk.old (R.remaining reader.old) (W.contents writer.old) reads.old input.old)
-        (moment desk.new (R.remaining reader.new) (W.contents writer.new) reads.new input.new)) }
-    ensures fault { IfErr result (HasBroken D.step (moment desk.old (R.remaining reader.old) (W.contents writer.old) reads.old input.old)
-        (moment desk.new (R.remaining reader.new) (W.contents writer.new) reads.new input.new)) }
+    ensures ended { IfOk result (HasEnded D.step (moment desk.old (R.remaining reader.old) (W.contents writer.old) reads.old line.old.input)
+        (moment desk.new (R.remaining reader.new) (W.contents writer.new) reads.new line.new.input)) }
+    ensures fault { IfErr result (HasBroken D.step (moment desk.old (R.remaining reader.old) (W.contents writer.old) reads.old line.old.input)
+        (moment desk.new (R.remaining reader.new) (W.contents writer.new) reads.new line.new.input)) }
 {
     loop {
-        match turn(alloc, routes, input, reader, writer, desk, reads) {
+        match turn(alloc, line, reader, writer, desk, reads) {
             Ok(end) => {
                 if let Some(ended) = end {
                     return Ok(ended);
@@ -87,39 +102,39 @@ fn run<R: Read, W: Write, D: Desk>(
 /// does.
 fn turn<R: Read, W: Write, D: Desk>(
     alloc: Global,
-    routes: &Routes,
-    input: &mut Input,
+    line: &mut Line,
     reader: &mut R,
     writer: &mut W,
     desk: &mut D,
     reads: &mut Reads,
 ) -> Result<Option<Ended>, ServeFault>
-    ensures went { result ≡ Ok None → Went D.step (moment desk.old (R.remaining reader.old) (W.contents writer.old) reads.old input.old)
-        (moment desk.new (R.remaining reader.new) (W.contents writer.new) reads.new input.new) }
-    ensures less { result ≡ Ok None → work_left reads.new input.new < work_left reads.old input.old }
-    ensures ended { IfOk result (λ end. IfSome end (HasEnded D.step (moment desk.old (R.remaining reader.old) (W.contents writer.old) reads.old input.old)
-        (moment desk.new (R.remaining reader.new) (W.contents writer.new) reads.new input.new))) }
-    ensures fault { IfErr result (HasBroken D.step (moment desk.old (R.remaining reader.old) (W.contents writer.old) reads.old input.old)
-        (moment desk.new (R.remaining reader.new) (W.contents writer.new) reads.new input.new)) }
+    ensures went { result ≡ Ok None → Went D.step (moment desk.old (R.remaining reader.old) (W.contents writer.old) reads.old line.old.input)
+        (moment desk.new (R.remaining reader.new) (W.contents writer.new) reads.new line.new.input) }
+    ensures less { result ≡ Ok None → work_left reads.new line.new.input < work_left reads.old line.old.input }
+    ensures ended { IfOk result (λ end. IfSome end (HasEnded D.step (moment desk.old (R.remaining reader.old) (W.contents writer.old) reads.old line.old.input)
+        (moment desk.new (R.remaining reader.new) (W.contents writer.new) reads.new line.new.input))) }
+    ensures fault { IfErr result (HasBroken D.step (moment desk.old (R.remaining reader.old) (W.contents writer.old) reads.old line.old.input)
+        (moment desk.new (R.remaining reader.new) (W.contents writer.new) reads.new line.new.input)) }
 {
-    let framed = match frame(alloc, input.unused()) {
+    let framed = match frame(alloc, line.input.unused()) {
         Ok(framed) => framed,
         Err(_) => return Err(ServeFault::NoMemory),
     };
     match framed {
-        Framed::Want(wanted) => match fill(input, reader, reads, wanted) {
+        Framed::Want(wanted) => match fill(&mut line.input, reader, reads, wanted) {
             Ok(more) => {
                 if more {
                     return Ok(None);
                 }
-                Ok(Some(end_of(input.unused())))
+                Ok(Some(end_of(line.input.unused())))
             }
             Err(fault) => Err(fault),
         },
         Framed::Got(request, used) => {
-            input.consume(used);
-            match reply_to(alloc, routes, writer, desk, request) {
-                Ok(()) => Ok(None),
+            line.input.consume(used);
+            let asks_to_close = request.form().close;
+            match reply_to(alloc, &line.routes, writer, desk, request) {
+                Ok(()) => Ok(end_after(asks_to_close)),
                 Err(fault) => Err(fault),
             }
         }
@@ -127,6 +142,17 @@ fn turn<R: Read, W: Write, D: Desk>(
             Ok(()) => Ok(Some(Ended::Refused)),
             Err(fault) => Err(fault),
         },
+    }
+}
+
+/// How the conversation ends after a reply, if it does.
+fn end_after(asks_to_close: bool) -> Option<Ended>
+    ensures { result ≡ (if asks_to_close then Some Asked else None) }
+{
+    if asks_to_close {
+        Some(Ended::Asked)
+    } else {
+        None
     }
 }
 

@@ -1,5 +1,6 @@
 //! Conversations and their desk, with replies worked out by hand.
 
+mod closing;
 mod cuts;
 mod desks;
 mod faults;

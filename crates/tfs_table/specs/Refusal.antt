@@ -5,19 +5,22 @@ use Rattle.std.specs.Arc.{arc_value}
 use Rattle.tfs_lock.specs.LockInfo.{LockInformation}
 use Rattle.tfs_table.specs.declared.refusal.Methods.{Methods}
 use Rattle.tfs_table.specs.declared.refusal.Refusal.{Refusal}
-use Rattle.tfs_table.specs.declared.refusal.Refusal.TheVariants.{HeadTooLarge, BadHead, BadLength, TransferCoding, BodyTooLarge, NoRoute, MethodNotAllowed, BadName, BadLockInfo, BadState, TooManyInstances, JournalStopped, Locked, LockLost, LineageDiffers, SerialTooLow, SerialReused, NoState, TableFull, JournalFull, OutOfMemory, JournalFault}
+use Rattle.tfs_table.specs.declared.refusal.Refusal.TheVariants.{HeadTooLarge, BadHead, NoHost, BadLength, TransferCoding, BodyTooLarge, BadChunk, NoRoute, MethodNotAllowed, BadName, BadDigest, BadLockInfo, BadState, TooManyInstances, JournalStopped, Locked, LockLost, LineageDiffers, SerialTooLow, SerialReused, NoState, TableFull, JournalFull, OutOfMemory, JournalFault}
 
 -- Why a request is refused. `locked` has the information of the holder, where the program's refusal has a pointer to it, and
 -- `method_not_allowed` the methods of the route.
 pub data RefusalValue : Type 0 where
   head_too_large : RefusalValue
   bad_head : RefusalValue
+  no_host : RefusalValue
   bad_length : RefusalValue
   transfer_coding : RefusalValue
   body_too_large : RefusalValue
+  bad_chunk : RefusalValue
   no_route : RefusalValue
   method_not_allowed : Methods → RefusalValue
   bad_name : RefusalValue
+  bad_digest : RefusalValue
   bad_lock_info : RefusalValue
   bad_state : RefusalValue
   too_many_instances : RefusalValue
@@ -37,12 +40,15 @@ pub data RefusalValue : Type 0 where
 abbrev pub refusal_value : Refusal → RefusalValue
 refusal_value HeadTooLarge = head_too_large
 refusal_value BadHead = bad_head
+refusal_value NoHost = no_host
 refusal_value BadLength = bad_length
 refusal_value TransferCoding = transfer_coding
 refusal_value BodyTooLarge = body_too_large
+refusal_value BadChunk = bad_chunk
 refusal_value NoRoute = no_route
 refusal_value (MethodNotAllowed methods) = method_not_allowed methods
 refusal_value BadName = bad_name
+refusal_value BadDigest = bad_digest
 refusal_value BadLockInfo = bad_lock_info
 refusal_value BadState = bad_state
 refusal_value TooManyInstances = too_many_instances
@@ -72,12 +78,15 @@ row number name status = record { number = number; name = name; status = status 
 abbrev pub row_of : RefusalValue → RefusalRow
 row_of head_too_large = row 1 (codes "HeadTooLarge") 431
 row_of bad_head = row 2 (codes "BadHead") 400
+row_of no_host = row 3 (codes "NoHost") 400
 row_of bad_length = row 4 (codes "BadLength") 400
 row_of transfer_coding = row 5 (codes "TransferCoding") 501
 row_of body_too_large = row 6 (codes "BodyTooLarge") 413
+row_of bad_chunk = row 28 (codes "BadChunk") 400
 row_of no_route = row 7 (codes "NoRoute") 404
 row_of (method_not_allowed methods) = row 8 (codes "MethodNotAllowed") 405
 row_of bad_name = row 9 (codes "BadName") 400
+row_of bad_digest = row 10 (codes "BadDigest") 400
 row_of bad_lock_info = row 11 (codes "BadLockInfo") 400
 row_of bad_state = row 12 (codes "BadState") 400
 row_of too_many_instances = row 13 (codes "TooManyInstances") 413

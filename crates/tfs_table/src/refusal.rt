@@ -23,18 +23,24 @@ pub enum Refusal {
     HeadTooLarge,
     #[error("the head of the request cannot be read")]
     BadHead,
+    #[error("the head of the request names no host, or several")]
+    NoHost,
     #[error("the length of the body cannot be told")]
     BadLength,
     #[error("the body has a transfer coding")]
     TransferCoding,
     #[error("the body is too large")]
     BodyTooLarge,
+    #[error("the chunks of the body cannot be read")]
+    BadChunk,
     #[error("there is no such path")]
     NoRoute,
     #[error("the path doesn't take this method")]
     MethodNotAllowed(Methods),
     #[error("this is no name of a workspace")]
     BadName,
+    #[error("the body hasn't the digest that the request tells")]
+    BadDigest,
     #[error("the body is no lock information, or the identifier is too long")]
     BadLockInfo,
     #[error("the body is no state")]
@@ -99,12 +105,15 @@ impl Refusal {
         match self {
             Refusal::HeadTooLarge => (1, "HeadTooLarge", 431),
             Refusal::BadHead => (2, "BadHead", 400),
+            Refusal::NoHost => (3, "NoHost", 400),
             Refusal::BadLength => (4, "BadLength", 400),
             Refusal::TransferCoding => (5, "TransferCoding", 501),
             Refusal::BodyTooLarge => (6, "BodyTooLarge", 413),
+            Refusal::BadChunk => (28, "BadChunk", 400),
             Refusal::NoRoute => (7, "NoRoute", 404),
             Refusal::MethodNotAllowed(_) => (8, "MethodNotAllowed", 405),
             Refusal::BadName => (9, "BadName", 400),
+            Refusal::BadDigest => (10, "BadDigest", 400),
             Refusal::BadLockInfo => (11, "BadLockInfo", 400),
             Refusal::BadState => (12, "BadState", 400),
             Refusal::TooManyInstances => (13, "TooManyInstances", 413),

@@ -124,8 +124,10 @@ fn each_refusal_has_its_number_name_and_status(rt: HostRuntime) -> Result<(), Fa
     let rows = [
         (Refusal::HeadTooLarge, 1, "HeadTooLarge", 431),
         (Refusal::BadHead, 2, "BadHead", 400),
+        (Refusal::NoHost, 3, "NoHost", 400),
         (Refusal::BadLength, 4, "BadLength", 400),
         (Refusal::BodyTooLarge, 6, "BodyTooLarge", 413),
+        (Refusal::BadChunk, 28, "BadChunk", 400),
         (Refusal::NoRoute, 7, "NoRoute", 404),
         (
             Refusal::MethodNotAllowed(Methods::State),
@@ -134,6 +136,7 @@ fn each_refusal_has_its_number_name_and_status(rt: HostRuntime) -> Result<(), Fa
             405,
         ),
         (Refusal::BadName, 9, "BadName", 400),
+        (Refusal::BadDigest, 10, "BadDigest", 400),
         (Refusal::BadLockInfo, 11, "BadLockInfo", 400),
         (Refusal::BadState, 12, "BadState", 400),
         (Refusal::TooManyInstances, 13, "TooManyInstances", 413),

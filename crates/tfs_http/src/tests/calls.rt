@@ -13,7 +13,14 @@ fn call(
     target: &[u8],
 ) -> Result<Result<Call, Refusal>, Fail> {
     let routes = Routes::new(rt.alloc())?;
-    let request = Request::new(rt.alloc(), method.as_bytes(), target, b"abc")?;
+    let request = Request::new(
+        rt.alloc(),
+        method.as_bytes(),
+        target,
+        b"abc".to_vec(rt.alloc())?,
+        false,
+        true,
+    )?;
     Ok(call_of(rt.alloc(), &routes, request))
 }
 

@@ -28,7 +28,7 @@ fn expect_message(
             assert!(rt; request.method() == method.as_bytes());
             assert!(rt; request.target() == target.as_bytes());
             assert!(rt; request.body() == body.as_bytes());
-            assert!(rt; !request.form().close && !request.form().bare);
+            assert!(rt; !request.form().bare);
             assert_eq!(rt; len, used);
             assert!(rt; request.into_body().as_slice() == body.as_bytes());
             Ok(())
@@ -87,15 +87,15 @@ fn messages_that_are_taken(rt: HostRuntime) -> Result<(), Fail> {
         ),
         ("PUT /?a=b HTTP/1.0\r\n\r\n", ("PUT", "/?a=b", "")),
         (
-            "POST / HTTP/1.1\r\ncontent-LENGTH: \t3 \r\n\r\nabc",
+            "POST / HTTP/1.1\r\nHost: h\r\ncontent-LENGTH: \t3 \r\n\r\nabc",
             ("POST", "/", "abc"),
         ),
         (
-            "POST / HTTP/1.1\r\nContent-Length: 0000000000000000000000000000000000000003\r\n\r\nabc",
+            "POST / HTTP/1.1\r\nHost: h\r\nContent-Length: 0000000000000000000000000000000000000003\r\n\r\nabc",
             ("POST", "/", "abc"),
         ),
         (
-            "POST / HTTP/1.1\r\nContent-Length: 0\r\n\r\n",
+            "POST / HTTP/1.1\r\nHost: h\r\nContent-Length: 0\r\n\r\n",
             ("POST", "/", ""),
         ),
     ] {
@@ -115,56 +115,62 @@ fn messages_that_are_refused(rt: HostRuntime) -> Result<(), Fail> {
             "BadHead",
         ),
         (
-            "POST / HTTP/1.1\r\nContent-Length: 3\r\nContent-Length: 3\r\n\r\nabc",
+            "POST / HTTP/1.1\r\nHost: h\r\nContent-Length: 3\r\nContent-Length: 3\r\n\r\nabc",
             "BadLength",
         ),
         (
-            "POST / HTTP/1.1\r\nContent-Length: +3\r\n\r\nabc",
+            "POST / HTTP/1.1\r\nHost: h\r\nContent-Length: +3\r\n\r\nabc",
             "BadLength",
         ),
         (
-            "POST / HTTP/1.1\r\nContent-Length: 3,3\r\n\r\nabc",
+            "POST / HTTP/1.1\r\nHost: h\r\nContent-Length: 3,3\r\n\r\nabc",
             "BadLength",
         ),
-        ("POST / HTTP/1.1\r\nContent-Length:\r\n\r\nabc", "BadLength"),
         (
-            "POST / HTTP/1.1\r\nContent-Length: 16777217\r\n\r\n",
+            "POST / HTTP/1.1\r\nHost: h\r\nContent-Length:\r\n\r\nabc",
+            "BadLength",
+        ),
+        (
+            "POST / HTTP/1.1\r\nHost: h\r\nContent-Length: 16777217\r\n\r\n",
             "BodyTooLarge",
         ),
         (
-            "UNLOCK /state/a HTTP/1.1\r\nTransfer-Encoding: chunked\r\n\r\n0\r\n\r\n",
+            "UNLOCK /state/a HTTP/1.1\r\nHost: h\r\nTransfer-Encoding: chunked\r\n\r\n0\r\n\r\n",
             "TransferCoding",
         ),
         (
-            "POST / HTTP/1.1\r\ntransfer-ENCODING: gzip, chunked\r\n\r\n",
+            "POST / HTTP/1.1\r\nHost: h\r\ntransfer-ENCODING: gzip, chunked\r\n\r\n",
             "TransferCoding",
         ),
         (
-            "POST / HTTP/1.1\r\nTransfer-Encoding:\r\nTransfer-Encoding: chunked\r\n\r\n",
+            "POST / HTTP/1.1\r\nHost: h\r\nTransfer-Encoding:\r\nTransfer-Encoding: chunked\r\n\r\n",
             "TransferCoding",
         ),
         (
-            "POST / HTTP/1.1\r\nContent-Length: 3\r\nTransfer-Encoding: chunked\r\n\r\nabc",
+            "POST / HTTP/1.1\r\nHost: h\r\nContent-Length: 3\r\nTransfer-Encoding: chunked\r\n\r\nabc",
             "BadLength",
         ),
         (
-            "POST / HTTP/1.1\r\nTransfer-Encoding: chunked\r\nContent-Length: 16777217\r\n\r\n",
+            "POST / HTTP/1.1\r\nHost: h\r\nTransfer-Encoding: chunked\r\nContent-Length: 16777217\r\n\r\n",
             "BadLength",
         ),
         (
-            "POST / HTTP/1.1\r\nContent-Length: 1000000000000000000000000000000000000000\r\n\r\n",
+            "POST / HTTP/1.1\r\nHost: h\r\nContent-Length: 1000000000000000000000000000000000000000\r\n\r\n",
             "BodyTooLarge",
         ),
     ] {
         expect_refusal(&rt, text.as_bytes(), name)?;
     }
-    expect_need(&rt, b"POST / HTTP/1.1\r\nContent-Length: 16777216\r\n\r\n")
+    expect_need(
+        &rt,
+        b"POST / HTTP/1.1\r\nHost: h\r\nContent-Length: 16777216\r\n\r\n",
+    )
 }
 
-/// A head with so many fields.
+/// A head with so many fields, `Host` among them.
 fn head_with(alloc: Global, fields: usize) -> Result<String, Fail> {
-    let mut text = String::from_str(alloc, "GET / HTTP/1.1\r\n")?;
-    for _ in 0..fields {
+    let mut text = String::from_str(alloc, "GET / HTTP/1.1\r\nHost: h\r\n")?;
+    for _ in 1..fields {
         text.push_str("a: b\r\n")?;
     }
     text.push_str("\r\n")?;
@@ -174,9 +180,9 @@ fn head_with(alloc: Global, fields: usize) -> Result<String, Fail> {
 #[test]
 fn the_reply_to_head_is_bare(rt: HostRuntime) -> Result<(), Fail> {
     for (text, bare) in [
-        ("HEAD /state/a HTTP/1.1\r\n\r\n", true),
-        ("head /state/a HTTP/1.1\r\n\r\n", false),
-        ("HEADS /state/a HTTP/1.1\r\n\r\n", false),
+        ("HEAD /state/a HTTP/1.1\r\nHost: h\r\n\r\n", true),
+        ("head /state/a HTTP/1.1\r\nHost: h\r\n\r\n", false),
+        ("HEADS /state/a HTTP/1.1\r\nHost: h\r\n\r\n", false),
     ] {
         match take(rt.alloc(), text.as_bytes())? {
             Take::Got(request, _) => {

@@ -2,8 +2,8 @@
 use Rattle.std.proofs.Common.{◌≡◌, ◌++◌, length, map, All}
 use Rattle.std.specs.Option.{option_to_list, option_copied}
 use Rattle.httparse.specs.Spans.{IsHeaderWithin, header_bytes}
-use Rattle.tfs_http.specs.Framing.{values_named}
-use Rattle.tfs_http.proofs.length.values_named.Given as goal
+use Rattle.tfs_http.specs.Fields.{values_named}
+use Rattle.tfs_http.proofs.fields.values_named.Given as goal
 
 abbrev pub invariant-loop-field : goal.invariant-loop-field
 invariant-loop-field l = record {

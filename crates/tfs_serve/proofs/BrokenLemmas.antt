@@ -1,0 +1,100 @@
+-- Laws of conversations that a fault breaks off.
+use Rattle.std.proofs.Common.{◌≡◌, ◌<◌, ℕ, List, [], ◌∷◌, ◌++◌, length, drop, Option}
+use Rattle.std.proofs.Common.{refl, sym, ◌∙◌, inl, inr}
+use Rattle.std.proofs.Common.{append-nil}
+use Rattle.std.specs.Io.KnownBytes.{Consumes}
+use Rattle.tfs_table.specs.declared.call.Call.{Call}
+use Rattle.tfs_table.specs.declared.reply.Reply.{Reply}
+use Rattle.tfs_table.specs.declared.refusal.Refusal.{Refusal}
+use Rattle.tfs_table.specs.Refusal.{refusal_value}
+use Rattle.tfs_table.specs.Reply.{ReplyValue, refused}
+use Rattle.tfs_http.specs.Request.{RequestValue}
+use Rattle.tfs_http.specs.Form.{form_of}
+use Rattle.tfs_http.specs.Framing.{BeginsWith, AreWanted, framing_refusal}
+use Rattle.tfs_http.specs.ReplyText.{reply_text}
+use Rattle.tfs_serve.specs.Conversation.{AnswersRequest, Exchange, ComesInReads, LeftOver, MayGoOn}
+use Rattle.tfs_serve.specs.Conversation.{closing_form}
+use Rattle.tfs_serve.specs.Turns.{WritesPart, FailsReading, Moment, moment, HasBroken}
+use Rattle.tfs_serve.specs.declared.fault.ServeFault.{ServeFault}
+use Rattle.tfs_serve.specs.declared.fault.ServeFault.TheVariants.{NoMemory}
+use Rattle.tfs_serve.proofs.FaultLemmas.{comes_reading, comes_writing}
+use Rattle.tfs_serve.proofs.ConversationLemmas.{still_unfinished, moved_nowhere, moved_reading, moved_writing, serves_one}
+
+module _ {S : Type 0} (step : S → Call → Reply → S → Type 0) where
+  -- A fault while more was read.
+  pub broken_reading : (desk : S) (from reader writer : Option (List ℕ)) (before after : ℕ) (input left more : List ℕ) (wanted : ℕ) (fault : ServeFault)
+      → left ≡ input ++ more → Consumes from reader more → ComesInReads more before after → AreWanted input wanted → length left < wanted
+      → FailsReading fault before after → HasBroken step (moment desk from writer before input) (moment desk reader writer after left) fault
+  broken_reading desk from reader writer before after input left more wanted fault is consumed came w short fails = record {
+    more = more;
+    text = [];
+    moved = moved_reading step desk desk from reader writer before after input left more consumed came;
+    breaks = record {
+      left = record { rest = left; exchanges = []; last = []; lost = [] };
+      served = [];
+      serves = (sym is, refl, refl);
+      end = inl refl;
+      prefix = refl;
+      comes_at = comes_reading fault left [] before after fails (still_unfinished input left more wanted is w short) refl;
+    };
+  }
+
+  -- Want of memory between messages.
+  pub broken_at_once : (a : Moment S) → MayGoOn a.input → HasBroken step a a NoMemory
+  broken_at_once a may = record {
+    more = [];
+    text = [];
+    moved = moved_nowhere step a.desk a.desk a.reader a.writer a.reads a.input a.input;
+    breaks = record {
+      left = record { rest = a.input; exchanges = []; last = []; lost = [] };
+      served = [];
+      serves = (append-nil a.input, refl, refl);
+      end = inl refl;
+      prefix = refl;
+      comes_at = inl ((refl, refl, refl), may);
+    };
+  }
+
+  -- A fault while a reply was written.
+  pub broken_answering : (old new : S) (reader into writer : Option (List ℕ)) (reads : ℕ) (input left : List ℕ) (r : RequestValue) (used : ℕ)
+      (reply : ReplyValue)
+      (fault : ServeFault) → BeginsWith input r used → left ≡ drop used input → AnswersRequest step old r reply new
+      → WritesPart into writer (reply_text reply (form_of r)) fault → HasBroken step (moment old reader into reads input)
+      (moment new reader writer reads left) fault
+  broken_answering old new reader into writer reads input left r used reply fault b is answers w =
+      let x : Exchange = record { request = r; reply = reply } in
+      let l : LeftOver = record { rest = left; exchanges = x ∷ []; last = []; lost = w.rest } in
+      record {
+        more = [];
+        text = w.part;
+        moved = moved_writing step old new reader into writer reads input left w.part w.appended;
+        breaks = record {
+          left = l;
+          served = reply_text reply (form_of r);
+          serves = serves_one step old new input left r used reply b is answers;
+          end = inl refl;
+          prefix = append-nil (reply_text reply (form_of r)) ∙ w.split;
+          comes_at = comes_writing fault l (reply_text reply (form_of r)) w.part reads reads (inr ([], x, refl, refl, refl)) w.split w.one_of;
+        };
+      }
+
+  -- A fault while the refusal was written that was to end the conversation.
+  pub broken_refusing : (desk : S) (reader into writer : Option (List ℕ)) (reads : ℕ) (input : List ℕ) (refusal : Refusal) (fault : ServeFault)
+      → framing_refusal input refusal → WritesPart into writer (reply_text (refused (refusal_value refusal)) closing_form) fault
+      → HasBroken step (moment desk reader into reads input) (moment desk reader writer reads input) fault
+  broken_refusing desk reader into writer reads input refusal fault is w =
+      let text : List ℕ = reply_text (refused (refusal_value refusal)) closing_form in
+      let l : LeftOver = record { rest = input; exchanges = []; last = text; lost = w.rest } in
+      record {
+        more = [];
+        text = w.part;
+        moved = moved_writing step desk desk reader into writer reads input input w.part w.appended;
+        breaks = record {
+          left = l;
+          served = [];
+          serves = (append-nil input, refl, refl);
+          end = inr (refl, (refusal, is, refl));
+          prefix = w.split;
+          comes_at = comes_writing fault l text w.part reads reads (inl (refl, λ none. cc)) w.split w.one_of;
+        };
+      }
