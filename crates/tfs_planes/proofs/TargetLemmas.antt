@@ -1,7 +1,7 @@
 -- Laws of rows that take in the rows of their targets.
-use Rattle.std.proofs.Common.{◌≡◌, ◌≢◌, ◌↔◌, ◌⊎◌, ℕ, ◌+◌, ◌-◌, ◌*◌, ◌/◌, ◌%◌, ◌^◌, ◌<◌, ◌≤◌, min, ◌||◌, eqb, IsTrue, List}
+use Rattle.std.proofs.Common.{◌≡◌, ◌≢◌, ◌↔◌, ◌⊎◌, ℕ, ◌+◌, ◌-◌, ◌*◌, ◌/◌, ◌%◌, ◌^◌, ◌<◌, ◌≤◌, min, ◌||◌, eqb, IsTrue, List, false}
 use Rattle.std.proofs.Common.{length, get_or, replicate, bit_and, bit_or, w64, ap, sym, subst, ◌∙◌, inl, inr, arith}
-use Rattle.std.proofs.lemmas.Bool.{cases_eq, cases_lt, or_cases, or_left, or_right, false≢true, eqb-true, eq-eqb}
+use Rattle.std.proofs.lemmas.Bool.{cases_eq, cases_lt, or_cases, or_left, or_right, false≢true, eqb-true, eq-eqb, ne_eqb}
 use Rattle.std.proofs.lemmas.Nat.{and_le_l}
 use Rattle.std.proofs.lemmas.Nat.Bits.{bit_at_and, bit_at_not, bit_at-lt, bit_at-zero, bit_at_above, bit_at_clear_same, bit_at_clear_other, bit_at-pow_other}
 use Rattle.std.specs.Int.{bit_at, bit_not}
@@ -53,6 +53,17 @@ bits_without bits others = bit_and bits (bit_not w64 others)
 -- A bit that both have isn't among them, and each other is.
 bit_at_without : (bits others k : ℕ) → others < 2 ^ 64 → k < 64 → bit_at (bits_without bits others) k ≡ min (bit_at bits k) (1 - bit_at others k)
 bit_at_without bits others k fits below = bit_at_and bits (bit_not w64 others) k ∙ ap (min (bit_at bits k)) (bit_at_not w64 others k fits below)
+
+-- A bit that one word has without the other's is a number of its list and none of the other's.
+pub number_without : (words others : List ℕ) (at k : ℕ) → get_or others at 0 < 2 ^ 64 → k < 64 →
+    bit_at (bits_without (get_or words at 0) (get_or others at 0)) k ≡ 1 →
+    IsTrue (bit_at_word words (at * 64 + k)) × (bit_at_word others (at * 64 + k) ≡ false)
+number_without words others at k fits below one =
+    let place : at * 64 + k ≡ 64 * at + k = omega arith in
+    let left = bit_at_without (get_or words at 0) (get_or others at 0) k fits below in (
+      ap (bit_at_word words) place ∙ bit_of_word at k words below ∙ eq-eqb _ 1 (omega arith),
+      ap (bit_at_word others) place ∙ bit_of_word at k others below ∙ ne_eqb _ 1 (omega arith),
+    )
 
 -- The bits that are left to take are targets, and they are placed where none is missing.
 pub left_within : (bits others placed k : ℕ) → bits < 2 ^ 64 → others < 2 ^ 64 → placed < 2 ^ 64 → bits_without (bits_without bits others) placed ≡ 0 →

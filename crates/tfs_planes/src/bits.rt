@@ -104,7 +104,9 @@ pub(crate) fn highest_bit(word: u64) -> usize
 fn missing_singly(words: &[u64], others: &[u64], from: usize) -> Option<usize>
     requires lengths { length words.now ≤ length others.now }
     requires wide { length words.now ≤ 64 }
-    ensures { IfSome result (λ number. number < 64 * length words.now) }
+    ensures below { IfSome result (λ number. number < 64 * length words.now) }
+    ensures member { IfSome result (λ number. IsTrue (bit_at_word words.now number)) }
+    ensures missing { IfSome result (λ number. bit_at_word others.now number ≡ false) }
 {
     for at in from..words.len() {
         let missing = words[at] & !others[at];
@@ -120,7 +122,9 @@ fn missing_singly(words: &[u64], others: &[u64], from: usize) -> Option<usize>
 pub(crate) fn missing(words: &[u64], others: &[u64], from: usize) -> Option<usize>
     requires lengths { length words.now ≤ length others.now }
     requires wide { length words.now ≤ 64 }
-    ensures { IfSome result (λ number. number < 64 * length words.now) }
+    ensures below { IfSome result (λ number. number < 64 * length words.now) }
+    ensures member { IfSome result (λ number. IsTrue (bit_at_word words.now number)) }
+    ensures missing { IfSome result (λ number. bit_at_word others.now number ≡ false) }
 {
     for block in from / LANES..words.len() / LANES {
         if !covers_lanes(words, others, block * LANES) {

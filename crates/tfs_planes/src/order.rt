@@ -1,6 +1,8 @@
 //! The search for an order of rows in which each row's targets, itself aside, come before it. A
 //! row waits for one target that isn't in the order yet, and its search then goes on from there.
-ghost use Rattle.std.specs.Prelude.{◌≡◌, ◌+◌, ◌*◌, ◌<◌, ◌≤◌, IfSome, length};
+ghost use Rattle.std.specs.Prelude.{◌≡◌, ◌+◌, ◌*◌, ◌<◌, ◌≤◌, IfSome, false, length};
+ghost use Rattle.tfs_planes.specs.Row.{bit_at_word};
+ghost use Rattle.tfs_planes.specs.Targets.{IsTarget};
 
 use crate::WORDS;
 use crate::bits::{clear_bit, missing, set_bit};
@@ -119,7 +121,9 @@ impl<const N: usize> Order<N> {
         requires wide { length targets.now ≤ 64 }
         requires room { row < N }
         requires small { row < 4096 }
-        ensures { IfSome result (λ target. target < 64 * length targets.now) }
+        ensures below { IfSome result (λ target. target < 64 * length targets.now) }
+        ensures target { IfSome result (λ target. IsTarget targets.now row target) }
+        ensures unplaced { IfSome result (λ target. bit_at_word self.old.placed target ≡ false) }
     {
         let from = usize::from(self.words[row]);
         let target = missing(targets, &self.placed, from)?;
