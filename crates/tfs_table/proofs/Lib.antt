@@ -1,1 +1,6 @@
-pub mod DraftLemmas
+pub mod WorkspaceLemmas
+pub mod SearchLemmas
+pub mod LawfulLemmas
+pub mod JudgeLemmas
+pub mod TableLemmas
+pub mod RebaseLemmas

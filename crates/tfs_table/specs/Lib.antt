@@ -1,4 +1,5 @@
-pub mod Draft
-pub mod Refusal
-pub mod Reply
-pub mod Transition
+pub mod Lawful
+pub mod Workspaces
+pub mod Table
+pub mod Ready
+pub mod Rebase

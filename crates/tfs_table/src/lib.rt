@@ -1,22 +1,21 @@
-//! What is asked of a table and what it answers: calls, drafts of changes, replies, refusals, and the transition between
-//! them. The table itself is to come.
+//! The table of workspaces over a journal that goes to a sink.
 #![tactic(auto)]
 
-mod bytes;
-mod call;
-mod draft;
+mod fault;
+mod judge;
 mod laws;
-mod refusal;
-mod reply;
-mod text;
+mod prepare;
+mod ready;
+mod rebase;
+mod start;
+mod table;
+mod workspace;
+mod workspaces;
 
-pub use bytes::Bytes;
-pub use call::{Call, Raw};
-pub use draft::Draft;
-pub use laws::a_change_is_answered_as_its_act_is;
-pub use refusal::{Methods, Refusal};
-pub use reply::Reply;
-pub use text::Text;
+pub use fault::OpenFault;
+pub use laws::{journals_are_lawful_entry_by_entry, lawful_journals_keep_the_history_laws};
+pub use ready::Ready;
+pub use table::Table;
 
 /// The most names that a table may have.
 pub const MAX_NAMES: usize = 1_024;

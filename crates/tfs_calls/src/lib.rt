@@ -1,0 +1,26 @@
+//! What is asked of a table of workspaces and what it answers: calls, drafts of changes, queries, replies and refusals, and the
+//! transition between them.
+#![tactic(auto)]
+
+mod bytes;
+mod call;
+mod draft;
+mod impact;
+mod laws;
+mod query;
+mod refusal;
+mod reply;
+mod text;
+
+pub use bytes::Bytes;
+pub use call::{Call, Raw};
+pub use draft::Draft;
+pub use impact::{Chosen, Impact};
+pub use laws::a_change_is_answered_as_its_act_is;
+pub use query::{Kind, Query, Texts};
+pub use refusal::{Methods, Refusal};
+pub use reply::Reply;
+pub use text::Text;
+
+#[cfg(test)]
+mod tests;

@@ -1,0 +1,118 @@
+-- What a judgement over workspaces says of the journal.
+use Rattle.std.proofs.Common.{◌≡◌, ℕ, List, length, Bool, not, Option, Some, None, is_some, Result, Ok, Err, refl, sym, ◌∙◌, ap}
+use Rattle.std.proofs.Common.{◌<◌, ◌∷◌, All, option_map, get_or, cond, true, false, arith, length-append}
+use Rattle.std.specs.Arc.{arc_value}
+use Rattle.std.specs.Result.{is_err}
+use Rattle.std.proofs.lemmas.List.Elements.{All-get_or}
+use Rattle.tfs_lock.specs.LockInfo.{LockInformation}
+use Rattle.tfs_rules.specs.declared.verdict.Verdict.{Verdict}
+use Rattle.tfs_rules.specs.declared.verdict.Verdict.TheVariants as verdict
+use Rattle.tfs_table.proofs.WorkspaceLemmas.{find_behind, standing_at_place}
+use Rattle.std.specs.List.{find, list_any}
+use Rattle.std.specs.Option.{option_or}
+use Rattle.std.specs.Str.{bytes_eq}
+use Rattle.tfs_rules.specs.Act.{ActValue}
+use Rattle.tfs_rules.specs.History.{Standing}
+use Rattle.tfs_rules.specs.Verdict.{verdict_over}
+use Rattle.tfs_journal.specs.Journal.{Journal, acts_of, names_of}
+use Rattle.tfs_calls.specs.Refusal.{RefusalValue, journal_stopped, journal_fault, table_full, journal_full}
+use Rattle.tfs_calls.specs.Transition.{refusal_of, verdict_refusal, limit_refusal, full_refusal, act_refusal, open_model, TableModel}
+use Rattle.tfs_table.specs.declared.workspace.Workspace.{Workspace}
+use Rattle.tfs_table.specs.Workspaces.{is_of, standing_at, AreWorkspacesOf, HasVersion, IsPlaceOf, IsFound}
+
+-- The refusal by the rules over the workspace of a name is that over its history.
+pub rules_over : (j : Journal) (ws : List Workspace) (name : List ℕ) (act : ActValue) → AreWorkspacesOf j ws
+    → refusal_of (standing_at name ws).holder (verdict_over (standing_at name ws) act) ≡ verdict_refusal (acts_of name j) act
+rules_over j ws name act are = ap (λ s. refusal_of s.holder (verdict_over s act)) (are.standings name)
+
+-- The refusal by the limits over workspaces is that over the journal.
+pub limits_over : (j : Journal) (ws : List Workspace) (name : List ℕ) (is_new : Bool) (count : ℕ) → AreWorkspacesOf j ws
+    → length j.entries ≡ count
+    → is_new ≡ not (is_some (find (is_of name) ws)) → full_refusal (length ws) is_new count ≡ limit_refusal j name
+limits_over j ws name is_new count are long new =
+    ap (λ n. full_refusal n is_new count) are.count
+    ∙ ap (λ t. full_refusal (length (names_of j)) t count) (new ∙ ap not (are.names name))
+    ∙ ap (full_refusal (length (names_of j)) (not (list_any (bytes_eq name) (names_of j)))) (sym long)
+
+-- An act that neither refuses isn't refused.
+pub judged_accepted : (j : Journal) (ws : List Workspace) (name : List ℕ) (act : ActValue) (is_new : Bool) (count : ℕ)
+    → AreWorkspacesOf j ws
+    → length j.entries ≡ count → is_new ≡ not (is_some (find (is_of name) ws))
+    → refusal_of (standing_at name ws).holder (verdict_over (standing_at name ws) act) ≡ None → full_refusal (length ws) is_new count ≡ None
+    → act_refusal (open_model j) name act ≡ None
+judged_accepted j ws name act is_new count are long new rules limits =
+    ap (λ o. option_or o (limit_refusal j name)) (sym (rules_over j ws name act are) ∙ rules)
+    ∙ sym (limits_over j ws name is_new count are long new) ∙ limits
+
+-- What the rules refuse is refused.
+pub judged_by_rules : (j : Journal) (ws : List Workspace) (name : List ℕ) (act : ActValue) (refusal : RefusalValue) → AreWorkspacesOf j ws
+    → refusal_of (standing_at name ws).holder (verdict_over (standing_at name ws) act) ≡ Some refusal
+    → act_refusal (open_model j) name act ≡ Some refusal
+judged_by_rules j ws name act refusal are rules = ap (λ o. option_or o (limit_refusal j name)) (sym (rules_over j ws name act are) ∙ rules)
+
+-- So is what the limits refuse.
+pub judged_by_limits : (j : Journal) (ws : List Workspace) (name : List ℕ) (act : ActValue) (is_new : Bool) (count : ℕ) (refusal :
+    RefusalValue)
+    → AreWorkspacesOf j ws → length j.entries ≡ count → is_new ≡ not (is_some (find (is_of name) ws))
+    → refusal_of (standing_at name ws).holder (verdict_over (standing_at name ws) act) ≡ None
+    → full_refusal (length ws) is_new count ≡ Some refusal
+    → act_refusal (open_model j) name act ≡ Some refusal
+judged_by_limits j ws name act is_new count refusal are long new rules limits =
+    ap (λ o. option_or o (limit_refusal j name)) (sym (rules_over j ws name act are) ∙ rules)
+    ∙ sym (limits_over j ws name is_new count are long new) ∙ limits
+
+-- A name is new where it has a gap.
+pub new_in_gap : (name : List ℕ) (ws : List Workspace) (place : Result ℕ ℕ) → IsFound name ws place
+    → is_err place ≡ not (is_some (find (is_of name) ws))
+new_in_gap name ws (Ok i) found =
+    ap (λ o. not (is_some o)) (sym (ap (find (is_of name)) found.parts
+    ∙ find_behind (is_of name) found.before found.after found.own found.first found.named))
+new_in_gap name ws (Err i) found = ap (λ o. not (is_some o)) (sym found.absent)
+
+-- The refusal that the standing of a name asks for.
+pub heeded : (at s : Standing) (act : ActValue) (holder : Option LockInformation) (v : Verdict) → at ≡ s → holder ≡ s.holder
+    → v ≡ verdict_over s act
+    → refusal_of at.holder (verdict_over at act) ≡ refusal_of holder v
+heeded at s act holder v same is_holder is_verdict = rw (same, is_holder, is_verdict) refl
+
+-- The version of the workspace of a name is that of its state.
+pub version_here : (name : List ℕ) (ws : List Workspace) (place : ℕ) (d : Workspace) → IsPlaceOf name ws place → All HasVersion ws
+    → option_map arc_value (get_or ws place d).version ≡ (standing_at name ws).state
+version_here name ws place d p all =
+    let sizes = ap length p.parts ∙ length-append p.before (p.own ∷ p.after) in
+    let at = p.at in
+    let within : place < length ws = omega arith in
+    All-get_or HasVersion ws place d within all ∙ ap (λ (s : Standing). s.state) (sym (standing_at_place name ws place d p))
+
+-- No verdict is told as a fault of the journal.
+rules_without_fault : (holder : Option LockInformation) (v : Verdict) → refusal_of holder v ≡ Some journal_fault → ⊥
+rules_without_fault holder verdict.Accept e = cc
+rules_without_fault None verdict.Locked e = cc
+rules_without_fault (Some info) verdict.Locked e = cc
+rules_without_fault holder verdict.LockLost e = cc
+rules_without_fault holder verdict.LineageDiffers e = cc
+rules_without_fault holder verdict.SerialTooLow e = cc
+rules_without_fault holder verdict.SerialReused e = cc
+
+-- No limit is.
+limits_without_fault : (full long : Bool) → cond full (Some table_full) (cond long (Some journal_full) None) ≡ Some journal_fault → ⊥
+limits_without_fault true long e = cc
+limits_without_fault false true e = cc
+limits_without_fault false false e = cc
+
+-- No act is refused by a fault of the journal.
+pub refused_without_fault : (m : TableModel) (name : List ℕ) (act : ActValue) → act_refusal m name act ≡ Some journal_fault → ⊥
+refused_without_fault m name act = by_stopped m.stopped
+  where
+    by_parts : (rules limits : Option RefusalValue) → (rules ≡ Some journal_fault → ⊥) → (limits ≡ Some journal_fault → ⊥)
+        → option_or rules limits ≡ Some journal_fault → ⊥
+    by_parts None limits p q e = q e
+    by_parts (Some refusal) limits p q e = p e
+
+    by_stopped : (stopped : Bool)
+        → cond stopped (Some journal_stopped) (option_or (verdict_refusal (acts_of name m.journal) act) (limit_refusal m.journal name))
+        ≡ Some journal_fault → ⊥
+    by_stopped true e = cc
+    by_stopped false e =
+        by_parts (verdict_refusal (acts_of name m.journal) act) (limit_refusal m.journal name)
+        (rules_without_fault _ _) (limits_without_fault _ _) e

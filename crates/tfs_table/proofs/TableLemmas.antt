@@ -1,0 +1,216 @@
+-- What tables keep: at the start, and after a change.
+use Rattle.std.proofs.Common.{◌≡◌, ℕ, List, [], ◌∷◌, ◌++◌, All, Bool}
+use Rattle.std.proofs.Common.{true, false, Option, Some, None, is_some, IfSome, refl, sym, ◌∙◌}
+use Rattle.std.proofs.Common.{ap, subst, append_assoc, append-nil}
+use Rattle.std.specs.List.{flat_map}
+use Rattle.std.specs.List.Sorted.{IsStrictlySortedBy}
+use Rattle.std.specs.Io.KnownBytes.{Appends}
+use Rattle.std.proofs.lemmas.List.Elements.{All-nil, All-append, All-cons}
+use Rattle.std.proofs.lemmas.List.Sums.{fold-append}
+use Rattle.std.proofs.lemmas.Slice.Eq.{bytes_eq-Decides}
+use Rattle.tfs_state.specs.Document.{Document}
+use Rattle.tfs_rules.specs.Act.{ActValue}
+use Rattle.tfs_rules.specs.History.{Standing, state_of, state_after}
+use Rattle.tfs_journal.specs.Journal.{Journal, EntryValue, IsEntry, BaseValue, IsBase, empty_base, opened, acts_of, with_entry}
+use Rattle.tfs_journal.specs.Format.{header_text, base_text, record_text, journal_text}
+use Rattle.tfs_journal.specs.Sink.{AppendsPart}
+use Rattle.tfs_journal.proofs.JournalLemmas.{acts_of_own}
+use Rattle.tfs_journal.proofs.BaseLemmas.{empty_base_is}
+use Rattle.tfs_table.specs.Lawful.{IsLawful}
+use Rattle.tfs_table.specs.Ready.{ReadyValue, IsReady}
+use Rattle.tfs_table.specs.Table.{IsTold, IsTable}
+use Rattle.tfs_calls.specs.Transition.{act_refusal, open_model}
+use Rattle.tfs_table.specs.Workspaces.{standing_at, AreWorkspacesOf, HasVersion}
+use Rattle.tfs_table.specs.declared.workspace.Workspace.{Workspace}
+use Rattle.tfs_table.proofs.LawfulLemmas.{taken, lawful_opened, lawful_more}
+
+-- The text of a journal with one more entry.
+text_more : (j : Journal) (e : EntryValue) → journal_text (with_entry j e) ≡ journal_text j ++ record_text e
+text_more j e =
+    let front = header_text 2 in
+    let base = base_text j.base in
+    let records = flat_map record_text j.entries in
+    ap (λ t. front ++ (base ++ t)) (flat_more j.entries)
+    ∙ ap (λ t. front ++ t) (sym (append_assoc base records (record_text e)))
+    ∙ sym (append_assoc front (base ++ records) (record_text e))
+  where
+    flat_more : (es : List EntryValue) → flat_map record_text (es ++ e ∷ []) ≡ flat_map record_text es ++ record_text e
+    flat_more [] = append-nil (record_text e)
+    flat_more (x ∷ es) = ap (λ t. record_text x ++ t) (flat_more es)
+        ∙ sym (append_assoc (record_text x) (flat_map record_text es) (record_text e))
+
+-- What a sink was told at the start.
+told_first : (old new : Option (List ℕ)) (base : BaseValue) → IfSome old (λ bytes. bytes ≡ [])
+    → Appends old new (journal_text (opened base))
+    → is_some old ≡ true → IsTold false (opened base) new
+told_first None new base none told there = cc
+told_first (Some bytes) None base none told there = told
+told_first (Some bytes) (Some more) base none told there = told ∙ ap (λ t. t ++ journal_text (opened base)) none
+
+-- With one more entry.
+pub told_more : (old new : Option (List ℕ)) (j : Journal) (e : EntryValue) → IsTold false j old → Appends old new (record_text e)
+    → IsTold false (with_entry j e) new
+told_more None new j e told more = absurd told
+told_more (Some bytes) None j e told more = more
+told_more (Some bytes) (Some all) j e told more = more ∙ ap (λ t. t ++ record_text e) told ∙ sym (text_more j e)
+
+-- After a fault.
+pub told_part : (old new : Option (List ℕ)) (j : Journal) (e : EntryValue) → IsTold false j old → AppendsPart old new (record_text e)
+    → IsTold true j new
+told_part None new j e told part = absurd told
+told_part (Some bytes) None j e told part = part.appended
+told_part (Some bytes) (Some all) j e told part = record {
+  entry = e;
+  front = part.front;
+  rest = part.rest;
+  parts = part.parts;
+  told = part.appended ∙ ap (λ t. t ++ part.front) told;
+}
+
+-- The journal of no entries has no workspaces where its base is the empty one.
+pub no_workspaces : AreWorkspacesOf (opened empty_base) []
+unfolding IsStrictlySortedBy
+no_workspaces = record { standings = λ name. refl; names = λ name. refl; count = refl; rise = tt }
+
+-- What a table keeps that has a base and no entries.
+pub opened_table : (base : BaseValue) (entries : List EntryValue) (ws : List Workspace) (first old new : Option (List ℕ)) (faults spare : ℕ)
+    → IsBase base → entries ≡ [] → AreWorkspacesOf (opened base) ws → All HasVersion ws → first ≡ old → faults ≡ 0
+    → IfSome old (λ bytes. bytes ≡ [])
+    → Appends old new (journal_text (opened base))
+    → IsTable (record {
+      journal = record { base = base; entries = entries };
+      stopped = false;
+      tells = is_some first;
+      told = new;
+      faults =
+          faults;
+      spare = spare;
+    })
+    × AreWorkspacesOf (record { base = base; entries = entries }) ws × All HasVersion ws
+opened_table base entries ws first old new faults spare based none are versions same well untold told =
+    let is_opened : opened base ≡ record { base = base; entries = entries } =
+    ap (λ (t : List EntryValue). let k : Journal = record { base = base; entries = t } in k) (sym none) in (
+      record {
+        based = based;
+        read = subst (All IsEntry) (sym none) (All-nil IsEntry);
+        lawful = subst IsLawful is_opened (lawful_opened base based);
+        sound = λ _. well;
+        told = λ there. subst (λ (k : Journal). IsTold false k new) is_opened (told_first old new base untold told (ap is_some (sym same)
+            ∙ there));
+      },
+      subst (λ (k : Journal). AreWorkspacesOf k ws) is_opened are,
+      versions,
+    )
+
+-- What a new table keeps.
+pub new_table : (base : BaseValue) (entries : List EntryValue) (ws : List Workspace) (first old new : Option (List ℕ)) (faults spare : ℕ)
+    → base ≡ empty_base → entries ≡ [] → ws ≡ [] → first ≡ old → faults ≡ 0 → IfSome old (λ bytes. bytes ≡ [])
+    → Appends old new (journal_text (opened base))
+    → IsTable (record {
+      journal = record { base = base; entries = entries };
+      stopped = false;
+      tells = is_some first;
+      told = new;
+      faults =
+          faults;
+      spare = spare;
+    })
+    × AreWorkspacesOf (record { base = base; entries = entries }) ws × All HasVersion ws
+new_table base entries ws first old new faults spare is_base none empty same well untold told =
+    let based : IsBase base = subst IsBase (sym is_base) empty_base_is in
+    let are : AreWorkspacesOf (opened base) ws =
+    subst (λ (b : BaseValue). AreWorkspacesOf (opened b) ws) (sym is_base) (subst (AreWorkspacesOf (opened empty_base)) (sym empty)
+    no_workspaces) in
+    opened_table base entries ws first old new faults spare based none are (subst (All HasVersion) (sym empty) (All-nil HasVersion)) same
+    well untold told
+
+-- What a change keeps that is ready.
+pub is_ready : (base given_base : BaseValue) (entries given_entries : List EntryValue) (e : EntryValue) (name : List ℕ) (act draft :
+    ActValue)
+    (ws : List Workspace)
+    (version : Option Document) (bytes : List ℕ) → base ≡ given_base → entries ≡ given_entries → e.name ≡ name → e.act ≡ act
+    → act ≡ draft → IsEntry e
+    → bytes ≡ record_text e → AreWorkspacesOf (record { base = given_base; entries = given_entries }) ws
+    → version ≡ state_after (standing_at name ws).state act
+    → act_refusal (open_model (record { base = given_base; entries = given_entries })) name draft ≡ None
+    → IsReady (record { journal = record { base = base; entries = entries }; entry = e }) name act version bytes
+is_ready base given_base entries given_entries e name act draft ws version bytes same_base same_entries is_name is_act is_draft read text
+    are is accepted =
+    let given : Journal = record { base = given_base; entries = given_entries } in
+    let same : given ≡ record { base = base; entries = entries } = rw (same_base, same_entries) refl in
+    let stands : state_after (standing_at name ws).state act ≡ state_after (state_of (acts_of name given)) act =
+    ap (λ (s : Standing). state_after s.state act) (are.standings name) in
+    let after : state_after (state_of (acts_of name given)) act ≡ state_of (acts_of name given ++ act ∷ []) =
+    sym (fold-append state_after None (acts_of name given) (act ∷ [])) in
+    let own : acts_of name given ++ act ∷ [] ≡ acts_of e.name (with_entry given e) =
+    ap (λ a. acts_of name given ++ a ∷ []) (sym is_act) ∙ sym (acts_of_own name given e ((bytes_eq-Decides e.name name).1 is_name))
+    ∙ ap (λ n. acts_of n (with_entry given e)) (sym is_name) in
+    record {
+      name = sym is_name;
+      act = sym is_act;
+      read = read;
+      text = text;
+      version = is ∙ stands ∙ after ∙ ap state_of own ∙ ap (λ (j : Journal). state_of (acts_of e.name (with_entry j e))) same;
+      accepted = ap (λ (k : Journal). act_refusal (open_model k) e.name e.act) (sym same)
+          ∙ ap (λ n. act_refusal (open_model given) n e.act) is_name
+          ∙ ap (act_refusal (open_model given) name) (is_act ∙ is_draft) ∙ accepted;
+    }
+
+-- What a table keeps after a change that was ready.
+pub finished : (base : BaseValue) (entries more : List EntryValue) (ws new : List Workspace) (stopped tells : Bool) (told after : Option
+    (List ℕ))
+    (faults now spare left : ℕ) (r : ReadyValue) (name : List ℕ) (act : ActValue) (version : Option Document) (bytes : List ℕ)
+    → IsTable (record {
+      journal = record { base = base; entries = entries };
+      stopped = stopped;
+      tells = tells;
+      told = told;
+      faults =
+          faults;
+      spare = spare;
+    })
+    → AreWorkspacesOf (record { base = base; entries = entries }) ws → All HasVersion ws → IsReady r name act version bytes
+    → r.journal ≡ record { base = base; entries = entries } → stopped ≡ false → Appends told after bytes → now ≡ 0
+    → more ≡ entries ++ r.entry ∷ []
+    → ((j : Journal) → AreWorkspacesOf j ws → AreWorkspacesOf (with_entry j (record { name = name; act = act })) new)
+    → ((j : Journal) → AreWorkspacesOf j ws → All HasVersion ws
+    → version ≡ state_of (acts_of name (with_entry j (record { name = name; act = act })))
+    → All HasVersion new)
+    → IsTable (record {
+      journal = record { base = base; entries = more };
+      stopped = stopped;
+      tells = tells;
+      told = after;
+      faults = now;
+      spare = left;
+    })
+    × AreWorkspacesOf (record { base = base; entries = more }) new × All HasVersion new
+finished base entries more ws new stopped tells told after faults now spare left r name act version bytes is are versions ready same
+    running sent well longer commits keeps =
+    let j : Journal = record { base = base; entries = entries } in
+    let e = r.entry in
+    let is_more : with_entry j e ≡ record { base = base; entries = more } =
+    ap (λ (t : List EntryValue). let k : Journal = record { base = base; entries = t } in k) (sym longer) in
+    let own : record { name = name; act = act } ≡ e = rw (ready.name, ready.act) refl in
+    let accepted : act_refusal (open_model j) e.name e.act ≡ None =
+    ap (λ (k : Journal). act_refusal (open_model k) e.name e.act) (sym same) ∙ ready.accepted in
+    let of_state : version ≡ state_of (acts_of name (with_entry j (record { name = name; act = act }))) =
+    ready.version ∙ ap (λ (k : Journal). state_of (acts_of e.name (with_entry k e))) same
+    ∙ ap (λ n. state_of (acts_of n (with_entry j e))) (sym ready.name)
+    ∙ ap (λ (x : EntryValue). state_of (acts_of name (with_entry j x))) (sym own) in (
+      record {
+        based = is.based;
+        read = subst (All IsEntry) (sym longer)
+            (All-append IsEntry entries (e ∷ []) is.read (All-cons IsEntry e [] ready.read (All-nil IsEntry)));
+        lawful = subst IsLawful is_more (lawful_more j e is.lawful (taken j e.name e.act accepted));
+        sound = λ _. well;
+        told = λ there.
+            let before = subst (λ s. IsTold s j told) running (is.told there) in
+            let more_told = told_more told after j e before (subst (Appends told after) ready.text sent) in
+            subst (λ s. IsTold s (record { base = base; entries = more }) after) (sym running) (subst (λ
+            (k : Journal). IsTold false k after) is_more more_told);
+      },
+      subst (λ (k : Journal). AreWorkspacesOf k new) is_more (subst (λ (x : EntryValue). AreWorkspacesOf (with_entry j x) new) own
+          (commits j are)),
+      keeps j are versions of_state,
+    )

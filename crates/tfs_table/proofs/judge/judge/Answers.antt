@@ -1,0 +1,17 @@
+-- What neither the rules nor the limits refuse is accepted.
+use Rattle.std.proofs.Common.{◌∙◌, inr}
+use Rattle.std.proofs.lemmas.Result.{err_from_is_err_and}
+use Rattle.tfs_table.proofs.JudgeLemmas.{judged_accepted, judged_by_limits, new_in_gap}
+use Rattle.tfs_table.proofs.judge.judge.Goals as goal
+
+pub returns-in_err-judge_by_limits-clause-refused : goal.returns-in_err-judge_by_limits-clause-refused
+returns-in_err-judge_by_limits-clause-refused c =
+    let p = err_from_is_err_and c.from_residual-in_err-judge_by_limits.result c.from_residual-in_err-judge_by_limits.ensures.1 in
+    rw (p.1, p.2) (inr (λ j are long. judged_by_limits j _ _ _ _ _ _ are long
+    (c.is_err.ensures.value ∙ new_in_gap _ _ _ c.place_of-place.ensures)
+    c.in_ok-judge_by_rules.ensures.accepted c.in_err-judge_by_limits.ensures.refused))
+
+pub returns-clause-accepted : goal.returns-clause-accepted
+returns-clause-accepted c = λ j are long.
+    judged_accepted j _ _ _ _ _ are long (c.is_err.ensures.value ∙ new_in_gap _ _ _ c.place_of-place.ensures)
+    c.in_ok-judge_by_rules.ensures.accepted c.in_ok-judge_by_limits.ensures.accepted

@@ -1,0 +1,19 @@
+-- The workspace at the place of the name has what the name has.
+use Rattle.std.proofs.Common.{subst}
+use Rattle.tfs_rules.specs.Act.{act_value}
+use Rattle.tfs_table.specs.Workspaces.{IsFound}
+use Rattle.tfs_table.proofs.WorkspaceLemmas.{standing_at_place}
+use Rattle.tfs_table.proofs.JudgeLemmas.{heeded}
+use Rattle.tfs_table.proofs.judge.judge_by_rules.Goals as goal
+
+pub returns-in-Ok-clause-accepted : goal.returns-in-Ok-clause-accepted
+returns-in-Ok-clause-accepted c =
+    let place = subst (IsFound c.args.name.now c.args.workspaces.now) c.in-Ok.is c.requires in
+    rw (heeded _ _ (act_value c.args.act.now) _ _ (standing_at_place _ _ _ c.index-workspaces-place.result place) c.holder.ensures.value
+    c.verdict.ensures.over_standing) c.heed.ensures.accepted
+
+pub returns-in-Ok-clause-refused : goal.returns-in-Ok-clause-refused
+returns-in-Ok-clause-refused c =
+    let place = subst (IsFound c.args.name.now c.args.workspaces.now) c.in-Ok.is c.requires in
+    rw (heeded _ _ (act_value c.args.act.now) _ _ (standing_at_place _ _ _ c.index-workspaces-place.result place) c.holder.ensures.value
+    c.verdict.ensures.over_standing) c.heed.ensures.refused

@@ -1,0 +1,66 @@
+-- The workspaces of a table, and the journal that they stand for.
+use Rattle.std.specs.Prelude.{◌≡◌, ℕ, List, ◌∷◌, ◌++◌, [], length, map, Bool, true, None, is_some, option_map}
+use Rattle.std.specs.Arc.{arc_value}
+use Rattle.std.specs.Cmp.Lexicographic.{slice_cmp}
+use Rattle.std.specs.List.{AllByRecursion, find, list_any}
+use Rattle.std.specs.List.Sorted.{IsStrictlySortedBy}
+use Rattle.std.specs.Option.{option_map_or}
+use Rattle.std.specs.Ordering.{nat_cmp}
+use Rattle.std.specs.declared.cmp.Ordering.TheVariants.{Less}
+use Rattle.std.specs.Result.{MatchResult}
+use Rattle.std.specs.Prelude.{Result}
+use Rattle.std.specs.Str.{bytes_eq}
+use Rattle.tfs_rules.specs.History.{Standing, standing_of}
+use Rattle.tfs_journal.specs.Journal.{Journal, RowValue, acts_of, names_of}
+use Rattle.tfs_table.specs.declared.workspace.Workspace.{Workspace}
+
+-- The workspace is that of a name.
+abbrev pub is_of : List ℕ → Workspace → Bool
+is_of name w = bytes_eq w.name name
+
+-- What a name has: what its workspace has or, without a workspace, what no acts leave.
+abbrev pub standing_at : List ℕ → List Workspace → Standing
+standing_at name ws = option_map_or (λ (w : Workspace). w.standing) (find (is_of name) ws) (standing_of [])
+
+-- The row that a base has of a workspace.
+abbrev pub row_of : Workspace → RowValue
+row_of w = record { name = w.name; holder = w.standing.holder; state = w.standing.state }
+
+-- The names of workspaces rise by their bytes.
+abbrev pub Rise : List Workspace → Type 0
+Rise ws = IsStrictlySortedBy (slice_cmp nat_cmp) (map (λ (w : Workspace). w.name) ws)
+
+-- The workspaces are those of the journal: they have its names, rising, and what they have is what it gives.
+pub record AreWorkspacesOf (j : Journal) (ws : List Workspace) : Type 0 where
+  pub standings : (name : List ℕ) → standing_at name ws ≡ standing_of (acts_of name j)
+  pub names : (name : List ℕ) → is_some (find (is_of name) ws) ≡ list_any (bytes_eq name) (names_of j)
+  pub count : length ws ≡ length (names_of j)
+  pub rise : Rise ws
+
+-- A workspace has a version just where it has a state, and then the version of that state.
+abbrev pub HasVersion : Workspace → Type 0
+HasVersion w = option_map arc_value w.version ≡ w.standing.state
+
+-- The workspace of a name stands at this place.
+pub record IsPlaceOf (name : List ℕ) (ws : List Workspace) (place : ℕ) : Type 0 where
+  pub before : List Workspace
+  pub own : Workspace
+  pub after : List Workspace
+  pub parts : ws ≡ before ++ own ∷ after
+  pub at : length before ≡ place
+  pub named : is_of name own ≡ true
+  pub first : find (is_of name) before ≡ None
+
+-- A name has no workspace, and names rise with one at this place.
+pub record IsGapFor (name : List ℕ) (ws : List Workspace) (place : ℕ) : Type 0 where
+  pub before : List Workspace
+  pub after : List Workspace
+  pub parts : ws ≡ before ++ after
+  pub at : length before ≡ place
+  pub absent : find (is_of name) ws ≡ None
+  pub below : AllByRecursion (λ other. slice_cmp nat_cmp other name ≡ Less) (map (λ (w : Workspace). w.name) before)
+  pub above : AllByRecursion (λ other. slice_cmp nat_cmp name other ≡ Less) (map (λ (w : Workspace). w.name) after)
+
+-- Where a name is looked for: the place of its workspace, or the place where one would stand.
+abbrev pub IsFound : List ℕ → List Workspace → Result ℕ ℕ → Type 0
+IsFound name ws place = MatchResult place (IsPlaceOf name ws) (IsGapFor name ws)

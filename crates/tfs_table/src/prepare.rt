@@ -1,0 +1,109 @@
+//! What a change needs before it is made.
+
+ghost use Rattle.std.specs.Prelude.{◌≡◌, ◌<◌, All, None, IfOk, OnOk, option_map, vec_len, vec_capacity};
+ghost use Rattle.std.specs.Arc.{arc_value};
+ghost use Rattle.tfs_rules.specs.Act.{act_value};
+ghost use Rattle.tfs_rules.specs.History.{state_after};
+ghost use Rattle.tfs_calls.specs.Pushed.{pushed_by};
+ghost use Rattle.tfs_calls.specs.Transition.{act_refusal, open_model};
+ghost use Rattle.tfs_table.specs.Workspaces.{standing_at, IsFound, AreWorkspacesOf, HasVersion};
+
+use crate::ready::Ready;
+use crate::workspace::Workspace;
+use std::alloc::{AllocError, Global};
+use std::snapshot::Snapshot;
+use std::sync::Arc;
+use tfs_calls::Draft;
+use tfs_index::Version;
+use tfs_journal::{Base, Entry, encode};
+use tfs_rules::{Act, Name};
+
+/// Makes room for one more entry and one more workspace.
+pub(crate) fn make_room(
+    entries: &mut Vec<Entry>,
+    workspaces: &mut Vec<Workspace>,
+) -> Result<(), AllocError>
+    ensures entries { entries.new.items ≡ entries.old.items }
+    ensures workspaces { workspaces.new.items ≡ workspaces.old.items }
+    ensures room { OnOk result (vec_len entries.new < vec_capacity entries.new) }
+    ensures place { OnOk result (vec_len workspaces.new < vec_capacity workspaces.new) }
+{
+    entries.reserve(1)?;
+    workspaces.reserve(1)?;
+    Ok(())
+}
+
+/// The change, with its record and all that is to be entered, of an act that the journal accepts.
+pub(crate) fn prepare(
+    alloc: Global,
+    base: &Base,
+    entries: &Vec<Entry>,
+    workspaces: &[Workspace],
+    place: Result<usize, usize>,
+    name: Name,
+    draft: Draft,
+) -> Result<Ready, AllocError>
+    requires found { IsFound name workspaces.now place }
+    requires workspaces { AreWorkspacesOf (record { base = base.now; entries = entries.now.items }) workspaces.now }
+    requires versions { All HasVersion workspaces.now }
+    requires accepted { act_refusal (open_model (record { base = base.now; entries = entries.now.items })) name draft ≡ None }
+    ensures value { IfOk result (λ ready. ready ≡ record {
+      journal = record { base = base.now; entries = entries.now.items };
+      entry = record { name = name; act = draft };
+    }) }
+{
+    let (act, pushed) = draft.into_parts();
+    let version = version_after(workspaces, &name, place, &act, pushed)?;
+    let entry = Entry::new(name.copy()?, act.copy()?);
+    let text = encode(alloc, &entry)?;
+    Ok(Ready {
+        entry,
+        name,
+        act,
+        version,
+        text,
+        base: Snapshot::of(base),
+        entries: Snapshot::of(entries),
+    })
+}
+
+/// The version that a name has after an act, where it has a state then.
+fn version_after(
+    workspaces: &[Workspace],
+    name: &Name,
+    place: Result<usize, usize>,
+    act: &Act,
+    pushed: Option<Arc<Version>>,
+) -> Result<Option<Arc<Version>>, AllocError>
+    requires found { IsFound name.now workspaces.now place }
+    requires versions { All HasVersion workspaces.now }
+    requires pushed { option_map arc_value pushed ≡ pushed_by (act_value act.now) }
+    ensures value { IfOk result (λ version. option_map arc_value version
+        ≡ state_after (standing_at name.now workspaces.now).state (act_value act.now)) }
+{
+    match act {
+        Act::Push(..) => Ok(pushed),
+        Act::Delete(_) => Ok(None),
+        Act::Lock(_) | Act::Unlock(_) => version_at(workspaces, name, place),
+    }
+}
+
+/// The version that a name has.
+fn version_at(
+    workspaces: &[Workspace],
+    name: &Name,
+    place: Result<usize, usize>,
+) -> Result<Option<Arc<Version>>, AllocError>
+    requires found { IsFound name.now workspaces.now place }
+    requires versions { All HasVersion workspaces.now }
+    ensures value { IfOk result (λ version. option_map arc_value version ≡ (standing_at name.now workspaces.now).state) }
+{
+    let _ = name;
+    let Ok(place) = place else {
+        return Ok(None);
+    };
+    match &workspaces[place].version {
+        Some(version) => Ok(Some(version.clone()?)),
+        None => Ok(None),
+    }
+}

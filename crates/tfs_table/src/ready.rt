@@ -1,0 +1,59 @@
+//! Changes that a table has accepted and that are yet to be made.
+
+ghost use Rattle.std.specs.Prelude.{◌≡◌, None, option_map};
+ghost use Rattle.std.specs.Arc.{arc_value};
+ghost use Rattle.tfs_rules.specs.History.{state_of};
+ghost use Rattle.tfs_journal.specs.Journal.{acts_of, with_entry};
+ghost use Rattle.tfs_calls.specs.Transition.{act_refusal, open_model};
+
+use std::marker::Model;
+use std::snapshot::Snapshot;
+use std::sync::Arc;
+use tfs_index::Version;
+use tfs_journal::{Base, Entry};
+use tfs_rules::{Act, Name};
+
+/// A change that a table has accepted, with all the memory that it takes. Contracts see the journal that the table had, and the
+/// entry that is to come.
+#[derive(Drop)]
+pub struct Ready {
+    pub(crate) entry: Entry,
+    pub(crate) name: Name,
+    pub(crate) act: Act,
+    pub(crate) version: Option<Arc<Version>>,
+    pub(crate) text: Vec<u8>,
+    pub(crate) base: Snapshot<Base>,
+    pub(crate) entries: Snapshot<Vec<Entry>>,
+}
+
+impl Model for Ready {
+    ghost use Rattle.std.specs.Prelude.{option_map};
+    ghost use Rattle.std.specs.Arc.{arc_value};
+    ghost use Rattle.tfs_rules.specs.Act.{act_value};
+    ghost use Rattle.tfs_table.specs.Ready.{ReadyValue, IsReady};
+
+    ghost Value = { ReadyValue };
+
+    ghost view = { λ r. record { journal = record { base = r.base.value; entries = r.entries.value.items }; entry = r.entry } };
+
+    ghost invariant = { λ r. IsReady (record { journal = record { base = r.base.value; entries = r.entries.value.items }; entry = r.entry })
+        r.name (act_value r.act) (option_map arc_value r.version) r.text.items };
+}
+
+impl Ready {
+    /// The name that is changed.
+    pub fn name(&self) -> &Name
+        ensures value { result.now ≡ self.now.entry.name }
+    {
+        self.entry.name()
+    }
+
+    /// The version that the name has afterwards, where it has a state.
+    pub fn version(&self) -> Option<&Arc<Version>>
+        ensures value { option_map (λ version. arc_value version.now) result
+            ≡ state_of (acts_of self.now.entry.name (with_entry self.now.journal self.now.entry)) }
+        ensures accepted { act_refusal (open_model self.now.journal) self.now.entry.name self.now.entry.act ≡ None }
+    {
+        self.version.as_ref()
+    }
+}

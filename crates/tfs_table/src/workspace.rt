@@ -1,0 +1,13 @@
+//! What a table keeps of a name.
+
+use std::sync::Arc;
+use tfs_index::Version;
+use tfs_rules::{Name, Record};
+
+/// A name, what its acts leave, and the version of its state.
+#[derive(Drop)]
+pub(crate) struct Workspace {
+    pub name: Name,
+    pub standing: Record,
+    pub version: Option<Arc<Version>>,
+}
