@@ -1,5 +1,5 @@
 -- What a judgement over workspaces says of the journal.
-use Rattle.std.proofs.Common.{◌≡◌, ℕ, List, length, Bool, not, Option, Some, None, is_some, Result, Ok, Err, refl, sym, ◌∙◌, ap}
+use Rattle.std.proofs.Common.{◌≡◌, ◌≢◌, ℕ, List, length, Bool, not, Option, Some, None, is_some, Result, Ok, Err, refl, sym, ◌∙◌, ap}
 use Rattle.std.proofs.Common.{◌<◌, ◌∷◌, All, option_map, get_or, cond, true, false, arith, length-append}
 use Rattle.std.specs.Arc.{arc_value}
 use Rattle.std.specs.Result.{is_err}
@@ -8,6 +8,7 @@ use Rattle.tfs_lock.specs.LockInfo.{LockInformation}
 use Rattle.tfs_rules.specs.declared.verdict.Verdict.{Verdict}
 use Rattle.tfs_rules.specs.declared.verdict.Verdict.TheVariants as verdict
 use Rattle.tfs_table.proofs.WorkspaceLemmas.{find_behind, standing_at_place}
+use Rattle.tfs_table.proofs.LawfulLemmas.{neither}
 use Rattle.std.specs.List.{find, list_any}
 use Rattle.std.specs.Option.{option_or}
 use Rattle.std.specs.Str.{bytes_eq}
@@ -60,6 +61,16 @@ pub judged_by_limits : (j : Journal) (ws : List Workspace) (name : List ℕ) (ac
 judged_by_limits j ws name act is_new count refusal are long new rules limits =
     ap (λ o. option_or o (limit_refusal j name)) (sym (rules_over j ws name act are) ∙ rules)
     ∙ sym (limits_over j ws name is_new count are long new) ∙ limits
+
+-- An act that the rules refuse has a refusal.
+pub refused_by_rules : (j : Journal) (ws : List Workspace) (name : List ℕ) (act : ActValue) → AreWorkspacesOf j ws
+    → refusal_of (standing_at name ws).holder (verdict_over (standing_at name ws) act) ≢ None → act_refusal (open_model j) name act ≢ None
+refused_by_rules j ws name act are refused = λ e.
+    refused (rules_over j ws name act are ∙ (neither (verdict_refusal (acts_of name j) act) (limit_refusal j name) e).0)
+
+-- So has one that has any.
+pub refused_by_any : (refusal : RefusalValue) (found : Option RefusalValue) → found ≡ Some refusal → found ≢ None
+refused_by_any refusal found is = λ none. let both : Some refusal ≡ None = sym is ∙ none in cc
 
 -- A name is new where it has a gap.
 pub new_in_gap : (name : List ℕ) (ws : List Workspace) (place : Result ℕ ℕ) → IsFound name ws place

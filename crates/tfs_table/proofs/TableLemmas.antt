@@ -40,12 +40,11 @@ text_more j e =
         ∙ sym (append_assoc (record_text x) (flat_map record_text es) (record_text e))
 
 -- What a sink was told at the start.
-told_first : (old new : Option (List ℕ)) (base : BaseValue) → IfSome old (λ bytes. bytes ≡ [])
-    → Appends old new (journal_text (opened base))
-    → is_some old ≡ true → IsTold false (opened base) new
-told_first None new base none told there = cc
-told_first (Some bytes) None base none told there = told
-told_first (Some bytes) (Some more) base none told there = told ∙ ap (λ t. t ++ journal_text (opened base)) none
+told_first : (old new : Option (List ℕ)) (j : Journal) → IfSome old (λ bytes. bytes ≡ []) → Appends old new (journal_text j)
+    → is_some old ≡ true → IsTold false j new
+told_first None new j none told there = cc
+told_first (Some bytes) None j none told there = told
+told_first (Some bytes) (Some more) j none told there = told ∙ ap (λ t. t ++ journal_text j) none
 
 -- With one more entry.
 pub told_more : (old new : Option (List ℕ)) (j : Journal) (e : EntryValue) → IsTold false j old → Appends old new (record_text e)
@@ -95,8 +94,8 @@ opened_table base entries ws first old new faults spare based none are versions 
         read = subst (All IsEntry) (sym none) (All-nil IsEntry);
         lawful = subst IsLawful is_opened (lawful_opened base based);
         sound = λ _. well;
-        told = λ there. subst (λ (k : Journal). IsTold false k new) is_opened (told_first old new base untold told (ap is_some (sym same)
-            ∙ there));
+        told = λ there. subst (λ (k : Journal). IsTold false k new) is_opened (told_first old new (opened base) untold told (ap is_some
+            (sym same) ∙ there));
       },
       subst (λ (k : Journal). AreWorkspacesOf k ws) is_opened are,
       versions,

@@ -3,3 +3,4 @@ pub mod Workspaces
 pub mod Table
 pub mod Ready
 pub mod Rebase
+pub mod Open

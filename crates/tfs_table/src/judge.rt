@@ -1,9 +1,10 @@
 //! The judgement on an act.
 
-ghost use Rattle.std.specs.Prelude.{◌≡◌, ◌⊎◌, None, Some, IfOk, IfErr, OnOk, length, option_map};
+ghost use Rattle.std.specs.Prelude.{◌≡◌, ◌≢◌, ◌⊎◌, None, Some, IfOk, IfErr, OnOk, OnErr, length, option_map};
 ghost use Rattle.std.specs.Arc.{arc_value};
 ghost use Rattle.tfs_rules.specs.Act.{act_value};
 ghost use Rattle.tfs_rules.specs.Verdict.{verdict_over};
+ghost use Rattle.tfs_rules.specs.declared.verdict.Verdict.TheVariants.{Accept};
 ghost use Rattle.tfs_journal.specs.Journal.{Journal};
 ghost use Rattle.tfs_calls.specs.Refusal.{refusal_value, out_of_memory};
 ghost use Rattle.tfs_calls.specs.Transition.{act_refusal, open_model, refusal_of, full_refusal};
@@ -17,7 +18,8 @@ use tfs_calls::Refusal;
 use tfs_lock::LockInfo;
 use tfs_rules::{Act, Name, Record, Verdict};
 
-/// Judges an act over workspaces and a number of entries: the place of its name, or the first refusal by the rules and the limits.
+/// Judges an act over workspaces and a number of entries: the place of its name, or the first refusal by the rules and the limits. Want of
+/// memory comes in place of another refusal alone.
 pub(crate) fn judge(
     count: usize,
     workspaces: &[Workspace],
@@ -28,9 +30,12 @@ pub(crate) fn judge(
     ensures found { IfOk result (IsFound name.now workspaces.now) }
     ensures accepted { OnOk result ((j : Journal) → AreWorkspacesOf j workspaces.now → length j.entries ≡ count
         → act_refusal (open_model j) name.now (act_value act.now) ≡ None) }
+    ensures accept { OnOk result (verdict_over (standing_at name.now workspaces.now) (act_value act.now) ≡ Accept) }
     ensures refused { IfErr result (λ refusal. (refusal_value refusal ≡ out_of_memory)
         ⊎ ((j : Journal) → AreWorkspacesOf j workspaces.now → length j.entries ≡ count
         → act_refusal (open_model j) name.now (act_value act.now) ≡ Some (refusal_value refusal))) }
+    ensures refusing { OnErr result ((j : Journal) → AreWorkspacesOf j workspaces.now → length j.entries ≡ count
+        → act_refusal (open_model j) name.now (act_value act.now) ≢ None) }
 {
     let place = place_of(workspaces, name);
     judge_by_rules(workspaces, name, place, act)?;
@@ -51,6 +56,8 @@ fn judge_by_rules(
     ensures refused { IfErr result (λ refusal. (refusal_value refusal ≡ out_of_memory)
         ⊎ (refusal_of (standing_at name.now workspaces.now).holder
         (verdict_over (standing_at name.now workspaces.now) (act_value act.now)) ≡ Some (refusal_value refusal))) }
+    ensures refusing { OnErr result (refusal_of (standing_at name.now workspaces.now).holder
+        (verdict_over (standing_at name.now workspaces.now) (act_value act.now)) ≢ None) }
 {
     let _ = name;
     match place {
@@ -67,6 +74,7 @@ fn heed(verdict: Verdict, holder: Option<&Arc<LockInfo>>) -> Result<(), Refusal>
     ensures accepted { OnOk result (refusal_of (option_map (λ info. arc_value info.now) holder.entry) verdict ≡ None) }
     ensures refused { IfErr result (λ refusal. (refusal_value refusal ≡ out_of_memory)
         ⊎ (refusal_of (option_map (λ info. arc_value info.now) holder.entry) verdict ≡ Some (refusal_value refusal))) }
+    ensures refusing { OnErr result (refusal_of (option_map (λ info. arc_value info.now) holder.entry) verdict ≢ None) }
 {
     match verdict {
         Verdict::Accept => Ok(()),

@@ -4,17 +4,22 @@
 mod fault;
 mod judge;
 mod laws;
+mod open;
 mod prepare;
 mod ready;
 mod rebase;
+mod replay;
+mod standing;
 mod start;
 mod table;
+mod versions;
 mod workspace;
 mod workspaces;
 
 pub use fault::OpenFault;
 pub use laws::{journals_are_lawful_entry_by_entry, lawful_journals_keep_the_history_laws};
 pub use ready::Ready;
+pub use replay::first_unlawful;
 pub use table::Table;
 
 /// The most names that a table may have.

@@ -17,3 +17,9 @@ returns-in-Ok-clause-refused c =
     let place = subst (IsFound c.args.name.now c.args.workspaces.now) c.in-Ok.is c.requires in
     rw (heeded _ _ (act_value c.args.act.now) _ _ (standing_at_place _ _ _ c.index-workspaces-place.result place) c.holder.ensures.value
     c.verdict.ensures.over_standing) c.heed.ensures.refused
+
+pub returns-in-Ok-clause-refusing : goal.returns-in-Ok-clause-refusing
+returns-in-Ok-clause-refusing c =
+    let place = subst (IsFound c.args.name.now c.args.workspaces.now) c.in-Ok.is c.requires in
+    rw (heeded _ _ (act_value c.args.act.now) _ _ (standing_at_place _ _ _ c.index-workspaces-place.result place) c.holder.ensures.value
+    c.verdict.ensures.over_standing) c.heed.ensures.refusing

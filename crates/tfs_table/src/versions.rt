@@ -1,0 +1,50 @@
+//! The versions of the states of workspaces.
+
+ghost use Rattle.std.specs.Prelude.{◌≡◌, All, map, IfOk, OnOk, option_map};
+ghost use Rattle.std.specs.Arc.{arc_value};
+ghost use Rattle.tfs_table.specs.Workspaces.{HasVersion, row_of};
+
+use crate::workspace::Workspace;
+use std::alloc::{AllocError, Global};
+use std::sync::Arc;
+use tfs_index::Version;
+use tfs_rules::Record;
+
+/// Gives each workspace the version of its state.
+pub(crate) fn with_versions(
+    alloc: Global,
+    mut workspaces: Vec<Workspace>,
+) -> Result<Vec<Workspace>, AllocError>
+    ensures rows { IfOk result (λ all. map row_of all.items ≡ map row_of workspaces.items) }
+    ensures versions { IfOk result (λ all. All HasVersion all.items) }
+{
+    for i in 0..workspaces.len() {
+        give_version(alloc, &mut workspaces[i])?;
+    }
+    Ok(workspaces)
+}
+
+/// Gives a workspace the version of its state.
+fn give_version(alloc: Global, workspace: &mut Workspace) -> Result<(), AllocError>
+    ensures row { OnOk result (row_of workspace.new ≡ row_of workspace.old) }
+    ensures version { OnOk result (HasVersion workspace.new) }
+{
+    workspace.version = version_of(alloc, &workspace.standing)?;
+    Ok(())
+}
+
+/// The version of the state of a record, where it has one.
+fn version_of(alloc: Global, standing: &Record) -> Result<Option<Arc<Version>>, AllocError>
+    ensures { IfOk result (λ version. option_map arc_value version ≡ standing.now.state) }
+{
+    match standing.state() {
+        Some(doc) => {
+            let version = Version::build(alloc, doc.clone()?)?;
+            match Arc::new(alloc, version) {
+                Ok(version) => Ok(Some(version)),
+                Err(_) => Err(AllocError),
+            }
+        }
+        None => Ok(None),
+    }
+}
