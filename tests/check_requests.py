@@ -111,26 +111,6 @@ def check_heads_are_refused_in_order():
         expect(run(data + GET), (refusal_text(name, close=True), REFUSED, b""), data)
 
 
-def check_a_transfer_coding_is_refused_and_ends_the_conversation():
-    lock = b'{"ID":"A"}'
-    locked = b"LOCK /state/a HTTP/1.1\r\nHost: h\r\nContent-Length: %d\r\n\r\n%s" % (len(lock), lock)
-    chunked = b"%s /state/a HTTP/1.1\r\nHost: h\r\n%sTransfer-Encoding: %s\r\n\r\n%s"
-    hidden = b"29\r\n" + S1 + b"\r\n0\r\n\r\n"
-    table = [
-        (chunked % (b"UNLOCK", b"", b"chunked", b"0\r\n\r\n"), "TransferCoding"),
-        (chunked % (b"POST", b"", b"chunked", hidden), "TransferCoding"),
-        (chunked % (b"POST", b"", b"gzip, chunked", hidden), "TransferCoding"),
-        (chunked % (b"POST", b"", b"", b""), "TransferCoding"),
-        (chunked % (b"POST", b"Content-Length: 41\r\n", b"chunked", S1), "BadLength"),
-        (chunked % (b"UNLOCK", b"Content-Length: 0\r\n", b"identity", b""), "BadLength"),
-        (chunked % (b"POST", b"Content-Length: 16777217\r\n", b"chunked", b""), "BadLength"),
-    ]
-    for data, name in table:
-        expect(run(locked + data + request(b"POST", b"", S1)), (DONE + refusal_text(name, close=True), REFUSED, b""), data[:80])
-    expect(refusal_text("TransferCoding", close=True), b"HTTP/1.1 501 Not Implemented\r\nConnection: close\r\n"
-           b'Content-Type: application/json\r\nContent-Length: 26\r\n\r\n{"error":"TransferCoding"}')
-
-
 def check_the_reply_to_head_has_no_body():
     head = b"HEAD /state/a HTTP/1.1\r\nHost: h\r\n\r\n"
     bare = (b"HTTP/1.1 405 Method Not Allowed\r\nAllow: DELETE, GET, LOCK, POST, UNLOCK\r\n"

@@ -1,7 +1,7 @@
 """A plain model of a conversation over a new table: what `tfstated stdio` writes for a list of bytes, and its status.
 
 It is written from docs/DEFINITIONS.md and docs/FORMATS.md, as far as these are built: GET, POST, DELETE, LOCK and UNLOCK
-of a state; chunks aren't read. It always looks at all of the bytes and never at how they were cut. It never runs out of memory.
+of a state. It always looks at all of the bytes and never at how they were cut. It never runs out of memory.
 """
 import base64
 import hashlib
@@ -11,6 +11,7 @@ from urllib.parse import unquote_to_bytes
 
 MAX_HEAD, MAX_LINE_FEEDS, MAX_FIELDS = 16384, 66, 64
 MAX_BODY = 16777216
+MAX_CHUNK_LINE, MAX_CHUNKS, MAX_TRAILER = 1024, 65536, 16384
 MAX_NAMES, MAX_ENTRIES, MAX_NESTING = 1024, 65536, 127
 MAX_LOCK_INFO, MAX_IDENTIFIER = 65536, 256
 MAX_INSTANCES = 4096
@@ -21,16 +22,17 @@ PHRASES = {
     507: "Insufficient Storage",
 }
 STATUSES = {
-    "HeadTooLarge": 431, "BadHead": 400, "NoHost": 400, "BadLength": 400, "TransferCoding": 501, "BodyTooLarge": 413,
-    "NoRoute": 404, "MethodNotAllowed": 405, "BadName": 400, "BadDigest": 400, "BadLockInfo": 400, "BadState": 400,
-    "TooManyInstances": 413, "LockLost": 409, "LineageDiffers": 409, "SerialTooLow": 409, "SerialReused": 409, "NoState": 404,
-    "TableFull": 507, "JournalFull": 507, "OutOfMemory": 503,
+    "HeadTooLarge": 431, "BadHead": 400, "NoHost": 400, "BadLength": 400, "TransferCoding": 501, "BodyTooLarge": 413, "NoRoute": 404,
+    "MethodNotAllowed": 405, "BadName": 400, "BadDigest": 400, "BadChunk": 400, "BadLockInfo": 400, "BadState": 400, "TooManyInstances": 413, "LockLost": 409,
+    "LineageDiffers": 409, "SerialTooLow": 409, "SerialReused": 409, "NoState": 404, "TableFull": 507, "JournalFull": 507,
+    "OutOfMemory": 503,
 }
 METHODS = ["DELETE", "GET", "LOCK", "POST", "UNLOCK"]
 CLEAN, ASKED, CUT, REFUSED = 0, 0, 3, 4
 
 TOKEN = rb"[!#$%&'*+\-.^_`|~0-9A-Za-z]+"
 REQUEST_LINE = re.compile(rb"(" + TOKEN + rb") ([^\x00-\x20\x7f]+) HTTP/1\.([01])\r?\n")
+CHUNK_LINE = re.compile(rb"([0-9A-Fa-f]{1,16})[ \t]*(?:;[^\r\n]*)?\r\n")
 FIELD_LINE = re.compile(rb"(" + TOKEN + rb"):[ \t]*([^\x00-\x08\x0a-\x1f\x7f]*)\r?\n")
 NAME = re.compile(r"[A-Za-z0-9_.-]{1,64}")
 PIECES = re.compile(r'(?:[^\[\]]|\[[0-9]+\]|\["(?:[^"\\]|\\.)*"\])*', re.DOTALL)
@@ -127,17 +129,62 @@ def require_host(request):
         raise Refused("NoHost")
 
 
-def length_of(request):
-    """The length of the body."""
-    values, codings = request.values(b"content-length"), request.values(b"transfer-encoding")
-    if len(values) > 1 or values and codings or any(not re.fullmatch(rb"[0-9]+", value) for value in values):
+def is_chunked(request):
+    """Whether the body comes in chunks; refuses what says too much, or what isn't known."""
+    lengths, codings = request.values(b"content-length"), request.values(b"transfer-encoding")
+    if len(lengths) > 1 or lengths and codings or any(not re.fullmatch(rb"[0-9]+", value) for value in lengths):
         raise Refused("BadLength")
-    if codings:
+    if codings and (request.version == 0 or len(codings) > 1 or codings[0].lower() != b"chunked"):
         raise Refused("TransferCoding")
+    return bool(codings)
+
+
+def length_of(request):
+    """The length of a body that doesn't come in chunks."""
+    values = request.values(b"content-length")
     digits = values[0].lstrip(b"0") if values else b""
     if len(digits) > len(str(MAX_BODY)) or int(digits or b"0") > MAX_BODY:
         raise Refused("BodyTooLarge")
     return int(digits or b"0")
+
+
+def chunk_size(data, at):
+    """The size that the chunk line at an offset says, and where the line ends."""
+    end = data.find(b"\n", at, at + MAX_CHUNK_LINE) + 1
+    if not end:
+        raise Refused("BadChunk") if len(data) >= at + MAX_CHUNK_LINE else Unfinished
+    line = CHUNK_LINE.fullmatch(data, at, end)
+    if line is None:
+        raise Refused("BadChunk")
+    return int(line[1], 16), end
+
+
+def end_of_trailer(data, at):
+    """Where the trailer at an offset ends."""
+    end = re.compile(rb"(?:[^\n]*\n)*?\r?\n").match(data, at)
+    if end is None or end.end() > at + MAX_TRAILER:
+        raise Refused("BadChunk") if len(data) >= at + MAX_TRAILER else Unfinished
+    return end.end()
+
+
+def body_in_chunks(data, at):
+    """The body whose chunks begin at an offset, and where it ends."""
+    chunks, total = [], 0
+    while True:
+        size, at = chunk_size(data, at)
+        total += size
+        if total > MAX_BODY:
+            raise Refused("BodyTooLarge")
+        if size == 0:
+            return b"".join(chunks), end_of_trailer(data, at)
+        if len(chunks) == MAX_CHUNKS:
+            raise Refused("BadChunk")
+        chunks.append(data[at : at + size])
+        at += size + 2
+        if len(data) < at:
+            raise Unfinished
+        if data[at - 2 : at] != b"\r\n":
+            raise Refused("BadChunk")
 
 
 def take(data):
@@ -146,6 +193,9 @@ def take(data):
     request = request_of(head)
     require_host(request)
     start = skipped + len(head)
+    if is_chunked(request):
+        request.body, end = body_in_chunks(data, start)
+        return request, end
     end = start + length_of(request)
     if len(data) < end:
         raise Unfinished

@@ -1,26 +1,28 @@
 -- Each list of bytes begins with a message, or is refused, or is unfinished.
-use Rattle.std.proofs.Common.{◌≡◌, ◌≤◌, ◌<◌, ◌⊎◌, ◌∙◌, ℕ, zero, suc, List, [], ◌∷◌, ◌++◌, length, take, drop, min, nat_le, nat_lt, ◌&&◌, Bool, true}
+use Rattle.std.proofs.Common.{◌≡◌, ◌≤◌, ◌<◌, ◌⊎◌, ◌∙◌, ℕ, zero, suc, List, [], ◌∷◌, ◌++◌, length, take, drop, min, nat_le, nat_lt, ◌&&◌, ◌==◌, Bool, true}
 use Rattle.std.proofs.Common.{false, cond, Result, Ok, Err, codes, refl, sym, ap, subst, inl, inr, arith, append_assoc, length-take}
 use Rattle.std.specs.List.{list_all}
 use Rattle.std.specs.Char.{is_ascii_digit}
+use Rattle.std.specs.Str.{bytes_eq}
 use Rattle.std.specs.Str.Parse.{digits_value}
 use Rattle.std.proofs.lemmas.Bool.{leb-true, leb-false}
-use Rattle.httparse.specs.Ascii.{line_feed}
 use Rattle.httparse.specs.Grammar.{LineEnd, crlf, lf, print_end, print_blank, RequestHead}
-use Rattle.tfs_table.specs.declared.refusal.Refusal.{Refusal}
-use Rattle.tfs_table.specs.declared.refusal.Refusal.TheVariants.{HeadTooLarge, BadHead, NoHost, BadLength, TransferCoding, BodyTooLarge}
-use Rattle.tfs_http.specs.Head.{StartsWithEmptyLine, EndsWithEmptyLine, IsMessageHead, HasHead, HasNoHead, IsHeadOf, line_feeds}
-use Rattle.tfs_http.specs.Fields.{fields_of, values_named}
-use Rattle.tfs_http.specs.Body.{length_of_text, length_told, names_host, body_length}
+use Rattle.tfs_calls.specs.declared.refusal.Refusal.{Refusal}
+use Rattle.tfs_calls.specs.declared.refusal.Refusal.TheVariants.{HeadTooLarge, BadHead, NoHost, BadLength, TransferCoding, BodyTooLarge}
+use Rattle.tfs_http.specs.Head.{StartsWithEmptyLine, HasHead, HasNoHead, IsHeadOf, line_feeds}
+use Rattle.tfs_http.specs.Fields.{fields_of, lower, values_named}
+use Rattle.tfs_http.specs.Body.{length_of_text, length_told, names_host, body_length, refusal_of}
 use Rattle.tfs_http.specs.Request.{request_of}
-use Rattle.tfs_http.specs.Framing.{IsHeadRefused, Frames}
+use Rattle.tfs_http.specs.Framing.{ReadsHead, IsHeadRefused, Frames}
 use Rattle.tfs_http.specs.declared.length.BodyLength.{BodyLength}
-use Rattle.tfs_http.specs.declared.length.BodyLength.TheVariants.{Absent, Sized}
+use Rattle.tfs_http.specs.declared.length.BodyLength.TheVariants.{Absent, Sized, Chunked}
 use Rattle.tfs_http.specs.declared.taken.Take.{Take}
 use Rattle.tfs_http.specs.declared.taken.Take.TheVariants.{Need, Got, Fault}
-use Rattle.tfs_http.proofs.HeadLemmas.{PassedOver, byte_passed, head_found, passed_all, head_of_window, no_head_of_window}
-use Rattle.tfs_http.proofs.WantedLemmas.{unfinished_without_head, unfinished_without_body, too_few, begins_with_request}
-use Rattle.tfs_http.proofs.EachPiece.{same_or_not, newline_decided, nothing_begins}
+use Rattle.tfs_http.proofs.HeadLemmas.{PassedOver, head_of_window, no_head_of_window}
+use Rattle.tfs_http.proofs.WantedLemmas.{unfinished_without_head, unfinished_without_body, too_few, begins_with_request, refused_by_body}
+use Rattle.tfs_http.proofs.EachEnd.{found_from}
+use Rattle.tfs_http.proofs.EachChunk.{chunks_decided}
+use Rattle.tfs_http.proofs.EachPiece.{newline_decided, nothing_begins}
 use Rattle.tfs_http.proofs.EachHead.{head_decided}
 
 -- Bytes are empty lines, and behind them bytes that begin with none.
@@ -51,33 +53,6 @@ stripped bytes = within (length bytes) bytes (omega arith)
             parts = x.2 ∙ ap (λ t. print_end x.0 ++ t) s.parts ∙ sym (append_assoc (print_end x.0) (print_blank s.skipped) s.rest);
             none = s.none;
           }
-    ]
-
--- A part of the bytes at their front is a head.
-pub record FindsHead (bytes : List ℕ) : Type 0 where
-  pub head : List ℕ
-  pub rest : List ℕ
-  pub parts : bytes ≡ head ++ rest
-  pub is_head : IsMessageHead head
-
--- No part of the bytes at their front ends with an empty line.
-abbrev FindsNone : List ℕ → Type 0
-FindsNone bytes = (part rest : List ℕ) → bytes ≡ part ++ rest → ¬ (EndsWithEmptyLine part)
-
--- From a place on, the first line feed with an empty line behind it ends a head; without one there is none.
-found_from : (bytes front rest : List ℕ) → PassedOver bytes front rest → FindsHead bytes ⊎ FindsNone bytes
-found_from bytes front [] passed = inr (passed_all bytes front passed)
-found_from bytes front (byte ∷ after) passed = by (λ next p. found_from bytes next after p)
-  where
-    by : ((next : List ℕ) → PassedOver bytes next after → FindsHead bytes ⊎ FindsNone bytes) → FindsHead bytes ⊎ FindsNone bytes
-    by goes_on = elim (same_or_not byte line_feed) [
-      | inr other ↦ (let p = byte_passed bytes front (byte ∷ after) after byte passed refl (λ is. absurd (other is)) in goes_on p.0 p.1)
-      | inl is ↦ elim (newline_decided after) [
-        | inr none ↦ (let p = byte_passed bytes front (byte ∷ after) after byte passed refl (λ same. none) in goes_on p.0 p.1)
-        | inl x ↦
-            let found = head_found bytes front (byte ∷ after) after x.1 byte x.0 passed refl is x.2 in
-            inl (record { head = found.0; rest = found.1; parts = found.2; is_head = found.4 })
-      ]
     ]
 
 -- Bytes have a head that ends in time, or have none.
@@ -117,24 +92,30 @@ text_refused text refusal e = by_digits (nat_lt 0 (length text) && list_all is_a
     by_digits false f = inr (inl (cc))
 
 -- The refusals of the values of all fields.
-told_refused : (lengths codings : List (List ℕ)) (refusal : Refusal) → length_told lengths codings ≡ Err refusal → IsLengthRefusal refusal
-told_refused [] [] refusal e = cc
-told_refused [] (coding ∷ codings) refusal e = inr (inr (inl (cc)))
-told_refused (text ∷ []) [] refusal e = text_refused text refusal e
-told_refused (text ∷ other ∷ texts) [] refusal e = inr (inl (cc))
-told_refused (text ∷ []) (coding ∷ codings) refusal e = inr (inl (cc))
-told_refused (text ∷ other ∷ texts) (coding ∷ codings) refusal e = inr (inl (cc))
+told_refused : (minor : ℕ) (lengths codings : List (List ℕ)) (refusal : Refusal) → length_told minor lengths codings ≡ Err refusal
+    → IsLengthRefusal refusal
+told_refused minor [] [] refusal e = cc
+told_refused minor [] (coding ∷ []) refusal e = by (minor == 1 && bytes_eq (lower coding) (codes "chunked")) e
+  where
+    by : (b : Bool) → cond b (Ok Chunked) (Err TransferCoding) ≡ Err refusal → IsLengthRefusal refusal
+    by true f = cc
+    by false f = inr (inr (inl (cc)))
+told_refused minor [] (coding ∷ other ∷ codings) refusal e = inr (inr (inl (cc)))
+told_refused minor (text ∷ []) [] refusal e = text_refused text refusal e
+told_refused minor (text ∷ other ∷ texts) [] refusal e = inr (inl (cc))
+told_refused minor (text ∷ []) (coding ∷ codings) refusal e = inr (inl (cc))
+told_refused minor (text ∷ other ∷ texts) (coding ∷ codings) refusal e = inr (inl (cc))
 
 -- The refusals of what a head says of its body.
 length_refused : (h : RequestHead) (refusal : Refusal) → body_length h ≡ Err refusal → IsLengthRefusal refusal
 length_refused h refusal e = by (names_host h.minor (values_named (codes "host") (fields_of h))) e
   where
     told : Result BodyLength Refusal
-    told = length_told (values_named (codes "content-length") (fields_of h)) (values_named (codes "transfer-encoding") (fields_of h))
+    told = length_told h.minor (values_named (codes "content-length") (fields_of h)) (values_named (codes "transfer-encoding") (fields_of h))
 
     by : (b : Bool) → cond b told (Err NoHost) ≡ Err refusal → IsLengthRefusal refusal
     by true f =
-        told_refused (values_named (codes "content-length") (fields_of h)) (values_named (codes "transfer-encoding") (fields_of h)) refusal f
+        told_refused h.minor (values_named (codes "content-length") (fields_of h)) (values_named (codes "transfer-encoding") (fields_of h)) refusal f
     by false f = inl (cc)
 
 -- A head of few lines whose fields are refused is refused.
@@ -153,7 +134,7 @@ with_head : (bytes : List ℕ) (skipped : List LineEnd) (head rest : List ℕ) �
 with_head bytes skipped head rest has = by_lines (nat_le (line_feeds head) 66) refl
   where
     refused : (refusal : Refusal) → IsHeadRefused head refusal → (t : Take) × Frames bytes t
-    refused refusal is = (Fault refusal, inr (record { skipped = skipped; head = head; rest = rest; has_head = has; refused = is }))
+    refused refusal is = (Fault refusal, inr (inl (record { skipped = skipped; head = head; rest = rest; has_head = has; refused = is })))
 
     by_size : (h : RequestHead) (n : ℕ) → line_feeds head ≤ 66 → IsHeadOf head h → body_length h ≡ Ok (Sized n) → (v : Bool)
         → nat_le n (length rest) ≡ v → (t : Take) × Frames bytes t
@@ -172,6 +153,18 @@ with_head bytes skipped head rest has = by_lines (nat_le (line_feeds head) 66) r
     by_length : (h : RequestHead) (r : Result BodyLength Refusal) → line_feeds head ≤ 66 → IsHeadOf head h → body_length h ≡ r
         → (t : Take) × Frames bytes t
     by_length h (Ok (Sized n)) few is e = by_size h n few is e (nat_le n (length rest)) refl
+    by_length h (Ok Chunked) few is e =
+        let reads : ReadsHead head h Chunked = record { lines = few; is_head_of = is; body = e } in
+        elim (chunks_decided rest) [
+          | inl w ↦ (
+            Got (request_of h w.1.1) _,
+            begins_with_request bytes skipped head rest (take w.0 rest) (drop w.0 rest) h Chunked w.0 has reads refl refl w.1,
+          )
+          | inr v ↦ elim v [
+            | inl w ↦ (Fault (refusal_of w.0), refused_by_body bytes skipped head rest h Chunked w.0 has reads w.1)
+            | inr none ↦ (Need, unfinished_without_body bytes skipped head rest h Chunked has reads none)
+          ]
+        ]
     by_length h (Ok Absent) few is e = (
       Got (request_of h []) _,
       begins_with_request bytes skipped head rest [] rest h Absent 0 has (record { lines = few; is_head_of = is; body = e }) refl refl

@@ -123,7 +123,7 @@ blank_decided text = within (length text) text (omega arith)
             none (ends, last, (one.1, stops))
 
 -- Bytes that pass a test come first, and then the byte that ends them, or not.
-span_decided : (test : ℕ → Bool) (stop : ℕ) → test stop ≡ false → (text : List ℕ)
+pub span_decided : (test : ℕ → Bool) (stop : ℕ) → test stop ≡ false → (text : List ℕ)
     → ((word : List ℕ) × (rest : List ℕ) × AllPass test word × (text ≡ word ++ stop ∷ rest))
     ⊎ ¬ ((word : List ℕ) × (rest : List ℕ) × AllPass test word × (text ≡ word ++ stop ∷ rest))
 span_decided test stop fails [] = inr (λ w. none w.0 w.1 w.3)

@@ -1,49 +1,28 @@
 -- Each request has a call or a refusal.
-use Rattle.std.proofs.Common.{◌≡◌, ◌⊎◌, ◌∙◌, ℕ, zero, suc, List, [], ◌∷◌, ◌++◌, length, drop, get_or, nat_eq, nat_le, Bool, true, false, Result, Ok}
-use Rattle.std.proofs.Common.{Err, Contains}
+use Rattle.std.proofs.Common.{◌≡◌, ◌≢◌, ◌⊎◌, ◌∙◌, ℕ, List, [], ◌∷◌, length, get_or, nat_le, Bool, true, false}
+use Rattle.std.proofs.Common.{Result, Ok, Err}
 use Rattle.std.proofs.Common.{codes, refl, sym, ap, subst, inl, inr, arith}
-use Rattle.std.specs.List.{starts_with, list_all}
-use Rattle.std.specs.Cmp.Lexicographic.{bytes_decides}
+use Rattle.std.specs.List.{list_all}
 use Rattle.std.specs.Str.{is_utf8}
 use Rattle.std.proofs.lemmas.Bool.{leb-true, leb-false}
 use Rattle.std.proofs.lemmas.Str.{IsUtf8-from_is_utf8, is_utf8-from_IsUtf8}
-use Rattle.matchit.specs.Seek.{has_slash, same_text}
-use Rattle.matchit.proofs.LookupLemmas.{append-cancel}
 use Rattle.tfs_rules.specs.Name.{IsName, is_name_byte}
-use Rattle.tfs_table.specs.declared.call.Call.{Call}
-use Rattle.tfs_table.specs.declared.call.Call.TheVariants.{Read, Change}
-use Rattle.tfs_table.specs.declared.call.Raw.{Raw}
-use Rattle.tfs_table.specs.declared.call.Raw.TheVariants.{Lock, Unlock, Push, Delete}
-use Rattle.tfs_table.specs.declared.refusal.Methods.TheVariants.{State}
-use Rattle.tfs_table.specs.declared.refusal.Refusal.{Refusal}
-use Rattle.tfs_table.specs.declared.refusal.Refusal.TheVariants.{NoRoute, MethodNotAllowed, BadName, BadDigest}
+use Rattle.tfs_calls.specs.declared.call.Call.{Call}
+use Rattle.tfs_calls.specs.declared.call.Call.TheVariants.{Read, Change, Impact}
+use Rattle.tfs_calls.specs.declared.call.Raw.{Raw}
+use Rattle.tfs_calls.specs.declared.call.Raw.TheVariants.{Lock, Unlock, Push, Delete}
+use Rattle.tfs_calls.specs.declared.query.Kind.{Kind}
+use Rattle.tfs_calls.specs.declared.query.Query.{Query}
+use Rattle.tfs_calls.specs.declared.refusal.Methods.TheVariants as methods
+use Rattle.tfs_calls.specs.declared.refusal.Refusal.{Refusal}
+use Rattle.tfs_calls.specs.declared.refusal.Refusal.TheVariants.{NoRoute, MethodNotAllowed, BadName, BadDigest}
+use Rattle.tfs_http.specs.declared.routes.Served.{Served}
+use Rattle.tfs_http.specs.declared.routes.Served.TheVariants as served
 use Rattle.tfs_http.specs.Request.{RequestValue}
-use Rattle.tfs_http.specs.Query.{identifier_parameter}
-use Rattle.tfs_http.specs.Routing.{slash, path_of, Route, IsPathOf, IsOneOf, HasRoute, IsTaken, IsSound, HasChange, HasCall, routing_refusal}
-use Rattle.tfs_http.specs.Routing.{RoutesTo, methods_of, routes, state_path}
-use Rattle.tfs_http.proofs.RoutingLemmas.{IsStatePath, state_path_is, is_state_path, slash_found, slash_tested, front_split, front_joined}
-
--- A path is the one of a state, or the one of none.
-abbrev IsDecided : List ℕ → Type 0
-IsDecided path = ((part : List ℕ) × IsStatePath path part) ⊎ ((part : List ℕ) → ¬ (IsStatePath path part))
-
--- A path that begins with `/state/` is decided by its rest.
-rest_decided : (path rest : List ℕ) → path ≡ codes "/state/" ++ rest → IsDecided path
-rest_decided path [] e = inr (λ part p. p.filled (append-cancel (codes "/state/") part [] (sym p.parts ∙ e)))
-rest_decided path (b ∷ rest) e = by (has_slash (b ∷ rest)) refl
-  where
-    by : (v : Bool) → has_slash (b ∷ rest) ≡ v → IsDecided path
-    by true s = inr (λ part p. p.whole
-        (subst (λ t. Contains t slash) (append-cancel (codes "/state/") (b ∷ rest) part (sym e ∙ p.parts)) (slash_found (b ∷ rest) s)))
-    by false s = inl (b ∷ rest, record { parts = e; filled = λ none. cc; whole = λ w. cc (slash_tested (b ∷ rest) w, s) })
-
--- Each path is decided.
-path_decided : (path : List ℕ) → IsDecided path
-path_decided path = by (starts_with nat_eq path (codes "/state/")) refl
-  where
-    by : (v : Bool) → starts_with nat_eq path (codes "/state/") ≡ v → IsDecided path
-    by true e = rest_decided path (drop 7 path) (front_split (codes "/state/") path e)
-    by false e = inr (λ part p. cc (e, front_joined (codes "/state/") part, ap (λ t. starts_with nat_eq t (codes "/state/")) p.parts))
+use Rattle.tfs_http.specs.Query.{identifier_parameter, texts_parameter}
+use Rattle.tfs_http.specs.Routing.{path_of, Route, IsPathOf, IsOneOf, HasRoute, IsTaken, IsSound, HasChange, HasCall, routing_refusal}
+use Rattle.tfs_http.specs.Routing.{RoutesTo, methods_of, state_path, impact_path, route_of}
+use Rattle.tfs_http.proofs.EachPath.{text_decided, path_decided, path_once, is_listed, served_by}
 
 -- A text is a name or none.
 name_decided : (text : List ℕ) → IsName text ⊎ ¬ (IsName text)
@@ -56,14 +35,6 @@ name_decided text = by (nat_le 1 (length text)) refl (nat_le (length text) 64) r
     by true a true b false c = inr (λ n. cc (n.clean, c))
     by true a true b true c = inl (record { filled = leb-true 1 (length text) a; short = leb-true (length text) 64 b; clean = c })
 
--- A text is this one or another.
-text_decided : (text other : List ℕ) → (text ≡ other) ⊎ ¬ (text ≡ other)
-text_decided text other = by (same_text text other) refl
-  where
-    by : (v : Bool) → same_text text other ≡ v → (text ≡ other) ⊎ ¬ (text ≡ other)
-    by true e = inl ((bytes_decides text other).0 e)
-    by false e = inr (λ is. cc (e, (bytes_decides text other).1 is))
-
 -- A text is one of a list or another.
 one_decided : (text : List ℕ) (items : List (List ℕ)) → IsOneOf text items ⊎ ¬ (IsOneOf text items)
 one_decided text [] = inr (λ is. is)
@@ -75,17 +46,8 @@ one_decided text (first ∷ items) = elim (text_decided text first) [
   ]
 ]
 
--- The one route is the route of a state.
-pub one_route : (route : Route) → Contains routes route → route ≡ state_path
-one_route route (zero, within, is) = sym is
-one_route route (suc k, within, is) = absurd (omega (arith, within))
-
--- It is listed.
-pub state_is_listed : Contains routes state_path
-state_is_listed = (0, omega arith, refl)
-
 -- A sound request with a method of a state has a call.
-method_called : (r : RequestValue) (name : List ℕ) → IsSound r state_path name → IsOneOf r.method (methods_of State)
+method_called : (r : RequestValue) (name : List ℕ) → IsSound r state_path name → IsOneOf r.method (methods_of methods.State)
     → (call : Call) × HasCall r call
 method_called r name is (inl delete) = (Change name (Delete (identifier_parameter r.target)), (is, (delete, refl)))
 method_called r name is (inr (inl get)) = (Read name, (is, get))
@@ -100,50 +62,64 @@ method_called r name is (inr (inr (inr (inr (inl unlock))))) = (
 )
 method_called r name is (inr (inr (inr (inr (inr none))))) = absurd none
 
+-- A sound request with a method of an impact has one too.
+impact_called : (r : RequestValue) (kind : Kind) (name : List ℕ) → IsSound r (impact_path kind) name → IsOneOf r.method (methods_of methods.Impact)
+    → (call : Call) × HasCall r call
+impact_called r kind name is (inl get) = (Impact name (record { kind = kind; texts = texts_parameter r.target }), (is, get, refl))
+impact_called r kind name is (inr none) = absurd none
+
+-- And so for whatever is served.
+served_called : (r : RequestValue) (served : Served) (name : List ℕ) → IsSound r (route_of served) name
+    → IsOneOf r.method (methods_of (route_of served).methods) → (call : Call) × HasCall r call
+served_called r served.State name is method = method_called r name is method
+served_called r (served.Impact kind) name is method = impact_called r kind name is method
+
 -- The request has a call or a refusal.
 abbrev IsRouted : RequestValue → Type 0
 IsRouted r = (x : Result Call Refusal) × RoutesTo r x
 
--- A request whose target has the route of a state has one.
-state_routed : (r : RequestValue) (part : List ℕ) → HasRoute r.target state_path part → IsRouted r
-state_routed r part has = elim (one_decided r.method (methods_of State)) [
+-- A request whose target has a route has one.
+route_routed : (r : RequestValue) (served : Served) (part : List ℕ) → HasRoute r.target (route_of served) part → IsRouted r
+route_routed r served part has = elim (one_decided r.method (methods_of (route_of served).methods)) [
   | inl method ↦ elim (name_decided part) [
     | inl is ↦ by (record { has_route = has; method = method }) is r.intact refl
-    | inr not ↦ (Err BadName, (state_path, part, record { has_route = has; method = method }, not))
+    | inr not ↦ (Err BadName, (route_of served, part, record { has_route = has; method = method }, not))
   ]
-  | inr none ↦ (Err (MethodNotAllowed State), (state_path, part, has, refl, none))
+  | inr none ↦ (Err (MethodNotAllowed (route_of served).methods), (route_of served, part, has, refl, none))
 ]
   where
-    by : IsTaken r state_path part → IsName part → (v : Bool) → r.intact ≡ v → IsRouted r
+    by : IsTaken r (route_of served) part → IsName part → (v : Bool) → r.intact ≡ v → IsRouted r
     by taken is true e =
-        let called = method_called r part (record { taken = taken; is_name = is; intact = e }) taken.method in (Ok called.0, called.1)
-    by taken is false e = (Err BadDigest, (state_path, part, taken, is, e))
+        let called = served_called r served part (record { taken = taken; is_name = is; intact = e }) taken.method in (Ok called.0, called.1)
+    by taken is false e = (Err BadDigest, (route_of served, part, taken, is, e))
 
 -- Each request has one.
 pub each_routed : (r : RequestValue) → IsRouted r
 each_routed r = by (is_utf8 r.target) refl
   where
     by : (v : Bool) → is_utf8 r.target ≡ v → IsRouted r
-    by true e = elim (path_decided (path_of r.target)) [
-      | inl p ↦ state_routed r p.0
-          (record { listed = state_is_listed; text = IsUtf8-from_is_utf8 r.target e; path = state_path_is (path_of r.target) p.0 p.1 })
-      | inr none ↦ (
-        Err NoRoute,
-        λ route part n.
-            none part (is_state_path (path_of r.target) part (subst (λ t. IsPathOf t (path_of r.target) part) (one_route route n.listed) n.path)),
-      )
-    ]
+    by true e =
+        let text = IsUtf8-from_is_utf8 r.target e in
+        elim (path_decided (path_of r.target)) [
+          | inl p ↦ route_routed r p.0 p.1 (record { listed = is_listed p.0; text = text; path = p.2 })
+          | inr none ↦ (Err NoRoute, λ route part n. none route part n.listed n.path)
+        ]
     by false e = (Err NoRoute, λ route part n. cc (e, is_utf8-from_IsUtf8 r.target n.text))
 
 -- A target has one route, and one part.
 part_once : (target : List ℕ) (route other : Route) (part last : List ℕ) → HasRoute target route part → HasRoute target other last
     → (route ≡ other) × (part ≡ last)
 part_once target route other part last p q =
-    let one = one_route route p.listed in
-    let two = one_route other q.listed in
-    let a = is_state_path (path_of target) part (subst (λ t. IsPathOf t (path_of target) part) one p.path) in
-    let b = is_state_path (path_of target) last (subst (λ t. IsPathOf t (path_of target) last) two q.path) in
-    (one ∙ sym two, append-cancel (codes "/state/") part last (sym a.parts ∙ b.parts))
+    let one = served_by route p.listed in
+    let two = served_by other q.listed in
+    let once = path_once (path_of target) one.0 two.0 part last (subst (λ t. IsPathOf t (path_of target) part) one.1 p.path)
+    (subst (λ t. IsPathOf t (path_of target) last) two.1 q.path) in
+    (one.1 ∙ ap route_of once.0 ∙ sym two.1, once.1)
+
+-- The same of what is served.
+served_once : (target : List ℕ) (served other : Served) (part last : List ℕ) → HasRoute target (route_of served) part → HasRoute target (route_of other) last
+    → (served ≡ other) × (part ≡ last)
+served_once target served other part last p q = path_once (path_of target) served other part last p.path q.path
 
 -- The first letter of a change's method.
 abbrev letter_of : Raw → ℕ
@@ -191,8 +167,31 @@ get_changes_nothing r raw get p = by raw (sym (letter_is r raw p) ∙ ap (λ t. 
     by (Lock body) e = omega arith
     by (Unlock body id) e = omega arith
 
+-- What is a state is no impact.
+no_impact : (kind : Kind) → served.State ≢ served.Impact kind
+no_impact kind e = cc
+
+-- A request asks one query.
+impact_once : (r : RequestValue) (a b : List ℕ) (query other : Query) → HasCall r (Impact a query) → HasCall r (Impact b other)
+    → Impact a query ≡ Impact b other
+impact_once r a b query other p q =
+    let once = served_once r.target (served.Impact query.kind) (served.Impact other.kind) a b p.0.taken.has_route q.0.taken.has_route in
+    let same = once.0 in
+    let kinds : query.kind ≡ other.kind = cc same in
+    let texts : query.texts ≡ other.texts = p.2 ∙ sym q.2 in
+    ap (λ t. Impact t query) once.1
+    ∙ ap (λ k. Impact b (record { kind = k; texts = query.texts })) kinds
+    ∙ ap (λ t. Impact b (record { kind = other.kind; texts = t })) texts
+
 -- A request has one call.
 call_once : (r : RequestValue) (call other : Call) → HasCall r call → HasCall r other → call ≡ other
+call_once r (Impact a query) (Impact b other) p q = impact_once r a b query other p q
+call_once r (Impact a query) (Read b) p q = absurd (no_impact query.kind (sym (served_once r.target (served.Impact query.kind) served.State a b p.0.taken.has_route q.0.taken.has_route).0))
+call_once r (Impact a query) (Change b raw) p q =
+    absurd (no_impact query.kind (sym (served_once r.target (served.Impact query.kind) served.State a b p.0.taken.has_route q.0.taken.has_route).0))
+call_once r (Read a) (Impact b query) p q = absurd (no_impact query.kind (served_once r.target served.State (served.Impact query.kind) a b p.0.taken.has_route q.0.taken.has_route).0)
+call_once r (Change a raw) (Impact b query) p q =
+    absurd (no_impact query.kind (served_once r.target served.State (served.Impact query.kind) a b p.0.taken.has_route q.0.taken.has_route).0)
 call_once r (Read a) (Read b) p q = ap Read (part_once r.target state_path state_path a b p.0.taken.has_route q.0.taken.has_route).1
 call_once r (Read a) (Change b raw) p q = absurd (get_changes_nothing r raw p.1 q.1)
 call_once r (Change a raw) (Read b) p q = absurd (get_changes_nothing r raw q.1 p.1)
@@ -234,6 +233,7 @@ sound_not_refused r route name refusal s (inr (inr (inr p))) = let wrong : true 
 -- A request that has a call isn't refused.
 called_not_refused : (r : RequestValue) (call : Call) (refusal : Refusal) → HasCall r call → ¬ (routing_refusal r refusal)
 called_not_refused r (Read name) refusal p q = sound_not_refused r state_path name refusal p.0 (reasons r refusal q)
+called_not_refused r (Impact name query) refusal p q = sound_not_refused r (impact_path query.kind) name refusal p.0 (reasons r refusal q)
 called_not_refused r (Change name raw) refusal p q = sound_not_refused r state_path name refusal p.0 (reasons r refusal q)
 
 -- A request is refused for one reason.

@@ -3,17 +3,19 @@ use Rattle.std.proofs.Common.{◌≡◌, ◌≤◌, ◌<◌, ◌⊎◌, ℕ, Lis
 use Rattle.std.proofs.Common.{append_assoc, append-nil, length-append, inl, inr}
 use Rattle.httparse.specs.Grammar.{LineEnd, print_blank, RequestHead}
 use Rattle.httparse.proofs.GrammarLemmas.{request_unique}
-use Rattle.tfs_table.specs.declared.refusal.Refusal.{Refusal}
-use Rattle.tfs_table.specs.declared.refusal.Refusal.TheVariants.{HeadTooLarge, BadHead}
+use Rattle.tfs_calls.specs.declared.refusal.Refusal.{Refusal}
+use Rattle.tfs_calls.specs.declared.refusal.Refusal.TheVariants.{HeadTooLarge, BadHead}
 use Rattle.tfs_http.specs.Request.{RequestValue, request_of}
 use Rattle.tfs_http.specs.Head.{HasHead, HasNoHead, IsHeadOf, line_feeds}
-use Rattle.tfs_http.specs.Body.{body_length, SpellsBody}
-use Rattle.tfs_http.specs.Framing.{ReadsHead, IsHeadRefused, ReadsMessage, framing_refusal, BeginsWith, Frames}
+use Rattle.tfs_http.specs.Body.{body_length, SpellsBody, HasBadBody, refusal_of}
+use Rattle.tfs_http.specs.Framing.{ReadsHead, IsHeadRefused, ReadsMessage, HasRefusedHead, HasRefusedBody, framing_refusal, BeginsWith, Frames}
 use Rattle.tfs_http.specs.declared.length.BodyLength.{BodyLength}
-use Rattle.tfs_http.specs.declared.length.BodyLength.TheVariants.{Absent, Sized}
+use Rattle.tfs_http.specs.declared.length.BodyLength.TheVariants.{Absent, Sized, Chunked}
 use Rattle.tfs_http.specs.declared.taken.Take.{Take}
 use Rattle.tfs_http.specs.declared.taken.Take.TheVariants.{Need, Got, Fault}
 use Rattle.tfs_http.proofs.HeadLemmas.{cuts, same_cut, blank_unique, head_starts}
+use Rattle.tfs_http.proofs.ChunksLemmas.{chunks_once}
+use Rattle.tfs_http.proofs.BadBodyLemmas.{spelled_not_bad, bad_once, bad_more}
 
 -- A head stays the head whatever bytes follow.
 pub head_more : (bytes more : List ℕ) (skipped : List LineEnd) (head rest : List ℕ) → HasHead bytes skipped head rest
@@ -65,6 +67,7 @@ spells_once (Sized n) coded body after other also last s t e =
     let two : length other ≡ n = ap length t.0 ∙ t.1 in
     let same = same_cut coded after other last e (one ∙ sym two) in
     (same.0, sym s.0 ∙ same.0 ∙ t.0, same.1)
+spells_once Chunked coded body after other also last s t e = chunks_once coded body after other also last s t e
 
 -- How a head is refused, by its three reasons.
 abbrev Reasons : List ℕ → Refusal → Type 0
@@ -149,21 +152,56 @@ message_not_refused bytes r m refusal b p =
     let has = head_of_message bytes b.frame b.rest r b.parts b.reads in
     elim p [
       | inl q ↦ q.1 b.reads.skipped b.reads.head (b.reads.coded ++ b.rest) has
-      | inr q ↦
-          let same = head_unique bytes b.reads.skipped q.skipped b.reads.head q.head (b.reads.coded ++ b.rest) q.rest has q.has_head in
-          reads_not_refused b.reads.head b.reads.h b.reads.size refusal b.reads.reads
-          (subst (λ (t : List ℕ). IsHeadRefused t refusal) (sym same.heads) q.refused)
+      | inr r ↦ elim r [
+        | inl q ↦
+            let same = head_unique bytes b.reads.skipped q.skipped b.reads.head q.head (b.reads.coded ++ b.rest) q.rest has q.has_head in
+            reads_not_refused b.reads.head b.reads.h b.reads.size refusal b.reads.reads
+            (subst (λ (t : List ℕ). IsHeadRefused t refusal) (sym same.heads) q.refused)
+        | inr q ↦
+            let same = head_unique bytes b.reads.skipped q.skipped b.reads.head q.head (b.reads.coded ++ b.rest) q.rest has q.has_head in
+            let lines = reads_once b.reads.head b.reads.h q.h b.reads.size q.size b.reads.reads
+            (subst (λ (t : List ℕ). ReadsHead t q.h q.size) (sym same.heads) q.reads) in
+            spelled_not_bad b.reads.size q.rest b.reads.coded b.reads.body b.rest q.flaw b.reads.spells (sym same.rests)
+            (subst (λ (n : BodyLength). HasBadBody n q.rest q.flaw) (sym lines.1) q.bad)
+      ]
     ]
+
+-- A head whose body is refused isn't refused itself.
+body_not_head : (bytes : List ℕ) (f g : Refusal) → HasRefusedBody bytes f → ¬ (HasRefusedHead bytes g)
+body_not_head bytes f g a b =
+    let same = head_unique bytes a.skipped b.skipped a.head b.head a.rest b.rest a.has_head b.has_head in
+    reads_not_refused a.head a.h a.size g a.reads (subst (λ (t : List ℕ). IsHeadRefused t g) (sym same.heads) b.refused)
+
+-- A body is refused for one reason.
+body_refused_once : (bytes : List ℕ) (f g : Refusal) → HasRefusedBody bytes f → HasRefusedBody bytes g → f ≡ g
+body_refused_once bytes f g a b =
+    let same = head_unique bytes a.skipped b.skipped a.head b.head a.rest b.rest a.has_head b.has_head in
+    let lines = reads_once a.head a.h b.h a.size b.size a.reads (subst (λ (t : List ℕ). ReadsHead t b.h b.size) (sym same.heads) b.reads) in
+    let bad = subst (λ (t : List ℕ). HasBadBody a.size t b.flaw) (sym same.rests)
+    (subst (λ (n : BodyLength). HasBadBody n b.rest b.flaw) (sym lines.1) b.bad) in
+    a.refused ∙ ap refusal_of (bad_once a.size a.rest a.flaw b.flaw a.bad bad) ∙ sym b.refused
 
 -- Bytes have one refusal.
 pub refusal_once : (bytes : List ℕ) (f g : Refusal) → framing_refusal bytes f → framing_refusal bytes g → f ≡ g
 refusal_once bytes f g p q = elim p [
-  | inl a ↦ elim q [ inl b ↦ a.2 ∙ sym b.2 | inr b ↦ absurd (a.1 b.skipped b.head b.rest b.has_head) ]
-  | inr a ↦ elim q [
-    | inl b ↦ absurd (b.1 a.skipped a.head a.rest a.has_head)
-    | inr b ↦
-        let same = head_unique bytes a.skipped b.skipped a.head b.head a.rest b.rest a.has_head b.has_head in
-        refused_once a.head f g a.refused (subst (λ (t : List ℕ). IsHeadRefused t g) (sym same.heads) b.refused)
+  | inl a ↦ elim q [
+    | inl b ↦ a.2 ∙ sym b.2
+    | inr r ↦ elim r [ inl b ↦ absurd (a.1 b.skipped b.head b.rest b.has_head) | inr b ↦ absurd (a.1 b.skipped b.head b.rest b.has_head) ]
+  ]
+  | inr s ↦ elim s [
+    | inl a ↦ elim q [
+      | inl b ↦ absurd (b.1 a.skipped a.head a.rest a.has_head)
+      | inr r ↦ elim r [
+        | inl b ↦
+            let same = head_unique bytes a.skipped b.skipped a.head b.head a.rest b.rest a.has_head b.has_head in
+            refused_once a.head f g a.refused (subst (λ (t : List ℕ). IsHeadRefused t g) (sym same.heads) b.refused)
+        | inr b ↦ absurd (body_not_head bytes g f b a)
+      ]
+    ]
+    | inr a ↦ elim q [
+      | inl b ↦ absurd (b.1 a.skipped a.head a.rest a.has_head)
+      | inr r ↦ elim r [ inl b ↦ absurd (body_not_head bytes f g a b) | inr b ↦ body_refused_once bytes f g a b ]
+    ]
   ]
 ]
 
@@ -206,13 +244,27 @@ no_head_more bytes more many none skipped head rest has =
 pub refusal_more : (bytes more : List ℕ) (refusal : Refusal) → framing_refusal bytes refusal → framing_refusal (bytes ++ more) refusal
 refusal_more bytes more refusal p = elim p [
   | inl q ↦ inl (let longer = length-append bytes more in let many = q.0 in omega arith, no_head_more bytes more q.0 q.1, q.2)
-  | inr q ↦ inr (record {
-    skipped = q.skipped;
-    head = q.head;
-    rest = q.rest ++ more;
-    has_head = head_more bytes more q.skipped q.head q.rest q.has_head;
-    refused = q.refused;
-  })
+  | inr r ↦ elim r [
+    | inl q ↦ inr (inl (record {
+      skipped = q.skipped;
+      head = q.head;
+      rest = q.rest ++ more;
+      has_head = head_more bytes more q.skipped q.head q.rest q.has_head;
+      refused = q.refused;
+    }))
+    | inr q ↦ inr (inr (record {
+      skipped = q.skipped;
+      head = q.head;
+      rest = q.rest ++ more;
+      has_head = head_more bytes more q.skipped q.head q.rest q.has_head;
+      h = q.h;
+      size = q.size;
+      reads = q.reads;
+      flaw = q.flaw;
+      bad = bad_more q.size q.rest more q.flaw q.bad;
+      refused = q.refused;
+    }))
+  ]
 ]
 
 -- What bytes begin with is one thing.

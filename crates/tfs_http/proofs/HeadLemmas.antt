@@ -35,7 +35,7 @@ cuts (x ∷ a) b (y ∷ c) d e =
     ]
 
 -- A list of length 0 is empty.
-nothing_left : (z : List ℕ) → length z ≡ 0 → z ≡ []
+pub nothing_left : (z : List ℕ) → length z ≡ 0 → z ≡ []
 nothing_left [] e = refl
 -- A list of length 0 is empty.
 nothing_left (x ∷ z) e = absurd (omega arith)

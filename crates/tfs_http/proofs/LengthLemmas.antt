@@ -9,7 +9,7 @@ use Rattle.std.proofs.lemmas.Bool.{leb-true, ltb-true, eqb-true, false_from_ne_t
 use Rattle.std.proofs.lemmas.Str.{IsUtf8-from_ascii, digit_value_digit}
 use Rattle.std.proofs.lemmas.List.Elements.{All-tail}
 use Rattle.std.proofs.lemmas.Fmt.{IsAscii-from_digits}
-use Rattle.tfs_table.specs.declared.refusal.Refusal.TheVariants.{BodyTooLarge}
+use Rattle.tfs_calls.specs.declared.refusal.Refusal.TheVariants.{BodyTooLarge}
 use Rattle.httparse.specs.declared.spans.HeaderSpan.{HeaderSpan}
 use Rattle.httparse.specs.Spans.{span_bytes, header_bytes, IsHeaderWithin}
 use Rattle.tfs_http.specs.Body.{length_of_text}

@@ -1,26 +1,28 @@
 -- Laws of messages: how long they and their bodies are, and that bytes begin with one alone.
-use Rattle.std.proofs.Common.{◌≡◌, suc, ◌≤◌, ◌<◌, ◌+◌, ℕ, List, [], ◌∷◌, ◌++◌, length, drop, Bool, true, false, ◌&&◌, nat_le, nat_lt, cond}
+use Rattle.std.proofs.Common.{◌≡◌, suc, ◌≤◌, ◌<◌, ◌+◌, ℕ, List, [], ◌∷◌, ◌++◌, length, drop, Bool, true, false, ◌&&◌, nat_le, nat_lt, cond, ◌==◌}
 use Rattle.std.proofs.Common.{Result, Ok, Err, refl, sym, ◌∙◌, ap, subst, arith, inl, inr, length-append, codes}
 use Rattle.std.specs.List.{list_all}
 use Rattle.std.specs.Char.{is_ascii_digit}
+use Rattle.std.specs.Str.{bytes_eq}
 use Rattle.std.specs.Str.Parse.{digits_value}
 use Rattle.std.proofs.Math.Seq.{drop-append_seam}
 use Rattle.std.proofs.lemmas.Bool.{leb-true}
 use Rattle.httparse.specs.Ascii.{line_feed}
 use Rattle.httparse.specs.Grammar.{LineEnd, print_end, print_blank}
 use Rattle.httparse.specs.Grammar.{RequestHead}
-use Rattle.tfs_table.specs.Draft.{CarriesFittingState}
-use Rattle.tfs_table.specs.declared.call.Call.{Call}
-use Rattle.tfs_table.specs.declared.call.Call.TheVariants.{Read, Change}
-use Rattle.tfs_table.specs.declared.call.Raw.TheVariants.{Lock, Unlock, Push, Delete}
-use Rattle.tfs_table.specs.declared.refusal.Refusal.{Refusal}
-use Rattle.tfs_table.specs.declared.refusal.Refusal.TheVariants.{NoHost, BadLength, BodyTooLarge}
+use Rattle.tfs_calls.specs.Draft.{CarriesFittingState}
+use Rattle.tfs_calls.specs.declared.call.Call.{Call}
+use Rattle.tfs_calls.specs.declared.call.Call.TheVariants.{Read, Change, Impact}
+use Rattle.tfs_calls.specs.declared.call.Raw.TheVariants.{Lock, Unlock, Push, Delete}
+use Rattle.tfs_calls.specs.declared.refusal.Refusal.{Refusal}
+use Rattle.tfs_calls.specs.declared.refusal.Refusal.TheVariants.{NoHost, BadLength, BodyTooLarge, TransferCoding}
 use Rattle.tfs_http.specs.Request.{RequestValue}
-use Rattle.tfs_http.specs.Fields.{fields_of, values_named}
+use Rattle.tfs_http.specs.Head.{HasNoHead}
+use Rattle.tfs_http.specs.Fields.{fields_of, lower, values_named}
 use Rattle.tfs_http.specs.Body.{length_of_text, length_told, names_host, body_length, SpellsBody, Fits}
 use Rattle.tfs_http.specs.Framing.{ReadsMessage, BeginsWith, IsUnfinished, framing_refusal}
 use Rattle.tfs_http.specs.declared.length.BodyLength.{BodyLength}
-use Rattle.tfs_http.specs.declared.length.BodyLength.TheVariants.{Absent, Sized}
+use Rattle.tfs_http.specs.declared.length.BodyLength.TheVariants.{Absent, Sized, Chunked}
 use Rattle.tfs_http.specs.Routing.{HasCall, HasChange}
 use Rattle.tfs_http.proofs.FramingLemmas.{message_once}
 
@@ -41,29 +43,35 @@ text_fits text n e = by_digits (nat_lt 0 (length text) && list_all is_ascii_digi
     by_digits false f = cc
 
 -- A length that is told is of a body that fits.
-told_fits : (lengths codings : List (List ℕ)) (n : BodyLength) → length_told lengths codings ≡ Ok n → Fits n
-told_fits [] [] n e = let same : Absent ≡ n = cc in subst Fits same tt
-told_fits [] (coding ∷ codings) n e = cc
-told_fits (text ∷ []) [] n e = text_fits text n e
-told_fits (text ∷ other ∷ texts) [] n e = cc
-told_fits (text ∷ []) (coding ∷ codings) n e = cc
-told_fits (text ∷ other ∷ texts) (coding ∷ codings) n e = cc
+told_fits : (minor : ℕ) (lengths codings : List (List ℕ)) (n : BodyLength) → length_told minor lengths codings ≡ Ok n → Fits n
+told_fits minor [] [] n e = let same : Absent ≡ n = cc in subst Fits same tt
+told_fits minor [] (coding ∷ []) n e = by (minor == 1 && bytes_eq (lower coding) (codes "chunked")) e
+  where
+    by : (b : Bool) → cond b (Ok Chunked) (Err TransferCoding) ≡ Ok n → Fits n
+    by true f = let same : Chunked ≡ n = cc in subst Fits same tt
+    by false f = cc
+told_fits minor [] (coding ∷ other ∷ codings) n e = cc
+told_fits minor (text ∷ []) [] n e = text_fits text n e
+told_fits minor (text ∷ other ∷ texts) [] n e = cc
+told_fits minor (text ∷ []) (coding ∷ codings) n e = cc
+told_fits minor (text ∷ other ∷ texts) (coding ∷ codings) n e = cc
 
 -- A length that a head says is of a body that fits.
 pub length_fits : (h : RequestHead) (n : BodyLength) → body_length h ≡ Ok n → Fits n
 length_fits h n e = by (names_host h.minor (values_named (codes "host") (fields_of h))) e
   where
     told : Result BodyLength Refusal
-    told = length_told (values_named (codes "content-length") (fields_of h)) (values_named (codes "transfer-encoding") (fields_of h))
+    told = length_told h.minor (values_named (codes "content-length") (fields_of h)) (values_named (codes "transfer-encoding") (fields_of h))
 
     by : (b : Bool) → cond b told (Err NoHost) ≡ Ok n → Fits n
-    by true f = told_fits (values_named (codes "content-length") (fields_of h)) (values_named (codes "transfer-encoding") (fields_of h)) n f
+    by true f = told_fits h.minor (values_named (codes "content-length") (fields_of h)) (values_named (codes "transfer-encoding") (fields_of h)) n f
     by false f = cc
 
 -- A body that is spelled fits where its length does.
 spelled_fits : (n : BodyLength) (coded body : List ℕ) → SpellsBody n coded body → Fits n → length body ≤ 16777216
 spelled_fits Absent coded body s fits = let none : length body ≡ 0 = ap length s.1 in omega arith
 spelled_fits (Sized n) coded body s fits = omega (arith, s.1, fits)
+spelled_fits Chunked coded body s fits = let same = ap length s.is_body in let small = s.are.small in omega arith
 
 -- A message's body has at most 16 MiB.
 pub body_fits : (bytes : List ℕ) (r : RequestValue) (used : ℕ) → BeginsWith bytes r used → length r.body ≤ 16777216
@@ -75,6 +83,7 @@ body_fits bytes r used b =
 -- The call of a request whose body fits carries a state that fits.
 pub call_fits : (r : RequestValue) (call : Call) → HasCall r call → length r.body ≤ 16777216 → CarriesFittingState call
 call_fits r (Read name) has fits = tt
+call_fits r (Impact name query) has fits = tt
 call_fits r (Change name (Push id body)) has fits =
     let change : HasChange r (Push id body) = has.1 in
     subst (λ (t : List ℕ). length t ≤ 16777216) (sym change.2) fits
@@ -98,16 +107,21 @@ frame_is_no_empty_text frame r m =
     let parts : length (m.head ++ m.coded) ≡ length m.head + length m.coded = length-append m.head m.coded in
     omega arith
 
+-- No bytes have no head.
+no_bytes_have_no_head : HasNoHead []
+no_bytes_have_no_head skipped head rest has =
+    let ends = has.is_head.ends in
+    let some : 0 < length head = head_is_no_empty_text ends.0 head ends.1 ends.2 in
+    let long : 0 ≡ length (print_blank skipped) + length (head ++ rest) =
+    ap (λ (t : List ℕ). length t) has.parts ∙ length-append (print_blank skipped) (head ++ rest) in
+    let parts : length (head ++ rest) ≡ length head + length rest = length-append head rest in
+    omega arith
+
 -- No bytes have no refusal.
 pub no_refusal_of_no_bytes : (refusal : Refusal) → ¬ (framing_refusal [] refusal)
 no_refusal_of_no_bytes refusal (inl few) = omega (arith, few.0)
-no_refusal_of_no_bytes refusal (inr h) =
-    let ends = h.has_head.is_head.ends in
-    let some : 0 < length h.head = head_is_no_empty_text ends.0 h.head ends.1 ends.2 in
-    let long : 0 ≡ length (print_blank h.skipped) + length (h.head ++ h.rest) =
-    ap (λ (t : List ℕ). length t) h.has_head.parts ∙ length-append (print_blank h.skipped) (h.head ++ h.rest) in
-    let parts : length (h.head ++ h.rest) ≡ length h.head + length h.rest = length-append h.head h.rest in
-    omega arith
+no_refusal_of_no_bytes refusal (inr (inl h)) = no_bytes_have_no_head h.skipped h.head h.rest h.has_head
+no_refusal_of_no_bytes refusal (inr (inr h)) = no_bytes_have_no_head h.skipped h.head h.rest h.has_head
 
 -- No bytes are unfinished.
 pub no_bytes_are_unfinished : IsUnfinished []

@@ -1,12 +1,12 @@
 -- Laws of the texts of replies.
 use Rattle.std.proofs.Common.{◌≡◌, ◌≢◌, ◌∙◌, ℕ, List, [], ◌++◌, length, codes, decimal, Result, Ok, Err, IfOk, string_bytes, String, refl, ap}
 use Rattle.std.proofs.Common.{append_assoc, if◌then◌else◌}
-use Rattle.tfs_table.specs.Refusal.{RefusalValue, head_too_large, bad_head, bad_length, transfer_coding, body_too_large, no_route, method_not_allowed}
-use Rattle.tfs_table.specs.Refusal.{bad_name, no_host, bad_chunk, bad_digest}
-use Rattle.tfs_table.specs.Refusal.{bad_lock_info, bad_state, too_many_instances, journal_stopped, locked, lock_lost, lineage_differs, serial_too_low}
-use Rattle.tfs_table.specs.Refusal.{serial_reused, no_state}
-use Rattle.tfs_table.specs.Refusal.{table_full, journal_full, out_of_memory, journal_fault, row_of}
-use Rattle.tfs_table.specs.Reply.{ReplyValue, done, state, refused}
+use Rattle.tfs_calls.specs.Refusal.{RefusalValue, head_too_large, bad_head, bad_length, transfer_coding, body_too_large, no_route, method_not_allowed}
+use Rattle.tfs_calls.specs.Refusal.{bad_name, no_host, bad_chunk, bad_digest}
+use Rattle.tfs_calls.specs.Refusal.{bad_lock_info, bad_state, too_many_instances, journal_stopped, locked, lock_lost, lineage_differs, serial_too_low}
+use Rattle.tfs_calls.specs.Refusal.{serial_reused, no_state, no_address, too_many_addresses, unknown_address}
+use Rattle.tfs_calls.specs.Refusal.{table_full, journal_full, out_of_memory, journal_fault, no_copy, row_of}
+use Rattle.tfs_calls.specs.Reply.{ReplyValue, done, state, impact, refused}
 use Rattle.tfs_http.specs.ReplyText.{status_of, allow_line, close_line, type_line, phrase_of, name_body, head_text}
 use Rattle.tfs_http.specs.declared.form.Form.{Form}
 
@@ -61,13 +61,18 @@ refusal_has_phrase lineage_differs e = cc
 refusal_has_phrase serial_too_low e = cc
 refusal_has_phrase serial_reused e = cc
 refusal_has_phrase no_state e = cc
+refusal_has_phrase no_address e = cc
+refusal_has_phrase too_many_addresses e = cc
+refusal_has_phrase (unknown_address k) e = cc
 refusal_has_phrase table_full e = cc
 refusal_has_phrase journal_full e = cc
 refusal_has_phrase out_of_memory e = cc
 refusal_has_phrase journal_fault e = cc
+refusal_has_phrase no_copy e = cc
 
 -- And so has that of each reply.
 pub reply_has_phrase : (reply : ReplyValue) → phrase_of (status_of reply) ≢ []
 reply_has_phrase (done position) e = cc
 reply_has_phrase (state d) e = cc
+reply_has_phrase (impact d chosen position) e = cc
 reply_has_phrase (refused refusal) e = refusal_has_phrase refusal e

@@ -1,100 +1,83 @@
--- Laws of routing: the paths that the one route matches are those of a state.
-use Rattle.std.proofs.Common.{◌≡◌, ◌≢◌, ◌<◌, ◌≤◌, ◌-◌, ◌==◌, ℕ, zero, suc, List, [], ◌∷◌, ◌++◌, length, take, drop, get_or, cond, nat_eq, Bool, true}
-use Rattle.std.proofs.Common.{false, Option, Some, None, Bor, MatchOption, IfSome, IfNone, Contains, codes, refl, sym, ◌∙◌, ap, subst, arith, rules}
+-- Laws of routing: the paths that the router's rows match are those of the routes.
+use Rattle.std.proofs.Common.{◌≡◌, ◌≢◌, ◌⊎◌, ◌<◌, ◌-◌, ◌+◌, ◌==◌, ℕ, zero, suc, List, [], ◌∷◌, ◌++◌, length, take, drop, get_or, cond, nat_eq, Bool, true}
+use Rattle.std.proofs.Common.{false, Option, Some, None, codes, refl, sym, ◌∙◌, ap, subst, inl, inr, arith, rules}
 use Rattle.std.proofs.Common.{append-nil, take-append-drop, length-append, Fits, w8}
-use Rattle.std.proofs.lemmas.Bool.{eqb-true, lt-ltb, le-leb}
 use Rattle.std.proofs.lemmas.Bool.Decides.{nat_tests}
-use Rattle.std.proofs.lemmas.List.{take_all}
-use Rattle.std.proofs.lemmas.Str.{IsUtf8-drop, IsCharBoundary-after_ascii, IsUtf8-from_ascii}
 use Rattle.std.proofs.Math.Seq.{take-append_seam, drop-append_seam}
 use Rattle.std.specs.Cmp.Lexicographic.{bytes_decides}
-use Rattle.std.specs.List.{starts_with}
-use Rattle.std.specs.Str.{IsUtf8}
-use Rattle.matchit.specs.Params.{walk, named, AllText, next_at, part_of}
-use Rattle.matchit.specs.Rows.{Rows, RowsOf, prepend, param_token}
-use Rattle.matchit.specs.Seek.{seek, first, param_step, own, or_else, has_slash}
+use Rattle.std.specs.List.{starts_with, ends_with}
+use Rattle.matchit.specs.Rows.{Rows, prepend, param_token, catch_all_token}
+use Rattle.matchit.specs.Seek.{seek, first, param_step, own, or_else, has_slash, segment, cuts, longest_suffix, step}
 use Rattle.matchit.specs.Level.{IsText}
 use Rattle.matchit.specs.Router.{RouteOf, map_key}
 use Rattle.matchit.proofs.ParamLemmas.{same_text-self}
-use Rattle.matchit.proofs.SeekLemmas.{seek-empty, first-prefix}
+use Rattle.matchit.proofs.SeekLemmas.{own-append, step-append, step-hit, step-miss, seek-empty, seek-drop, seek-lit, or_else-none, param_step-empty, first-prefix}
 use Rattle.matchit.proofs.RenameLemmas.{first-rename}
-use Rattle.tfs_table.specs.declared.refusal.Methods.{Methods}
-use Rattle.tfs_http.specs.Routing.{slash, IsPathOf, state_path, state_route, state_routes}
+use Rattle.tfs_calls.specs.declared.query.Kind.{Kind}
+use Rattle.tfs_calls.specs.declared.query.Kind.TheVariants.{Any, All}
+use Rattle.tfs_http.specs.declared.routes.Served.{Served}
+use Rattle.tfs_http.specs.Routing.{kind_part, state_row, impact_row, route_rows}
+use Rattle.tfs_http.proofs.PathLemmas.{IsSplit, no_slash, at_slash, split_at, segment_at, segment_all, ends_otherwise, ends_so, differ_at}
 
--- The path of a state: `/state/` and a part, which isn't empty and has no slash.
-pub record IsStatePath (path part : List ℕ) : Type 0 where
-  pub parts : path ≡ codes "/state/" ++ part
-  pub filled : part ≢ []
-  pub whole : ¬ (Contains part slash)
+-- ---- rows that begin with texts
 
--- It is the path of the route of a state.
-pub state_path_is : (path part : List ℕ) → IsStatePath path part → IsPathOf state_path path part
-state_path_is path part p = record {
-  parts = p.parts ∙ ap (λ t. codes "/state/" ++ t) (sym (append-nil part));
-  filled = p.filled;
-  whole = p.whole;
-}
+-- Two texts differ at a byte.
+abbrev Differ : List ℕ → List ℕ → Type 0
+Differ [] b = ⊥
+Differ (x ∷ a) [] = ⊥
+Differ (x ∷ a) (y ∷ b) = (x ≢ y) ⊎ ((x ≡ y) × Differ a b)
 
--- And the other way.
-pub is_state_path : (path part : List ℕ) → IsPathOf state_path path part → IsStatePath path part
-is_state_path path part p = record {
-  parts = p.parts ∙ ap (λ t. codes "/state/" ++ t) (append-nil part);
-  filled = p.filled;
-  whole = p.whole;
-}
+-- A byte is no token of a pattern.
+no_token : (x : ℕ) → x < 256 → (x ≢ param_token) × (x ≢ catch_all_token)
+no_token x small = (λ e. omega arith, λ e. omega arith)
 
--- A text has a slash where one of its bytes is one.
-pub slash_found : (s : List ℕ) → has_slash s ≡ true → Contains s slash
-slash_found [] e = cc
-slash_found (b ∷ s) e = by (b == 47) refl e (slash_found s)
-  where
-    by : (v : Bool) → (b == 47) ≡ v → cond v true (has_slash s) ≡ true → (has_slash s ≡ true → Contains s slash) → Contains (b ∷ s) 47
-    by true q h rest = (0, omega arith, eqb-true b 47 q)
-    by false q h rest = let w = rest h in (suc w.0, omega (arith, w.1), w.2)
-
--- And the other way.
-pub slash_tested : (s : List ℕ) → Contains s slash → has_slash s ≡ true
-slash_tested [] w = absurd (omega (arith, w.1))
-slash_tested (b ∷ s) (zero, within, is) = rw is refl
-slash_tested (b ∷ s) (suc k, within, is) = by (b == 47) (slash_tested s (k, omega (arith, within), is))
-  where
-    by : (v : Bool) → has_slash s ≡ true → cond v true (has_slash s) ≡ true
-    by true rest = refl
-    by false rest = rest
-
--- What the route has left behind `/state/`: one parameter.
-abbrev name_rows : Rows
-name_rows = (param_token ∷ [], 0) ∷ []
-
--- What stands before the parameter.
-abbrev prefix : List ℕ
-prefix = codes "/state/"
-
--- It has no parameter.
-is_text : IsText prefix
-is_text = search rules
-
--- A walk that skips all that is left ends where it stands.
-skips_all : (r : Rows) (p : List ℕ) → seek (length p) r p ≡ own r
+-- A walk of rows that begin with bytes takes one.
+one_byte : (x y : ℕ) (w v : List ℕ) (r t : Rows) (b : ℕ) (p : List ℕ) → x < 256 → y < 256
+    → seek 0 (prepend (x ∷ w) r ++ prepend (y ∷ v) t) (b ∷ p) ≡ seek 0 (step b (prepend (x ∷ w) r) ++ step b (prepend (y ∷ v) t)) p
 unfolding seek
-skips_all r [] = refl
-skips_all r (b ∷ p) = skips_all r p
+one_byte x y w v r t b p low less =
+    let n = no_token x low in
+    let m = no_token y less in
+    simp (
+      step-append,
+      step-miss param_token x w r n.0,
+      step-miss catch_all_token x w r n.1,
+      step-miss param_token y v t m.0,
+      step-miss catch_all_token y v t m.1,
+      param_step-empty (b ∷ p),
+      seek-empty ((param_step {K = ℕ} [] (b ∷ p)).0 - 1) p,
+      or_else-none,
+    )
 
--- A parameter takes all of a rest that has no slash.
-takes_rest : (b : ℕ) (p : List ℕ) → b < 256 → first name_rows (b ∷ p) ≡ cond (has_slash (b ∷ p)) None (Some 0)
-unfolding seek param_step
-takes_rest b p small = by (has_slash (b ∷ p)) refl
+-- Rows that begin with two texts, which differ, answer what the ones do, or else the others.
+fork : (w v : List ℕ) (r t : Rows) (path : List ℕ) → IsText w → IsText v → Differ w v
+    → first (prepend w r ++ prepend v t) path ≡ or_else (first (prepend w r) path) (first (prepend v t) path)
+unfolding seek
+fork [] v r t path hw hv d = absurd d
+fork (x ∷ w) [] r t path hw hv d = absurd d
+fork (x ∷ w) (y ∷ v) r t [] hw hv d = own-append (prepend (x ∷ w) r) (prepend (y ∷ v) t)
+fork (x ∷ w) (y ∷ v) r t (b ∷ p) hw hv d =
+    one_byte x y w v r t b p hw.0 hv.0
+    ∙ by (x == b) refl (y == b) refl d (λ h. fork w v r t p hw.1 hv.1 h)
+    ∙ sym (ap (λ o. or_else o (first (prepend (y ∷ v) t) (b ∷ p))) (seek-lit x w r b p hw.0)
+    ∙ ap (or_else (seek 0 (step b (prepend (x ∷ w) r)) p)) (seek-lit y v t b p hv.0))
   where
-    other : (param_token == b) ≡ false
-    other = grind (arith, nat_tests)
-
-    one_less : suc (length p) - 1 ≡ length p
-    one_less = omega arith
-
-    by : (v : Bool) → has_slash (b ∷ p) ≡ v → first name_rows (b ∷ p) ≡ cond v None (Some 0)
-    by true e = simp (other, e, seek-empty 0 p) refl
-    by false e = simp (other, e, seek-empty 0 p)
-        (ap (λ n. or_else (seek n (([], 0) ∷ []) p) None) one_less ∙ ap (λ o. or_else o None) (skips_all (([], 0) ∷ []) p))
+    by : (i : Bool) → (x == b) ≡ i → (j : Bool) → (y == b) ≡ j → Differ (x ∷ w) (y ∷ v)
+        → (Differ w v → first (prepend w r ++ prepend v t) p ≡ or_else (first (prepend w r) p) (first (prepend v t) p))
+        → seek 0 (step b (prepend (x ∷ w) r) ++ step b (prepend (y ∷ v) t)) p
+        ≡ or_else (seek 0 (step b (prepend (x ∷ w) r)) p) (seek 0 (step b (prepend (y ∷ v) t)) p)
+    by true e true f (inl other) more = absurd (other (grind (arith, nat_tests)))
+    by true e true f (inr d) more =
+        let xb : x ≡ b = grind (arith, nat_tests) in
+        let yb : y ≡ b = grind (arith, nat_tests) in
+        rw (xb, yb, step-hit b w r, step-hit b v t) (more d.1)
+    by true e false f d more =
+        let xb : x ≡ b = grind (arith, nat_tests) in
+        let yb : y ≢ b = λ q. grind (arith, nat_tests) in
+        rw (xb, step-hit b w r, step-miss b y v t yb, append-nil (prepend w r), seek-empty 0 p) (sym (or_else-none (seek 0 (prepend w r) p)))
+    by false e j f d more =
+        let xb : x ≢ b = λ q. grind (arith, nat_tests) in
+        rw (step-miss b x w r xb, seek-empty 0 p) refl
 
 -- A text that starts so is that and what is left.
 pub front_split : (front path : List ℕ) → starts_with nat_eq path front ≡ true → path ≡ front ++ drop (length front) path
@@ -105,152 +88,262 @@ front_split front path e =
 pub front_joined : (front rest : List ℕ) → starts_with nat_eq (front ++ rest) front ≡ true
 front_joined front rest = rw (take-append_seam front rest) (same_text-self front)
 
--- Behind that text the walk goes on at the rest.
-left_behind : (front rest : List ℕ) → cond (starts_with nat_eq (front ++ rest) front)
-    (first name_rows (drop (length front) (front ++ rest))) None ≡ first name_rows rest
-left_behind front rest = rw (front_joined front rest, drop-append_seam front rest) refl
+-- A walk that skips all that is left ends where it stands.
+skips_all : (r : Rows) (p : List ℕ) → seek (length p) r p ≡ own r
+unfolding seek
+skips_all r [] = refl
+skips_all r (b ∷ p) = skips_all r p
 
--- What the one route answers to a path.
-abbrev to_route : ℕ → RouteOf Methods
-to_route key = state_route
+-- ---- what stands behind a name
 
--- It answers where `/state/` comes first and a parameter takes the rest.
-first_of_routes : (path : List ℕ) → first state_routes path ≡ map_key to_route
-    (cond (starts_with nat_eq path prefix) (first name_rows (drop (length prefix) path)) None)
-first_of_routes path = first-rename to_route (prepend prefix name_rows) path ∙ ap (map_key to_route) (first-prefix prefix name_rows path is_text)
+-- What an impact's routes have left behind the name.
+abbrev tails : Rows
+tails = (codes "/all", 0) ∷ (codes "/any", 1) ∷ []
+
+-- And with it.
+abbrev impact_rows : Rows
+impact_rows = (param_token ∷ codes "/all", 0) ∷ (param_token ∷ codes "/any", 1) ∷ []
+
+-- What the route of a state has left behind `/state/`: one parameter.
+abbrev state_rows : Rows
+state_rows = (param_token ∷ [], 2) ∷ []
+
+-- A parameter that ends a route takes all of a rest that has no slash.
+takes_rest : (b : ℕ) (p : List ℕ) → b < 256 → first state_rows (b ∷ p) ≡ cond (has_slash (b ∷ p)) None (Some 2)
+unfolding seek param_step
+takes_rest b p small = by (has_slash (b ∷ p)) refl
+  where
+    other : (param_token == b) ≡ false
+    other = grind (arith, nat_tests)
+
+    one_less : suc (length p) - 1 ≡ length p
+    one_less = omega arith
+
+    by : (v : Bool) → has_slash (b ∷ p) ≡ v → first state_rows (b ∷ p) ≡ cond v None (Some 2)
+    by true e = simp (other, e, seek-empty 0 p) refl
+    by false e = simp (other, e, seek-empty 0 p)
+        (ap (λ n. or_else (seek n (([], 2) ∷ []) p) None) one_less ∙ ap (λ o. or_else o None) (skips_all (([], 2) ∷ []) p))
+
+-- The longest suffix of the tails is the slash, where a segment ends with one behind a byte.
+suffix_is : (seg : List ℕ) (v : Bool) → cuts seg (codes "/") ≡ v → longest_suffix seg tails ≡ cond v (codes "/") []
+suffix_is seg true e = rw e refl
+suffix_is seg false e = rw e refl
+
+-- A walk of an impact's routes begins with the parameter.
+impact_step : (b : ℕ) (p : List ℕ) → b < 256
+    → first impact_rows (b ∷ p) ≡ or_else (seek ((param_step tails (b ∷ p)).0 - 1) (param_step tails (b ∷ p)).1 p) None
+unfolding seek
+impact_step b p small =
+    let other : (param_token == b) ≡ false = grind (arith, nat_tests) in
+    simp (other, seek-empty 0 p) refl
+
+-- What has no slash is no rest of an impact's path.
+impact_whole : (b : ℕ) (p : List ℕ) → b < 256 → has_slash (b ∷ p) ≡ false → first impact_rows (b ∷ p) ≡ None
+unfolding param_step
+impact_whole b p small h =
+    impact_step b p small
+    ∙ ap (λ s. or_else (seek (s.0 - 1) s.1 p) None) stepped
+    ∙ ap (λ n. or_else (seek n tails p) None) one_less ∙ ap (λ o. or_else o None) (skips_all tails p)
+  where
+    one_less : suc (length p) - 1 ≡ length p
+    one_less = omega arith
+
+    cut : cuts (segment (b ∷ p)) (codes "/") ≡ false
+    cut = rw (segment_all (b ∷ p) h, ends_otherwise (b ∷ p) h) (grind rules)
+
+    stepped : param_step tails (b ∷ p) ≡ (suc (length p), tails)
+    stepped = rw (suffix_is (segment (b ∷ p)) false cut, h) refl
+
+-- Nor is what begins with one.
+impact_slash : (p : List ℕ) → first impact_rows (47 ∷ p) ≡ None
+unfolding seek param_step
+impact_slash p = simp (seek-empty 0 p) refl
+
+-- Behind a part with no slash the walk goes on with the tails.
+impact_part : (b : ℕ) (part rest : List ℕ) → b < 256 → has_slash (b ∷ part) ≡ false
+    → first impact_rows (b ∷ (part ++ 47 ∷ rest)) ≡ first tails (47 ∷ rest)
+unfolding param_step
+impact_part b part rest small h =
+    impact_step b (part ++ 47 ∷ rest) small
+    ∙ ap (λ s. or_else (seek (s.0 - 1) s.1 (part ++ 47 ∷ rest)) None) stepped
+    ∙ ap (λ n. or_else (seek n tails (part ++ 47 ∷ rest)) None) one_less
+    ∙ or_else-none (seek (length part) tails (part ++ 47 ∷ rest))
+    ∙ seek-drop (length part) tails (part ++ 47 ∷ rest)
+    ∙ ap (λ t. seek 0 tails t) (drop-append_seam part (47 ∷ rest))
+  where
+    one_less : suc (length part) - 1 ≡ length part
+    one_less = omega arith
+
+    seg : List ℕ
+    seg = b ∷ (part ++ 47 ∷ [])
+
+    size : length (part ++ 47 ∷ []) ≡ length part + 1
+    size = length-append part (47 ∷ [])
+
+    cut : cuts seg (codes "/") ≡ true
+    cut =
+        let one = size in
+        let long : cuts seg (codes "/") ≡ ends_with nat_eq seg (codes "/") = grind (arith, nat_tests, one) in
+        long ∙ ends_so (b ∷ part)
+
+    less : length seg - 1 ≡ suc (length part)
+    less = let one = size in omega (arith, one)
+
+    stepped : param_step tails (b ∷ (part ++ 47 ∷ rest)) ≡ (suc (length part), tails)
+    stepped = rw (segment_at (b ∷ part) rest h, suffix_is seg true cut) (ap (λ n. (n, tails)) less)
+
+-- ---- the tails
+
+-- What the tails answer, they answer to one of the two texts.
+pub tail_is : (q : List ℕ) (key : ℕ) → first tails q ≡ Some key → ((key ≡ 0) × (q ≡ codes "/all")) ⊎ ((key ≡ 1) × (q ≡ codes "/any"))
+unfolding seek
+tail_is q key e = by (starts_with nat_eq q (codes "/all")) refl (starts_with nat_eq q (codes "/any")) refl (sym answers ∙ e)
+  where
+    ends : ℕ → Rows
+    ends k = ([], k) ∷ []
+
+    answers : first tails q ≡ or_else (cond (starts_with nat_eq q (codes "/all")) (first (ends 0) (drop 4 q)) None)
+        (cond (starts_with nat_eq q (codes "/any")) (first (ends 1) (drop 4 q)) None)
+    answers = fork (codes "/all") (codes "/any") (ends 0) (ends 1) q (search rules) (search rules)
+        (inr (refl, inr (refl, inl (λ e. omega arith))))
+        ∙ ap (λ o. or_else o (first (prepend (codes "/any") (ends 1)) q)) (first-prefix (codes "/all") (ends 0) q (search rules))
+        ∙ ap (or_else (cond (starts_with nat_eq q (codes "/all")) (first (ends 0) (drop 4 q)) None)) (first-prefix (codes "/any") (ends 1) q (search rules))
+
+    only : (k : ℕ) (rest : List ℕ) → first (ends k) rest ≡ Some key → (key ≡ k) × (rest ≡ [])
+    only k [] h = (cc, refl)
+    only k (b ∷ rest) h = cc (seek-empty 0 rest, param_step-empty (b ∷ rest), seek-empty ((param_step {K = ℕ} [] (b ∷ rest)).0 - 1) rest)
+
+    whole : (text : List ℕ) → starts_with nat_eq q text ≡ true → drop (length text) q ≡ [] → q ≡ text
+    whole text starts none = front_split text q starts ∙ ap (λ t. text ++ t) none ∙ append-nil text
+
+    by : (u : Bool) → starts_with nat_eq q (codes "/all") ≡ u → (v : Bool) → starts_with nat_eq q (codes "/any") ≡ v
+        → or_else (cond u (first (ends 0) (drop 4 q)) None) (cond v (first (ends 1) (drop 4 q)) None) ≡ Some key
+        → ((key ≡ 0) × (q ≡ codes "/all")) ⊎ ((key ≡ 1) × (q ≡ codes "/any"))
+    by false a false b h = cc
+    by false a true b h = let is = only 1 (drop 4 q) h in inr (is.0, whole (codes "/any") b is.1)
+    by true a false b h = let is = only 0 (drop 4 q) (sym (or_else-none (first (ends 0) (drop 4 q))) ∙ h) in inl (is.0, whole (codes "/all") a is.1)
+    by true a true b h = absurd (differ_at (codes "/all" ++ drop 4 q) (codes "/any" ++ drop 4 q) 2 108 110 refl refl (λ e. omega arith)
+        (sym (front_split (codes "/all") q a) ∙ front_split (codes "/any") q b))
+
+-- The row of each key.
+abbrev pub row_at : ℕ → RouteOf Served
+row_at zero = impact_row All
+row_at (suc zero) = impact_row Any
+row_at (suc (suc k)) = state_row
+
+-- The key of a kind.
+abbrev key_of : Kind → ℕ
+key_of All = 0
+key_of Any = 1
+
+-- To the text of a kind they answer its key.
+tail_answers : (kind : Kind) → first tails (kind_part kind) ≡ Some (key_of kind)
+unfolding seek param_step
+tail_answers All = refl
+tail_answers Any = refl
+
+-- ---- the routes
+
+-- What the rows answer to a path: behind `/impact/` what stands there, or else behind `/state/`.
+pub first_of_rows : (path : List ℕ) → first route_rows path ≡ map_key row_at (or_else
+    (cond (starts_with nat_eq path (codes "/impact/")) (first impact_rows (drop 8 path)) None)
+    (cond (starts_with nat_eq path (codes "/state/")) (first state_rows (drop 7 path)) None))
+first_of_rows path =
+    first-rename row_at (prepend (codes "/impact/") impact_rows ++ prepend (codes "/state/") state_rows) path
+    ∙ ap (map_key row_at) (fork (codes "/impact/") (codes "/state/") impact_rows state_rows path (search rules) (search rules)
+    (inr (refl, inl (λ e. omega arith)))
+    ∙ ap (λ o. or_else o (first (prepend (codes "/state/") state_rows) path)) (first-prefix (codes "/impact/") impact_rows path (search rules))
+    ∙ ap (or_else (cond (starts_with nat_eq path (codes "/impact/")) (first impact_rows (drop 8 path)) None))
+    (first-prefix (codes "/state/") state_rows path (search rules)))
+
+-- The path of an impact is answered by the row of its kind.
+pub impact_answered : (kind : Kind) (b : ℕ) (part : List ℕ) → b < 256 → has_slash (b ∷ part) ≡ false
+    → first route_rows (codes "/impact/" ++ (b ∷ (part ++ kind_part kind))) ≡ Some (impact_row kind)
+impact_answered kind b part small h =
+    first_of_rows (codes "/impact/" ++ (b ∷ (part ++ kind_part kind)))
+    ∙ ap (λ o. map_key row_at (or_else o None)) (left kind)
+    ∙ same kind
+  where
+    left : (kind : Kind) → first impact_rows (b ∷ (part ++ kind_part kind)) ≡ Some (key_of kind)
+    left Any = impact_part b part (codes "any") small h ∙ tail_answers Any
+    left All = impact_part b part (codes "all") small h ∙ tail_answers All
+
+    same : (kind : Kind) → Some (row_at (key_of kind)) ≡ Some (impact_row kind)
+    same Any = refl
+    same All = refl
+
+-- The path of a state is answered by its row.
+pub state_answered : (b : ℕ) (part : List ℕ) → b < 256 → has_slash (b ∷ part) ≡ false → first route_rows (codes "/state/" ++ (b ∷ part)) ≡ Some state_row
+state_answered b part small h =
+    first_of_rows (codes "/state/" ++ (b ∷ part)) ∙ ap (map_key row_at) (takes_rest b part small ∙ ap (λ v. cond {A = Option ℕ} v None (Some 2)) h)
+
+-- What is answered, by parts of the path: a row of an impact, or that of a state.
+pub data IsAnswered (path : List ℕ) (row : RouteOf Served) : Type 0 where
+  is_impact : (kind : Kind) (b : ℕ) (part : List ℕ) → row ≡ impact_row kind → path ≡ codes "/impact/" ++ (b ∷ (part ++ kind_part kind))
+      → has_slash (b ∷ part) ≡ false → IsAnswered path row
+  is_state : (b : ℕ) (part : List ℕ) → row ≡ state_row → path ≡ codes "/state/" ++ (b ∷ part) → has_slash (b ∷ part) ≡ false → IsAnswered path row
+
+-- What an impact's rows answer to a rest.
+rest_of_impact : (path s : List ℕ) (row : RouteOf Served) → path ≡ codes "/impact/" ++ s → get_or s 0 0 < 256
+    → map_key row_at (first impact_rows s) ≡ Some row → IsAnswered path row
+unfolding seek
+rest_of_impact path s row parts small e = by s parts small e (split_at s)
+  where
+    found : (b : ℕ) (part rest : List ℕ) → path ≡ codes "/impact/" ++ (b ∷ (part ++ 47 ∷ rest)) → has_slash (b ∷ part) ≡ false
+        → (o : Option ℕ) → first tails (47 ∷ rest) ≡ o → map_key row_at o ≡ Some row → IsAnswered path row
+    found b part rest parts h None t e = cc
+    found b part rest parts h (Some key) t e = elim (tail_is (47 ∷ rest) key t) [
+      | inl all ↦ is_impact All b part (cc (ap row_at all.0)) (parts ∙ ap (λ t. codes "/impact/" ++ (b ∷ (part ++ t))) all.1) h
+      | inr any ↦ is_impact Any b part (cc (ap row_at any.0)) (parts ∙ ap (λ t. codes "/impact/" ++ (b ∷ (part ++ t))) any.1) h
+    ]
+
+    by : (s : List ℕ) → path ≡ codes "/impact/" ++ s → get_or s 0 0 < 256 → map_key row_at (first impact_rows s) ≡ Some row → IsSplit s → IsAnswered path row
+    by [] parts small e split = cc
+    by (b ∷ p) parts small e (no_slash h) = cc (impact_whole b p small h)
+    by (b ∷ p) parts small e (at_slash [] rest is h) =
+        let none = ap (λ t. first impact_rows t) is ∙ impact_slash rest in cc
+    by (b ∷ p) parts small e (at_slash (c ∷ part) rest is h) =
+        let low : c < 256 = subst (λ t. get_or t 0 0 < 256) is small in
+        found c part rest (parts ∙ ap (λ t. codes "/impact/" ++ t) is) h (first tails (47 ∷ rest)) refl
+        (ap (map_key row_at) (sym (ap (λ t. first impact_rows t) is ∙ impact_part c part rest low h)) ∙ e)
+
+-- What the row of a state answers to a rest.
+rest_of_state : (path s : List ℕ) (row : RouteOf Served) → path ≡ codes "/state/" ++ s → get_or s 0 0 < 256
+    → map_key row_at (first state_rows s) ≡ Some row → IsAnswered path row
+unfolding seek
+rest_of_state path [] row parts small e = cc
+rest_of_state path (b ∷ p) row parts small e = by (has_slash (b ∷ p)) refl (ap (map_key row_at) (sym (takes_rest b p small)) ∙ e)
+  where
+    by : (v : Bool) → has_slash (b ∷ p) ≡ v → map_key row_at (cond v None (Some 2)) ≡ Some row → IsAnswered path row
+    by true h e = cc
+    by false h e = is_state b p (cc) parts h
 
 -- What each byte of a path fits.
 abbrev pub AreBytes : List ℕ → Type 0
 AreBytes path = (k : ℕ) → Fits w8 (get_or path k 0)
 
--- The byte behind `/state/` is one.
-seventh_byte : (path : List ℕ) → AreBytes path → get_or path 7 0 < 256
-seventh_byte path bytes = omega (arith, bytes 7)
-
--- The path of a state has the route.
-pub state_path_matches : (path part : List ℕ) → AreBytes path → IsStatePath path part → first state_routes path ≡ Some state_route
-state_path_matches path part bytes p =
-    first_of_routes path
-    ∙ ap (λ t. map_key to_route (cond {A = Option ℕ} (starts_with nat_eq t prefix) (first name_rows (drop (length prefix) t)) None)) p.parts
-    ∙ ap (map_key to_route) (left_behind prefix part ∙ left part p.filled p.whole (subst (λ t. get_or t 7 0 < 256) p.parts (seventh_byte path bytes)))
+-- Whatever is answered is answered so.
+pub answered : (path : List ℕ) (row : RouteOf Served) → AreBytes path → first route_rows path ≡ Some row → IsAnswered path row
+answered path row bytes e =
+    by (starts_with nat_eq path (codes "/impact/")) refl (starts_with nat_eq path (codes "/state/")) refl (sym (first_of_rows path) ∙ e)
   where
-    left : (rest : List ℕ) → rest ≢ [] → ¬ (Contains rest slash) → get_or rest 0 0 < 256 → first name_rows rest ≡ Some 0
-    left [] filled whole small = absurd (filled refl)
-    left (b ∷ rest) filled whole small = takes_rest b rest small ∙ by (has_slash (b ∷ rest)) refl
-      where
-        by : (v : Bool) → has_slash (b ∷ rest) ≡ v → cond {A = Option ℕ} v None (Some 0) ≡ Some 0
-        by true e = absurd (whole (slash_found (b ∷ rest) e))
-        by false e = refl
+    eighth : get_or path 8 0 < 256
+    eighth = omega (arith, bytes 8)
 
--- A path that has a route is the path of a state, and the route is the one.
-pub record Matched (path : List ℕ) (route : RouteOf Methods) : Type 0 where
-  pub is_path : IsStatePath path (drop 7 path)
-  pub is_route : route ≡ state_route
+    seventh : get_or path 7 0 < 256
+    seventh = omega (arith, bytes 7)
 
--- The same where the path starts with `/state/`.
-matched_rest : (path rest : List ℕ) (route : RouteOf Methods) → path ≡ prefix ++ drop 7 path → drop 7 path ≡ rest → get_or rest 0 0 < 256
-    → map_key to_route (first name_rows rest) ≡ Some route → Matched path route
-unfolding seek
-matched_rest path [] route parts is small q = absurd (cc)
-matched_rest path (b ∷ rest) route parts is small q = by (has_slash (b ∷ rest)) refl (ap (map_key to_route) (sym (takes_rest b rest small)) ∙ q)
-  where
-    by : (v : Bool) → has_slash (b ∷ rest) ≡ v → map_key to_route (cond v None (Some 0)) ≡ Some route → Matched path route
-    by true slash found = absurd (cc)
-    by false slash found = record {
-      is_path = record {
-        parts = parts;
-        filled = λ none. cc;
-        whole = λ w. cc (slash_tested (drop 7 path) w, slash, is);
-      };
-      is_route = cc;
-    }
-
--- A path that has a route is the path of a state.
-pub matched_is_state_path : (path : List ℕ) (route : RouteOf Methods) → AreBytes path → first state_routes path ≡ Some route → Matched path route
-matched_is_state_path path route bytes found = by (starts_with nat_eq path prefix) refl (sym (first_of_routes path) ∙ found)
-  where
-    by : (v : Bool) → starts_with nat_eq path prefix ≡ v → map_key to_route (cond v (first name_rows (drop 7 path)) None) ≡ Some route → Matched path route
-    by true starts e =
-        let parts = front_split prefix path starts in
-        matched_rest path (drop 7 path) route parts refl (subst (λ t. get_or t 7 0 < 256) parts (seventh_byte path bytes)) e
-    by false starts e = absurd (cc)
-
--- Seven places on from the start.
-seven_on : (len : ℕ) → 7 ≤ len → next_at len (next_at len (next_at len (next_at len (next_at len (next_at len (next_at len 0)))))) ≡ 7
-seven_on len long = simp (
-  lt-ltb 0 len (omega arith),
-  lt-ltb 1 len (omega arith),
-  lt-ltb 2 len (omega arith),
-  lt-ltb 3 len (omega arith),
-  lt-ltb 4 len (omega arith),
-  lt-ltb 5 len (omega arith),
-  lt-ltb 6 len (omega arith),
-) refl
-
--- From the end of a front to the end of all there is the rest.
-rest_taken : (front rest : List ℕ) → part_of (front ++ rest) (length front) (length (front ++ rest)) ≡ rest
-rest_taken front rest =
-    let size = length-append front rest in
-    let begins = le-leb (length front) (length (front ++ rest)) (omega arith) in
-    let ends = le-leb (length (front ++ rest)) (length (front ++ rest)) (omega arith) in
-    rw (begins, ends, drop-append_seam front rest) (take_all (length (front ++ rest) - length front) rest (omega arith))
-
--- What the name of the route took of the path of a state.
-name_taken : (path part : List ℕ) → path ≡ prefix ++ part → walk state_route.pattern state_route.text path state_route.names 0 0 ≡ (codes "name", part) ∷ []
-name_taken path part parts =
-    let size = ap length parts ∙ length-append prefix part in
-    rw (seven_on (length path) (omega arith))
-    (ap (λ t. (codes "name", part_of t 7 (length t)) ∷ []) parts ∙ ap (λ t. (codes "name", t) ∷ []) (rest_taken prefix part))
-
--- What stands behind `/state/` in a text is a text.
-rest_is_text : (path part : List ℕ) → path ≡ prefix ++ part → IsUtf8 path → IsUtf8 (drop 7 path)
-rest_is_text path part parts text =
-    let size = ap length parts ∙ length-append prefix part in
-    let seventh : get_or path 6 0 ≡ 47 = ap (λ t. get_or t 6 0) parts in
-    IsUtf8-drop path 7 text (IsCharBoundary-after_ascii path 6 text (omega arith) (omega arith))
-
--- What is got for `name` is what it took, or none where it took nothing.
-abbrev GivesName : Option (Bor (List ℕ)) → List (List ℕ × List ℕ) → Type 0
-GivesName r taken = MatchOption r (named (codes "name") taken ≡ None) (λ part. named (codes "name") taken ≡ Some part.now)
-
--- What `name` took of a path that has a route.
-part_taken : (r : Option (Bor (List ℕ))) (path taken pattern text : List ℕ) (names : List (ℕ × ℕ)) (value : Methods) (rows : RowsOf (RouteOf Methods))
-    → rows ≡ state_routes → AreBytes path → IsUtf8 path → taken ≡ path
-    → first rows path ≡ Some (record { pattern = pattern; text = text; names = names; value = value })
-    → (AllText (walk pattern text taken names 0 0) → GivesName r (walk pattern text taken names 0 0))
-    → IsStatePath path (drop 7 path) × MatchOption r ⊥ (λ part. part.now ≡ drop 7 path)
-part_taken r path taken pattern text names value rows one bytes utf8 same found gives =
-    let m = matched_is_state_path path (record { pattern = pattern; text = text; names = names; value = value }) bytes
-    (ap (λ t. first t path) (sym one) ∙ found) in
-    let list : walk pattern text taken names 0 0 ≡ (codes "name", drop 7 path) ∷ [] =
-    ap (λ t. walk t.pattern t.text taken t.names 0 0) m.is_route ∙ ap (λ t. walk state_route.pattern state_route.text t state_route.names 0 0) same
-    ∙ name_taken path (drop 7 path) m.is_path.parts in (
-      m.is_path,
-      by r (subst (λ l. AllText l → GivesName r l) list gives
-          (IsUtf8-from_ascii (codes "name") (search rules), rest_is_text path (drop 7 path) m.is_path.parts utf8, tt)),
-    )
-  where
-    by : (o : Option (Bor (List ℕ))) → MatchOption o (Some (drop 7 path) ≡ None) (λ part. Some (drop 7 path) ≡ Some part.now)
-        → MatchOption o ⊥ (λ part. part.now ≡ drop 7 path)
-    by None e = cc
-    by (Some part) e = cc
-
--- So what is got for `name` is the part, and there is one.
-pub part_found : (r : Option (Bor (List ℕ))) (path taken pattern text : List ℕ) (names : List (ℕ × ℕ)) (value : Methods) (rows : RowsOf (RouteOf Methods))
-    → rows ≡ state_routes → AreBytes path → IsUtf8 path → taken ≡ path
-    → first rows path ≡ Some (record { pattern = pattern; text = text; names = names; value = value })
-    → (AllText (walk pattern text taken names 0 0) → GivesName r (walk pattern text taken names 0 0))
-    → IfSome r (λ part. IsPathOf state_path path part.now) × IfNone r ((part : List ℕ) → ¬ (IsPathOf state_path path part))
-part_found r path taken pattern text names value rows one bytes utf8 same found gives =
-    let p = part_taken r path taken pattern text names value rows one bytes utf8 same found gives in by r p.0 p.1
-  where
-    by : (o : Option (Bor (List ℕ))) → IsStatePath path (drop 7 path) → MatchOption o ⊥ (λ part. part.now ≡ drop 7 path)
-        → IfSome o (λ part. IsPathOf state_path path part.now) × IfNone o ((part : List ℕ) → ¬ (IsPathOf state_path path part))
-    by None p e = absurd e
-    by (Some part) p e = (state_path_is path part.now (subst (IsStatePath path) (sym e) p), tt)
-
--- Where nothing matches the path is the one of no state.
-pub none_matches : (path : List ℕ) (rows : RowsOf (RouteOf Methods)) → rows ≡ state_routes → AreBytes path → first rows path ≡ None → (part : List ℕ)
-    → ¬ (IsPathOf state_path path part)
-none_matches path rows one bytes none part p =
-    cc (ap (λ t. first t path) one, none, state_path_matches path part bytes (is_state_path path part p))
+    by : (u : Bool) → starts_with nat_eq path (codes "/impact/") ≡ u → (v : Bool) → starts_with nat_eq path (codes "/state/") ≡ v
+        → map_key row_at (or_else (cond u (first impact_rows (drop 8 path)) None) (cond v (first state_rows (drop 7 path)) None)) ≡ Some row
+        → IsAnswered path row
+    by true a true b e =
+        absurd (differ_at (codes "/impact/" ++ drop 8 path) (codes "/state/" ++ drop 7 path) 1 105 115 refl refl (λ e. omega arith)
+        (sym (front_split (codes "/impact/") path a) ∙ front_split (codes "/state/") path b))
+    by true a false b e =
+        let parts = front_split (codes "/impact/") path a in
+        rest_of_impact path (drop 8 path) row parts (subst (λ t. get_or t 8 0 < 256) parts eighth)
+        (ap (map_key row_at) (sym (or_else-none (first impact_rows (drop 8 path)))) ∙ e)
+    by false a true b e =
+        let parts = front_split (codes "/state/") path b in
+        rest_of_state path (drop 7 path) row parts (subst (λ t. get_or t 7 0 < 256) parts seventh) e
+    by false a false b e = cc

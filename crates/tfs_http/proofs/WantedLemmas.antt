@@ -5,8 +5,9 @@ use Rattle.httparse.specs.Grammar.{LineEnd, print_blank}
 use Rattle.httparse.specs.Grammar.{RequestHead}
 use Rattle.tfs_http.specs.Request.{request_of}
 use Rattle.tfs_http.specs.Head.{HasHead, HasNoHead}
-use Rattle.tfs_http.specs.Body.{SpellsBody, HasNoBody, Reaches}
-use Rattle.tfs_http.specs.Framing.{ReadsHead, IsHeadRefused, IsUnfinished, BeginsWith, AreWanted}
+use Rattle.tfs_http.specs.Body.{SpellsBody, HasBadBody, HasNoBody, Reaches, refusal_of}
+use Rattle.tfs_http.specs.Framing.{ReadsHead, IsHeadRefused, IsUnfinished, BeginsWith, AreWanted, framing_refusal}
+use Rattle.tfs_http.specs.declared.part.Flaw.{Flaw}
 use Rattle.tfs_http.specs.declared.body.Extent.TheVariants.{Wanted, Whole}
 use Rattle.tfs_http.specs.declared.length.BodyLength.{BodyLength}
 use Rattle.tfs_http.specs.declared.length.BodyLength.TheVariants.{Sized}
@@ -18,7 +19,7 @@ unfinished_without_head bytes none few = record {
   no_message = λ frame rest r e m. none m.skipped m.head (m.coded ++ rest) (head_of_message bytes frame rest r e m);
   no_refusal = λ refusal p. elim p [
     | inl q ↦ let many = q.0 in omega arith
-    | inr q ↦ none q.skipped q.head q.rest q.has_head
+    | inr r ↦ elim r [ inl q ↦ none q.skipped q.head q.rest q.has_head | inr q ↦ none q.skipped q.head q.rest q.has_head ]
   ];
 }
 
@@ -39,10 +40,13 @@ wanted_without_head bytes none few = record {
 
 -- Too few bytes spell no body.
 pub too_few : (n : ℕ) (rest : List ℕ) → length rest < n → HasNoBody (Sized n) rest
-too_few n rest short coded body after e s =
-    let sizes = ap length e ∙ length-append coded after in
-    let one : length coded ≡ n = ap length s.0 ∙ s.1 in
-    omega arith
+too_few n rest short = record {
+  none = λ coded body after e s.
+      let sizes = ap length e ∙ length-append coded after in
+      let one : length coded ≡ n = ap length s.0 ∙ s.1 in
+      omega arith;
+  no_flaw = λ flaw bad. bad;
+}
 
 -- Behind a head that is read, its body is wanted.
 pub unfinished_without_body : (bytes : List ℕ) (skipped : List LineEnd) (head rest : List ℕ) (h : RequestHead) (n : BodyLength)
@@ -51,12 +55,19 @@ unfinished_without_body bytes skipped head rest h n has reads none = record {
   no_message = λ frame last r e m.
       let same = head_unique bytes skipped m.skipped head m.head rest (m.coded ++ last) has (head_of_message bytes frame last r e m) in
       let lines = reads_once head h m.h n m.size reads (subst (λ (t : List ℕ). ReadsHead t m.h m.size) (sym same.heads) m.reads) in
-      none m.coded m.body last same.rests (subst (λ (t : BodyLength). SpellsBody t m.coded m.body) (sym lines.1) m.spells);
+      none.none m.coded m.body last same.rests (subst (λ (t : BodyLength). SpellsBody t m.coded m.body) (sym lines.1) m.spells);
   no_refusal = λ refusal p. elim p [
     | inl q ↦ q.1 skipped head rest has
-    | inr q ↦
-        let same = head_unique bytes skipped q.skipped head q.head rest q.rest has q.has_head in
-        reads_not_refused head h n refusal reads (subst (λ (t : List ℕ). IsHeadRefused t refusal) (sym same.heads) q.refused)
+    | inr p ↦ elim p [
+      | inl q ↦
+          let same = head_unique bytes skipped q.skipped head q.head rest q.rest has q.has_head in
+          reads_not_refused head h n refusal reads (subst (λ (t : List ℕ). IsHeadRefused t refusal) (sym same.heads) q.refused)
+      | inr q ↦
+          let same = head_unique bytes skipped q.skipped head q.head rest q.rest has q.has_head in
+          let lines = reads_once head h q.h n q.size reads (subst (λ (t : List ℕ). ReadsHead t q.h q.size) (sym same.heads) q.reads) in
+          none.no_flaw q.flaw (subst (λ (t : List ℕ). HasBadBody n t q.flaw) (sym same.rests)
+          (subst (λ (t : BodyLength). HasBadBody t q.rest q.flaw) (sym lines.1) q.bad))
+    ]
   ];
 }
 
@@ -117,3 +128,19 @@ begins_with_request bytes skipped head rest coded after h size used has reads fr
     begins_with_message bytes skipped head rest coded r.1 after h size has reads
     (sym (take-append-drop used rest) ∙ ap (λ t. t ++ drop used rest) (sym front) ∙ ap (λ t. coded ++ t) (sym back))
     (subst (λ (t : List ℕ). SpellsBody size t r.1) (sym front) r.2)
+
+-- Behind a head that is read, with a bad body, the bytes are refused.
+pub refused_by_body : (bytes : List ℕ) (skipped : List LineEnd) (head rest : List ℕ) (h : RequestHead) (size : BodyLength) (flaw : Flaw)
+    → HasHead bytes skipped head rest → ReadsHead head h size → HasBadBody size rest flaw → framing_refusal bytes (refusal_of flaw)
+refused_by_body bytes skipped head rest h size flaw has reads bad = inr (inr (record {
+  skipped = skipped;
+  head = head;
+  rest = rest;
+  has_head = has;
+  h = h;
+  size = size;
+  reads = reads;
+  flaw = flaw;
+  bad = bad;
+  refused = refl;
+}))

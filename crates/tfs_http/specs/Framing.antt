@@ -2,12 +2,13 @@
 -- that more bytes are needed.
 use Rattle.std.specs.Prelude.{◌≡◌, ℕ, ◌≤◌, ◌<◌, ◌⊎◌, List, ◌++◌, length, Ok, Err}
 use Rattle.httparse.specs.Grammar.{LineEnd, RequestHead}
-use Rattle.tfs_table.specs.declared.refusal.Refusal.{Refusal}
-use Rattle.tfs_table.specs.declared.refusal.Refusal.TheVariants.{HeadTooLarge, BadHead}
+use Rattle.tfs_calls.specs.declared.refusal.Refusal.{Refusal}
+use Rattle.tfs_calls.specs.declared.refusal.Refusal.TheVariants.{HeadTooLarge, BadHead}
 use Rattle.tfs_http.specs.Head.{HasHead, HasNoHead, IsHeadOf, line_feeds}
-use Rattle.tfs_http.specs.Body.{body_length, SpellsBody}
+use Rattle.tfs_http.specs.Body.{body_length, SpellsBody, HasBadBody, refusal_of}
 use Rattle.tfs_http.specs.Request.{RequestValue, request_of}
 use Rattle.tfs_http.specs.declared.length.BodyLength.{BodyLength}
+use Rattle.tfs_http.specs.declared.part.Flaw.{Flaw}
 use Rattle.tfs_http.specs.declared.taken.Take.{Take}
 use Rattle.tfs_http.specs.declared.taken.Take.TheVariants.{Need, Got, Fault}
 use Rattle.tfs_http.specs.declared.taken.Framed.{Framed}
@@ -45,9 +46,23 @@ pub record HasRefusedHead (bytes : List ℕ) (refusal : Refusal) : Type 0 where
   pub has_head : HasHead bytes skipped head rest
   pub refused : IsHeadRefused head refusal
 
--- The refusal of bytes: no head ends in time, or the head is refused.
+-- What comes behind the head that the bytes have can't be the body that it says.
+pub record HasRefusedBody (bytes : List ℕ) (refusal : Refusal) : Type 0 where
+  pub skipped : List LineEnd
+  pub head : List ℕ
+  pub rest : List ℕ
+  pub has_head : HasHead bytes skipped head rest
+  pub h : RequestHead
+  pub size : BodyLength
+  pub reads : ReadsHead head h size
+  pub flaw : Flaw
+  pub bad : HasBadBody size rest flaw
+  pub refused : refusal ≡ refusal_of flaw
+
+-- The refusal of bytes: no head ends in time, or the head is refused, or what comes behind it.
 abbrev pub framing_refusal : List ℕ → Refusal → Type 0
-framing_refusal bytes refusal = ((16384 ≤ length bytes) × HasNoHead bytes × (refusal ≡ HeadTooLarge)) ⊎ HasRefusedHead bytes refusal
+framing_refusal bytes refusal = ((16384 ≤ length bytes) × HasNoHead bytes × (refusal ≡ HeadTooLarge))
+    ⊎ (HasRefusedHead bytes refusal ⊎ HasRefusedBody bytes refusal)
 
 -- The bytes neither begin with a message nor have a refusal.
 pub record IsUnfinished (bytes : List ℕ) : Type 0 where

@@ -1,5 +1,7 @@
 pub mod Head
 pub mod Fields
+pub mod Chunks
+pub mod Parts
 pub mod Body
 pub mod Connection
 pub mod Lines

@@ -1,5 +1,5 @@
 -- The query of a target (RFC 9112, section 3.2.1), read as a form (URL Standard, section 5).
-use Rattle.std.specs.Prelude.{◌==◌, ℕ, List, [], ◌∷◌, codes, Option, Some, None, if◌then◌else◌}
+use Rattle.std.specs.Prelude.{◌==◌, ℕ, List, [], ◌∷◌, map, filter, codes, Option, Some, None, if◌then◌else◌}
 use Rattle.std.specs.List.{after_first}
 use Rattle.std.specs.Str.{bytes_eq}
 use Rattle.std.specs.Str.Lossy.{utf8_lossy}
@@ -25,3 +25,11 @@ first_value name (pair ∷ pairs) = if bytes_eq (decoded pair.0) name then Some 
 -- The parameter `ID` of a target.
 abbrev pub identifier_parameter : List ℕ → Option (List ℕ)
 identifier_parameter target = first_value (codes "ID") (raw_pairs (query_of target))
+
+-- The values of all pairs with this name, in order.
+abbrev pub all_values : List ℕ → List (List ℕ × List ℕ) → List (List ℕ)
+all_values name pairs = map (λ pair. decoded pair.1) (filter (λ pair. bytes_eq (decoded pair.0) name) pairs)
+
+-- The parameters `of` of a target.
+abbrev pub texts_parameter : List ℕ → List (List ℕ)
+texts_parameter target = all_values (codes "of") (raw_pairs (query_of target))

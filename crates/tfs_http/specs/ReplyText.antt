@@ -1,8 +1,14 @@
 -- The text of a reply (RFC 9112, section 4). Each line ends with CR LF.
-use Rattle.std.specs.Prelude.{ℕ, ◌==◌, nat_lt, List, [], ◌∷◌, ◌++◌, length, find, codes, decimal, if◌then◌else◌}
+use Rattle.std.specs.Prelude.{ℕ, ◌==◌, nat_lt, List, [], ◌∷◌, ◌++◌, length, find, codes, decimal, option_map, if◌then◌else◌}
+use Rattle.std.specs.List.{filter_map}
 use Rattle.std.specs.Option.{option_map_or}
-use Rattle.tfs_table.specs.Reply.{ReplyValue, done, state, refused}
-use Rattle.tfs_table.specs.Refusal.{RefusalValue, locked, method_not_allowed, row_of}
+use Rattle.serde_json.specs.Data.{Data, unsigned, number, string, array, object, member, no_members}
+use Rattle.serde_json.specs.View.{items_of}
+use Rattle.serde_json.specs.Written.{compact_text}
+use Rattle.tfs_state.specs.Document.{Document}
+use Rattle.tfs_state.specs.Dependency.{address_of}
+use Rattle.tfs_calls.specs.Reply.{ReplyValue, done, state, impact, refused}
+use Rattle.tfs_calls.specs.Refusal.{RefusalValue, locked, method_not_allowed, row_of}
 use Rattle.tfs_http.specs.Routing.{methods_of}
 use Rattle.tfs_http.specs.declared.form.Form.{Form}
 
@@ -35,6 +41,7 @@ phrase_of status = option_map_or (λ row. row.1) (find (λ row. status == row.0)
 abbrev pub status_of : ReplyValue → ℕ
 status_of (done position) = 200
 status_of (state d) = 200
+status_of (impact d chosen position) = 200
 status_of (refused refusal) = (row_of refusal).status
 
 -- The version, the status and its phrase.
@@ -73,10 +80,26 @@ abbrev pub refusal_body : RefusalValue → List ℕ
 refusal_body (locked info) = info.bytes
 refusal_body refusal = name_body refusal
 
+-- The addresses of the instances of these numbers in a document, as JSON texts in the order of the numbers. (A number of no
+-- instance has none.)
+abbrev pub address_texts : Document → List ℕ → List Data
+address_texts d chosen = filter_map (λ i. option_map string (address_of d i)) chosen
+
+-- JSON with the addresses of the chosen instances, the position of the journal, and the serial of the document.
+abbrev pub impact_data : Document → List ℕ → ℕ → Data
+impact_data d chosen position = object
+    (member (codes "instances") (array (items_of (address_texts d chosen)))
+    (member (codes "position") (number (unsigned position)) (member (codes "serial") (number (unsigned d.serial)) no_members)))
+
+-- The text of that JSON, with no spaces.
+abbrev pub impact_body : Document → List ℕ → ℕ → List ℕ
+impact_body d chosen position = compact_text (impact_data d chosen position)
+
 -- The body of a reply: of a state its bytes.
 abbrev pub body_of : ReplyValue → List ℕ
 body_of (done position) = []
 body_of (state d) = d.bytes
+body_of (impact d chosen position) = impact_body d chosen position
 body_of (refused refusal) = refusal_body refusal
 
 -- The status line, the fields and the empty line, of a status, its line of methods, a form and a body.

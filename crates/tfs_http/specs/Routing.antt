@@ -5,16 +5,20 @@ use Rattle.std.specs.Str.{IsUtf8}
 use Rattle.matchit.specs.Rows.{RowsOf, param_token}
 use Rattle.matchit.specs.Router.{RouteOf}
 use Rattle.tfs_rules.specs.Name.{IsName}
-use Rattle.tfs_table.specs.declared.call.Call.{Call}
-use Rattle.tfs_table.specs.declared.call.Call.TheVariants.{Read, Change}
-use Rattle.tfs_table.specs.declared.call.Raw.{Raw}
-use Rattle.tfs_table.specs.declared.call.Raw.TheVariants.{Lock, Unlock, Push, Delete}
-use Rattle.tfs_table.specs.declared.refusal.Methods.{Methods}
-use Rattle.tfs_table.specs.declared.refusal.Methods.TheVariants.{State}
-use Rattle.tfs_table.specs.declared.refusal.Refusal.{Refusal}
-use Rattle.tfs_table.specs.declared.refusal.Refusal.TheVariants.{NoRoute, MethodNotAllowed, BadName, BadDigest}
+use Rattle.tfs_calls.specs.declared.call.Call.{Call}
+use Rattle.tfs_calls.specs.declared.call.Call.TheVariants.{Read, Change, Impact}
+use Rattle.tfs_calls.specs.declared.call.Raw.{Raw}
+use Rattle.tfs_calls.specs.declared.call.Raw.TheVariants.{Lock, Unlock, Push, Delete}
+use Rattle.tfs_calls.specs.declared.refusal.Methods.{Methods}
+use Rattle.tfs_calls.specs.declared.refusal.Methods.TheVariants as methods
+use Rattle.tfs_calls.specs.declared.query.Kind.{Kind}
+use Rattle.tfs_calls.specs.declared.query.Kind.TheVariants.{Any, All}
+use Rattle.tfs_calls.specs.declared.refusal.Refusal.{Refusal}
+use Rattle.tfs_calls.specs.declared.refusal.Refusal.TheVariants.{NoRoute, MethodNotAllowed, BadName, BadDigest}
 use Rattle.tfs_http.specs.Request.{RequestValue}
-use Rattle.tfs_http.specs.Query.{question_mark, identifier_parameter}
+use Rattle.tfs_http.specs.Query.{question_mark, identifier_parameter, texts_parameter}
+use Rattle.tfs_http.specs.declared.routes.Served.{Served}
+use Rattle.tfs_http.specs.declared.routes.Served.TheVariants as served
 
 -- The byte `/`.
 abbrev pub slash : ℕ
@@ -32,15 +36,25 @@ pub record Route : Type 0 where
 
 -- The route of a state, `/state/{name}`.
 abbrev pub state_path : Route
-state_path = record { front = codes "/state/"; back = []; methods = State }
+state_path = record { front = codes "/state/"; back = []; methods = methods.State }
+
+-- What stands behind the name in the path of a query of this kind.
+abbrev pub kind_part : Kind → List ℕ
+kind_part Any = codes "/any"
+kind_part All = codes "/all"
+
+-- The routes of queries for the impact of changes, `/impact/{name}/any` and `/impact/{name}/all`.
+abbrev pub impact_path : Kind → Route
+impact_path kind = record { front = codes "/impact/"; back = kind_part kind; methods = methods.Impact }
 
 -- The routes.
 abbrev pub routes : List Route
-routes = state_path ∷ []
+routes = state_path ∷ impact_path Any ∷ impact_path All ∷ []
 
 -- The methods of a route, in the order of their letters (RFC 9110, sections 9.1 and 9.3; Terraform, http backend).
 abbrev pub methods_of : Methods → List (List ℕ)
-methods_of State = codes "DELETE" ∷ codes "GET" ∷ codes "LOCK" ∷ codes "POST" ∷ codes "UNLOCK" ∷ []
+methods_of methods.State = codes "DELETE" ∷ codes "GET" ∷ codes "LOCK" ∷ codes "POST" ∷ codes "UNLOCK" ∷ []
+methods_of methods.Impact = codes "GET" ∷ []
 
 -- The text is one of these, byte for byte.
 abbrev pub IsOneOf : List ℕ → List (List ℕ) → Type 0
@@ -78,9 +92,11 @@ HasChange r (Delete id) = (r.method ≡ codes "DELETE") × (id ≡ identifier_pa
 HasChange r (Lock body) = (r.method ≡ codes "LOCK") × (body ≡ r.body)
 HasChange r (Unlock body id) = (r.method ≡ codes "UNLOCK") × (body ≡ r.body) × (id ≡ identifier_parameter r.target)
 
--- The request has the call: GET reads a state, and the other methods change its workspace.
+-- The request has the call: GET of a state reads it, the other methods change its workspace, and GET of an impact asks the query
+-- of the texts that are the parameters `of`, in order.
 abbrev pub HasCall : RequestValue → Call → Type 0
 HasCall r (Read name) = IsSound r state_path name × (r.method ≡ codes "GET")
+HasCall r (Impact name query) = IsSound r (impact_path query.kind) name × (r.method ≡ codes "GET") × (query.texts ≡ texts_parameter r.target)
 HasCall r (Change name raw) = IsSound r state_path name × HasChange r raw
 
 -- The first refusal of a request: its target has no route, or the route doesn't take its method, or the part is no name, or
@@ -98,10 +114,27 @@ abbrev pub RoutesTo : RequestValue → Result Call Refusal → Type 0
 RoutesTo r (Ok call) = HasCall r call
 RoutesTo r (Err refusal) = routing_refusal r refusal
 
--- The route of a state, as `matchit` has it: the pattern of `/state/{name}`, where its name stands, and its methods.
-abbrev pub state_route : RouteOf Methods
-state_route = record { pattern = codes "/state/" ++ param_token ∷ []; text = codes "/state/{name}"; names = (8, 12) ∷ []; value = State }
+-- The route of what is served.
+abbrev pub route_of : Served → Route
+route_of served.State = state_path
+route_of (served.Impact kind) = impact_path kind
 
--- A router that has the routes.
-abbrev pub state_routes : RowsOf (RouteOf Methods)
-state_routes = (state_route.pattern, state_route) ∷ []
+-- The route of a state, as `matchit` has it: the pattern of `/state/{name}`, where its name stands, and what it serves.
+abbrev pub state_row : RouteOf Served
+state_row = record { pattern = codes "/state/" ++ param_token ∷ []; text = codes "/state/{name}"; names = (8, 12) ∷ []; value = served.State }
+
+-- The same of `/impact/{name}/any` and `/impact/{name}/all`.
+abbrev pub impact_row : Kind → RouteOf Served
+impact_row kind = record {
+  pattern = codes "/impact/" ++ param_token ∷ kind_part kind;
+  text = codes "/impact/{name}" ++ kind_part kind;
+  names = (9, 13) ∷ [];
+  value = served.Impact kind;
+}
+
+-- The rows of a router that has the routes.
+abbrev pub route_rows : RowsOf (RouteOf Served)
+route_rows = ((impact_row All).pattern, impact_row All)
+    ∷ ((impact_row Any).pattern, impact_row Any)
+    ∷ (state_row.pattern, state_row)
+    ∷ []

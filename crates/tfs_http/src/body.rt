@@ -3,7 +3,9 @@
 ghost use Rattle.std.specs.Prelude.{◌≡◌, ℕ, List, IfOk};
 ghost use Rattle.tfs_http.specs.Body.{Fits, Reaches, SpellsBody};
 
+use crate::chunks::{chunks_end, join_chunks};
 use crate::length::BodyLength;
+use crate::part::Flaw;
 use std::alloc::{AllocError, Global};
 
 /// How far a body reaches.
@@ -13,6 +15,8 @@ pub(crate) enum Extent {
     Wanted(usize),
     /// It takes so many bytes.
     Whole(usize),
+    /// The bytes don't begin with a body.
+    Flawed(Flaw),
 }
 
 /// How far the body reaches in the bytes behind a head.
@@ -29,6 +33,7 @@ pub(crate) fn body_end(size: BodyLength, rest: &[u8]) -> Extent
                 Extent::Whole(size)
             }
         }
+        BodyLength::Chunked => chunks_end(rest),
     }
 }
 
@@ -43,5 +48,6 @@ pub(crate) fn read_body(
     match size {
         BodyLength::Absent => Ok(Vec::new(alloc)),
         BodyLength::Sized(_) => Vec::from_slice(alloc, coded),
+        BodyLength::Chunked => join_chunks(alloc, coded),
     }
 }

@@ -2,7 +2,7 @@
 
 ghost use Rattle.std.specs.Prelude.{◌≡◌, ℕ, List, IfOk, OnErr};
 ghost use Rattle.httparse.specs.Grammar.{RequestHead};
-ghost use Rattle.tfs_http.specs.Body.{SpellsBody};
+ghost use Rattle.tfs_http.specs.Body.{SpellsBody, refusal_of};
 ghost use Rattle.tfs_http.specs.Lines.{IsToldBy};
 ghost use Rattle.tfs_http.specs.Framing.{BeginsWith, Frames, FramesOrWants};
 ghost use Rattle.tfs_http.specs.Request.{RequestValue, request_of};
@@ -12,10 +12,11 @@ use crate::digest::fits_digest;
 use crate::head::find_head;
 use crate::limits::MAX_HEAD_BYTES;
 use crate::lines::{Lines, read_head};
+use crate::part::Flaw;
 use crate::request::Request;
 use crate::taken::{Framed, Take};
 use std::alloc::{AllocError, Global};
-use tfs_table::Refusal;
+use tfs_calls::Refusal;
 
 /// What the bytes begin with: a message with its length, its refusal, or neither yet. The answer to a message's own bytes
 /// is that message, whatever comes behind it.
@@ -48,10 +49,21 @@ pub fn frame(alloc: Global, bytes: &[u8]) -> Result<Framed, AllocError>
     let used = match body_end(lines.size, rest) {
         Extent::Wanted(wanted) => return Ok(Framed::Want(bytes.len() - rest.len() + wanted)),
         Extent::Whole(used) => used,
+        Extent::Flawed(flaw) => return Ok(Framed::Fault(refusal_of(flaw))),
     };
     let (coded, after) = rest.split_at(used);
     let request = read_request(alloc, lines, coded)?;
     Ok(Framed::Got(request, bytes.len() - after.len()))
+}
+
+/// The refusal of bytes that begin with no body.
+fn refusal_of(flaw: Flaw) -> Refusal
+    ensures { result ≡ refusal_of flaw }
+{
+    match flaw {
+        Flaw::TooLarge => Refusal::BodyTooLarge,
+        Flaw::Unreadable => Refusal::BadChunk,
+    }
 }
 
 /// The request of a head and the coded bytes of its body.

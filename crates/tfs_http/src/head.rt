@@ -36,7 +36,7 @@ fn skip_empty_lines(bytes: &[u8]) -> &[u8]
 }
 
 /// The length of the shortest part that ends with an empty line.
-fn head_len(bytes: &[u8]) -> Option<usize>
+pub(crate) fn head_len(bytes: &[u8]) -> Option<usize>
     ensures found { IfSome result (λ n. (head : List ℕ) × (rest : List ℕ) × (bytes.now ≡ head ++ rest)
         × (length head ≡ n) × IsMessageHead head) }
     ensures absent { IfNone result ((part rest : List ℕ) → bytes.now ≡ part ++ rest → ¬ (EndsWithEmptyLine part)) }

@@ -6,12 +6,12 @@ ghost use Rattle.http_header.specs.FieldValue.{IsFieldValue};
 ghost use Rattle.httparse.specs.Grammar.{RequestHead, field_value};
 ghost use Rattle.tfs_http.specs.Head.{IsHeadOf};
 ghost use Rattle.tfs_http.specs.Framing.{Frames, IsUnfinished};
-ghost use Rattle.tfs_table.specs.declared.call.Call.{Call};
-ghost use Rattle.tfs_table.specs.declared.refusal.Refusal.{Refusal};
+ghost use Rattle.tfs_calls.specs.declared.call.Call.{Call};
+ghost use Rattle.tfs_calls.specs.declared.refusal.Refusal.{Refusal};
 ghost use Rattle.tfs_http.specs.Request.{RequestValue};
 ghost use Rattle.tfs_http.specs.Routing.{RoutesTo};
 ghost use Rattle.tfs_http.specs.ReplyText.{phrase_of, status_of};
-ghost use Rattle.tfs_table.specs.Reply.{ReplyValue};
+ghost use Rattle.tfs_calls.specs.Reply.{ReplyValue};
 ghost use Rattle.tfs_http.specs.declared.taken.Take.{Take};
 ghost use Rattle.tfs_http.specs.declared.taken.Take.TheVariants.{Need};
 

@@ -5,13 +5,13 @@ ghost use Rattle.std.specs.List.{list_all};
 ghost use Rattle.std.specs.Char.{is_ascii_digit};
 ghost use Rattle.httparse.specs.Spans.{IsHeaderWithin, header_bytes};
 ghost use Rattle.tfs_http.specs.Fields.{TellsValues};
-ghost use Rattle.tfs_http.specs.Body.{length_of_text, length_told, length_of_fields, names_host};
+ghost use Rattle.tfs_http.specs.Body.{length_of_coding, length_of_text, length_told, length_of_fields, names_host};
 
-use crate::fields::{Values, values_named};
+use crate::fields::{Values, is_word, values_named};
 use crate::limits::MAX_BODY_BYTES;
 use httparse::spans::HeaderSpan;
 use std::str;
-use tfs_table::Refusal;
+use tfs_calls::Refusal;
 
 /// How long a body is.
 #[derive(Clone, Copy)]
@@ -20,6 +20,8 @@ pub(crate) enum BodyLength {
     Absent,
     /// So many bytes.
     Sized(usize),
+    /// As many as its chunks have.
+    Chunked,
 }
 
 /// What the version and the fields of a head say of the body, or the first refusal. The spans of the fields lie in the head.
@@ -35,6 +37,7 @@ pub(crate) fn body_length(
         return Err(Refusal::NoHost);
     }
     length_told(
+        minor,
         values_named(head, fields, b"content-length"),
         values_named(head, fields, b"transfer-encoding"),
     )
@@ -51,15 +54,27 @@ fn names_host(minor: u8, hosts: Values<'_>) -> bool
     }
 }
 
-/// The length, from the values of the `Content-Length` and of the `Transfer-Encoding` fields.
-fn length_told(lengths: Values<'_>, codings: Values<'_>) -> Result<BodyLength, Refusal>
-    ensures { (texts others : List (List ℕ)) → TellsValues lengths.entry texts → TellsValues codings.entry others → result ≡ length_told texts others }
+/// The length, from the version and from the values of the `Content-Length` and of the `Transfer-Encoding` fields.
+fn length_told(minor: u8, lengths: Values<'_>, codings: Values<'_>) -> Result<BodyLength, Refusal>
+    ensures { (texts others : List (List ℕ)) → TellsValues lengths.entry texts → TellsValues codings.entry others → result ≡ length_told minor texts others }
 {
     match (lengths, codings) {
         (Values::Absent, Values::Absent) => Ok(BodyLength::Absent),
-        (Values::Absent, _) => Err(Refusal::TransferCoding),
+        (Values::Absent, Values::One(coding)) => length_of_coding(minor, coding),
+        (Values::Absent, Values::Several) => Err(Refusal::TransferCoding),
         (Values::One(text), Values::Absent) => length_of_text(text),
         _ => Err(Refusal::BadLength),
+    }
+}
+
+/// The length that the only transfer coding gives.
+fn length_of_coding(minor: u8, coding: &[u8]) -> Result<BodyLength, Refusal>
+    ensures { result ≡ length_of_coding minor coding.now }
+{
+    if minor == 1 && is_word(coding, b"chunked") {
+        Ok(BodyLength::Chunked)
+    } else {
+        Err(Refusal::TransferCoding)
     }
 }
 

@@ -2,7 +2,9 @@
 //! A request reads, pushes or deletes a state, or takes or gives back its lock.
 #![tactic(auto)]
 
+mod answer;
 mod body;
+mod chunks;
 mod connection;
 mod digest;
 mod fields;
@@ -13,6 +15,7 @@ mod laws;
 mod length;
 mod limits;
 mod lines;
+mod part;
 mod query;
 mod reply;
 mod request;
@@ -27,7 +30,10 @@ pub use laws::{
     each_field_is_one_of_http_header, each_status_has_its_phrase,
     what_becomes_of_a_request_is_one_thing, what_bytes_begin_with_is_one_thing_and_stays,
 };
-pub use limits::{MAX_BODY_BYTES, MAX_FIELDS, MAX_HEAD_BYTES, MAX_HEAD_LINES};
+pub use limits::{
+    MAX_BODY_BYTES, MAX_CHUNK_LINE_BYTES, MAX_CHUNKS, MAX_FIELDS, MAX_HEAD_BYTES, MAX_HEAD_LINES,
+    MAX_TRAILER_BYTES,
+};
 pub use reply::write_reply;
 pub use request::Request;
 pub use routes::{Routes, call_of};

@@ -11,3 +11,12 @@ pub const MAX_FIELDS: usize = 64;
 
 /// The most bytes of a body: 16 MiB.
 pub const MAX_BODY_BYTES: usize = 16_777_216;
+
+/// The most chunks of a body.
+pub const MAX_CHUNKS: usize = 65_536;
+
+/// The most bytes of a chunk line, with its line end.
+pub const MAX_CHUNK_LINE_BYTES: usize = 1_024;
+
+/// The most bytes of a trailer, with its empty line.
+pub const MAX_TRAILER_BYTES: usize = 16_384;

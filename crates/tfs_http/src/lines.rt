@@ -14,7 +14,7 @@ use crate::length::{BodyLength, body_length};
 use crate::limits::{MAX_FIELDS, MAX_HEAD_LINES};
 use httparse::Status;
 use httparse::spans::{EMPTY_HEADER_SPAN, HeaderSpan, RequestSpans, parse_request};
-use tfs_table::Refusal;
+use tfs_calls::Refusal;
 
 /// What a head says.
 #[derive(Clone, Copy)]

@@ -5,10 +5,11 @@ ghost use Rattle.std.specs.Cow.{cow_str_bytes};
 ghost use Rattle.std.specs.Str.{bytes_eq};
 ghost use Rattle.form_urlencoded.specs.Form as form;
 ghost use Rattle.form_urlencoded.specs.Parse.{raw_pairs_left};
-ghost use Rattle.tfs_http.specs.Query.{query_of, decoded, first_value, identifier_parameter};
+ghost use Rattle.tfs_http.specs.Query.{query_of, decoded, first_value, identifier_parameter, all_values, texts_parameter};
 
 use form_urlencoded::{RawPairs, decode, raw_pairs};
 use std::alloc::{AllocError, Global};
+use tfs_calls::{Text, Texts};
 
 /// The value of the first parameter `ID` of a target, decoded as the text of a form (URL Standard, section 5).
 pub(crate) fn identifier_parameter(
@@ -18,6 +19,27 @@ pub(crate) fn identifier_parameter(
     ensures { IfOk result (λ id. option_map string_bytes id ≡ identifier_parameter target.now) }
 {
     first_value(alloc, raw_pairs(query_of(target).as_bytes()), "ID")
+}
+
+/// The values of all parameters `of` of a target, in order, decoded as the texts of a form (URL Standard, section 5).
+pub(crate) fn texts_parameter(alloc: Global, target: &str) -> Result<Texts, AllocError>
+    ensures { IfOk result (λ texts. texts ≡ texts_parameter target.now) }
+{
+    let values = all_values(alloc, raw_pairs(query_of(target).as_bytes()), "of")?;
+    Ok(Texts::new(values))
+}
+
+/// The values of all pairs with this name, decoded.
+fn all_values(alloc: Global, pairs: RawPairs<'_>, called: &str) -> Result<Vec<Text>, AllocError>
+    ensures { IfOk result (λ values. values.items ≡ all_values called.now (raw_pairs_left pairs.entry)) }
+{
+    let mut values = Vec::new(alloc);
+    for (name, value) in pairs {
+        if is_called(alloc, name, called)? {
+            values.push(Text::new(decoded(alloc, value)?))?;
+        }
+    }
+    Ok(values)
 }
 
 /// The value of the first pair with this name, decoded.

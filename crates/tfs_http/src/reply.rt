@@ -1,13 +1,14 @@
 //! The texts of replies (RFC 9112, section 4).
 
 ghost use Rattle.std.specs.Prelude.{◌≡◌, ◌++◌, [], string_bytes, OnOk, OnErr, IfOk, if◌then◌else◌};
-ghost use Rattle.tfs_table.specs.Refusal.{refusal_value};
-ghost use Rattle.tfs_table.specs.Reply.{reply_value, refused};
+ghost use Rattle.tfs_calls.specs.Refusal.{refusal_value};
+ghost use Rattle.tfs_calls.specs.Reply.{reply_value, refused};
 ghost use Rattle.tfs_http.specs.ReplyText.{phrase_of, status_of, allow_line, close_line, type_line, head_text, name_body, reply_text};
 
+use crate::answer::impact_body;
 use crate::form::Form;
 use std::alloc::{AllocError, Global};
-use tfs_table::{Methods, Refusal, Reply};
+use tfs_calls::{Methods, Refusal, Reply};
 
 /// The status of an answer that is no refusal (RFC 9110, section 15.3.1).
 const OK: u16 = 200;
@@ -25,6 +26,10 @@ pub fn write_reply(
     match reply {
         Reply::Done(_) => write_parts(alloc, OK, "", form, b"", out),
         Reply::State(doc) => write_parts(alloc, OK, "", form, doc.bytes(), out),
+        Reply::Impact(answer) => {
+            let body = impact_body(alloc, answer)?;
+            write_parts(alloc, OK, "", form, body.as_bytes(), out)
+        }
         Reply::Refused(refusal) => write_refusal(alloc, refusal, form, out),
     }
 }
@@ -146,8 +151,11 @@ fn phrase(status: u16) -> &'static str
 fn allow_line(refusal: &Refusal) -> &'static str
     ensures { result.now ≡ allow_line (refused (refusal_value refusal.now)) }
 {
-    if let Refusal::MethodNotAllowed(Methods::State) = refusal {
-        return "Allow: DELETE, GET, LOCK, POST, UNLOCK\r\n";
+    if let Refusal::MethodNotAllowed(methods) = refusal {
+        return match methods {
+            Methods::State => "Allow: DELETE, GET, LOCK, POST, UNLOCK\r\n",
+            Methods::Impact => "Allow: GET\r\n",
+        };
     }
     ""
 }

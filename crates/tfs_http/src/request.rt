@@ -6,7 +6,7 @@ ghost use Rattle.tfs_http.specs.Request.{RequestValue};
 use crate::form::Form;
 use std::alloc::{AllocError, Global};
 use std::marker::Model;
-use tfs_table::Bytes;
+use tfs_calls::Bytes;
 
 /// A request: its method, its target and its body, as they came; whether the conversation is to end after the reply; and
 /// whether the body has the digest that the head tells, if it tells one.

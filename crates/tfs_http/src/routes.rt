@@ -1,64 +1,86 @@
 //! From a request to a call.
 
-ghost use Rattle.std.specs.Prelude.{◌≡◌, ◌≢◌, ℕ, List, codes, IfOk, IfErr, IfSome, IfNone};
-ghost use Rattle.tfs_table.specs.declared.refusal.Methods.TheVariants.{State};
+ghost use Rattle.std.specs.Prelude.{◌≡◌, ◌≢◌, ℕ, List, codes, Contains, IfOk, IfErr, IfSome, IfNone};
+ghost use Rattle.tfs_calls.specs.declared.refusal.Methods.TheVariants.{State};
 ghost use Rattle.tfs_rules.specs.Name.{IsName};
-ghost use Rattle.tfs_table.specs.declared.refusal.Refusal.TheVariants.{OutOfMemory, BadName};
-ghost use Rattle.tfs_http.specs.Query.{identifier_parameter};
-ghost use Rattle.tfs_http.specs.Routing.{path_of, Route, IsPathOf, HasRoute, IsTaken, IsOneOf, HasCall, methods_of, routing_refusal, state_path, state_routes};
+ghost use Rattle.tfs_calls.specs.declared.refusal.Refusal.TheVariants.{OutOfMemory, BadName};
+ghost use Rattle.tfs_http.specs.Query.{identifier_parameter, texts_parameter};
+ghost use Rattle.tfs_http.specs.Routing.{path_of, Route, IsPathOf, HasRoute, IsTaken, IsOneOf, HasCall, methods_of, routing_refusal, routes as all_routes};
+ghost use Rattle.tfs_http.specs.Routing.{impact_path, route_of, route_rows};
 
-use crate::query::identifier_parameter;
+use crate::query::{identifier_parameter, texts_parameter};
 use crate::request::Request;
-use matchit::Router;
+use matchit::{InsertError, Router};
 use std::alloc::{AllocError, Global};
 use std::marker::Model;
 use std::str;
+use tfs_calls::{Call, Kind, Methods, Query, Raw, Refusal, Text, Texts};
 use tfs_rules::Name;
-use tfs_table::{Call, Methods, Raw, Refusal, Text};
 
-/// The routes of the server: `/state/{name}`.
+/// What a route serves.
+#[derive(Clone, Copy)]
+pub(crate) enum Served {
+    /// The state of a workspace.
+    State,
+    /// The impact of changes in it.
+    Impact(Kind),
+}
+
+/// The routes of the server: `/state/{name}`, `/impact/{name}/any` and `/impact/{name}/all`.
 #[derive(Drop)]
 pub struct Routes {
-    router: Router<Methods>,
+    router: Router<Served>,
 }
 
 impl Model for Routes {
     ghost use Rattle.std.specs.Prelude.{◌≡◌};
     ghost use Rattle.matchit.specs.Rows.{RowsOf};
     ghost use Rattle.matchit.specs.Router.{RouteOf};
-    ghost use Rattle.tfs_table.specs.declared.refusal.Methods.{Methods};
-    ghost use Rattle.tfs_http.specs.Query.{identifier_parameter};
-    ghost use Rattle.tfs_http.specs.Routing.{state_routes};
+    ghost use Rattle.tfs_http.specs.declared.routes.Served.{Served};
+    ghost use Rattle.tfs_http.specs.Routing.{route_rows};
 
-    ghost Value = { RowsOf (RouteOf Methods) };
+    ghost Value = { RowsOf (RouteOf Served) };
 
     ghost view = { λ r. r.router };
 
-    ghost invariant = { λ r. r.router ≡ state_routes };
+    ghost invariant = { λ r. r.router ≡ route_rows };
 }
 
 impl Routes {
-    /// The routes, or an error where a request for memory is refused: nothing else is wrong with the route.
+    /// The routes, or an error where a request for memory is refused: nothing else is wrong with them.
     pub fn new(alloc: Global) -> Result<Routes, AllocError>
-        ensures ok { IfOk result (λ routes. routes ≡ state_routes) }
+        ensures ok { IfOk result (λ routes. routes ≡ route_rows) }
     {
-        let mut router = Router::new(alloc);
-        match router.insert("/state/{name}", Methods::State) {
-            Ok(()) => Ok(Routes { router }),
+        match build(alloc) {
+            Ok(router) => Ok(Routes { router }),
             Err(_) => Err(AllocError),
         }
     }
 
-    /// What stands for `{name}` in the path of a state.
-    fn part<'p>(&self, path: &'p str) -> Option<&'p str>
-        ensures found { IfSome result (λ part. IsPathOf state_path path.now part.now) }
-        ensures absent { IfNone result ((part : List ℕ) → ¬ (IsPathOf state_path path.now part)) }
+    /// What the route of a path serves, and what stands for `{name}` in it.
+    fn find<'p>(&self, path: &'p str) -> Option<(Served, &'p str)>
+        ensures found { IfSome result (λ found. IsPathOf (route_of found.0) path.now found.1.now) }
+        ensures absent { IfNone result ((route : Route) (part : List ℕ) → Contains all_routes route → ¬ (IsPathOf route path.now part)) }
     {
-        match self.router.at(path) {
-            Ok(found) => found.params.get("name"),
-            Err(_) => None,
+        let Ok(found) = self.router.at(path) else {
+            return None;
+        };
+        match found.params.get("name") {
+            Some(part) => Some((*found.value, part)),
+            None => None,
         }
     }
+}
+
+/// A router with the routes.
+fn build(alloc: Global) -> Result<Router<Served>, InsertError>
+    ensures { IfOk result (λ router. router ≡ route_rows) }
+{
+    let mut router = Router::new(alloc);
+    router.insert("/state/{name}", Served::State)?;
+    router.insert("/impact/{name}/any", Served::Impact(Kind::Any))?;
+    router.insert("/impact/{name}/all", Served::Impact(Kind::All))?;
+    Ok(router)
 }
 
 /// The call of a request, or its first refusal in the order of their numbers. Memory is asked for only where the target has a
@@ -69,9 +91,12 @@ pub fn call_of(alloc: Global, routes: &Routes, request: Request) -> Result<Call,
     ensures memory { IfErr result (λ refusal. refusal ≡ OutOfMemory
         → (route : Route) × (part : List ℕ) × IsTaken request route part) }
 {
-    let Some((target, part)) = named_state(routes, request.target()) else {
+    let Some((served, target, part)) = route_target(routes, request.target()) else {
         return Err(Refusal::NoRoute);
     };
+    if let Served::Impact(kind) = served {
+        return call_of_impact(alloc, &request, kind, target, part);
+    }
     let Some(method) = method_of(request.method()) else {
         return Err(Refusal::MethodNotAllowed(Methods::State));
     };
@@ -97,16 +122,41 @@ pub fn call_of(alloc: Global, routes: &Routes, request: Request) -> Result<Call,
     }
 }
 
-/// The target, and the part of its path that stands for a name, if the target is the one of a state.
-fn named_state<'t>(routes: &Routes, target: &'t [u8]) -> Option<(&'t str, &'t str)>
-    ensures found { IfSome result (λ texts. (texts.0.now ≡ target.now) × HasRoute target.now state_path texts.1.now) }
+/// The call of a request whose target has the route of an impact.
+fn call_of_impact(
+    alloc: Global,
+    request: &Request,
+    kind: Kind,
+    target: &str,
+    part: &str,
+) -> Result<Call, Refusal>
+    requires text { target.now ≡ request.now.target }
+    requires route { HasRoute request.now.target (impact_path kind) part.now }
+    ensures ok { IfOk result (HasCall request.now) }
+    ensures err { IfErr result (λ refusal. refusal ≢ OutOfMemory → routing_refusal request.now refusal) }
+    ensures memory { IfErr result (λ refusal. refusal ≡ OutOfMemory → IsTaken request.now (impact_path kind) part.now) }
+{
+    if request.method() != b"GET".as_slice() {
+        return Err(Refusal::MethodNotAllowed(Methods::Impact));
+    }
+    let name = read_name(alloc, part)?;
+    if !request.is_intact() {
+        return Err(Refusal::BadDigest);
+    }
+    let texts = read_texts(alloc, target)?;
+    Ok(Call::Impact(name, Query { kind, texts }))
+}
+
+/// What is served at a target, the target, and the part of its path that stands for a name, if it has a route.
+fn route_target<'t>(routes: &Routes, target: &'t [u8]) -> Option<(Served, &'t str, &'t str)>
+    ensures found { IfSome result (λ found. (found.1.now ≡ target.now) × HasRoute target.now (route_of found.0) found.2.now) }
     ensures absent { IfNone result ((route : Route) (part : List ℕ) → ¬ (HasRoute target.now route part)) }
 {
     let Ok(text) = str::from_utf8(target) else {
         return None;
     };
-    let part = routes.part(path_of(text))?;
-    Some((text, part))
+    let (served, part) = routes.find(path_of(text))?;
+    Some((served, text, part))
 }
 
 /// What stands before the query.
@@ -173,4 +223,12 @@ fn read_identifier(alloc: Global, target: &str) -> Result<Option<Text>, Refusal>
         Ok(None) => Ok(None),
         Err(_) => Err(Refusal::OutOfMemory),
     }
+}
+
+/// The parameters `of` of a target, as texts of a query.
+fn read_texts(alloc: Global, target: &str) -> Result<Texts, Refusal>
+    ensures ok { IfOk result (λ texts. texts ≡ texts_parameter target.now) }
+    ensures err { IfErr result (λ refusal. refusal ≡ OutOfMemory) }
+{
+    Ok(texts_parameter(alloc, target)?)
 }

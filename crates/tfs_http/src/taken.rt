@@ -1,7 +1,7 @@
 //! What is taken from the bytes of a connection.
 
 use crate::request::Request;
-use tfs_table::Refusal;
+use tfs_calls::Refusal;
 
 /// What bytes begin with.
 #[derive(Drop)]

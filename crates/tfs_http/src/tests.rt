@@ -1,7 +1,9 @@
 //! Messages, replies and calls, each worked out by hand.
 
 mod calls;
+mod chunks;
 mod fields;
+mod impacts;
 mod messages;
 mod replies;
 

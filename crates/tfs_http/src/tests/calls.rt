@@ -4,7 +4,7 @@ use crate::{Request, Routes, call_of};
 use std::alloc::Global;
 use std::process::Abort;
 use std::test::Fail;
-use tfs_table::{Call, Raw, Refusal, Text};
+use tfs_calls::{Call, Raw, Refusal, Text};
 
 /// What becomes of a request with the body `abc`.
 fn call(

@@ -135,10 +135,6 @@ fn messages_that_are_refused(rt: HostRuntime) -> Result<(), Fail> {
             "BodyTooLarge",
         ),
         (
-            "UNLOCK /state/a HTTP/1.1\r\nHost: h\r\nTransfer-Encoding: chunked\r\n\r\n0\r\n\r\n",
-            "TransferCoding",
-        ),
-        (
             "POST / HTTP/1.1\r\nHost: h\r\ntransfer-ENCODING: gzip, chunked\r\n\r\n",
             "TransferCoding",
         ),

@@ -6,9 +6,9 @@ use std::alloc::Global;
 use std::process::Abort;
 use std::sync::Arc;
 use std::test::Fail;
+use tfs_calls::{Methods, Refusal, Reply};
 use tfs_lock::LockInfo;
 use tfs_state::{Doc, MAX_STATE_BYTES};
-use tfs_table::{Methods, Refusal, Reply};
 
 /// The reply's text is the one behind what stood there before.
 fn expect_text(

@@ -2,8 +2,8 @@
 use Rattle.std.proofs.Common.{ℕ, ◌-◌, List, length, Result, Ok, Err, OnErr, sym, subst}
 use Rattle.tfs_http.specs.Request.{RequestValue, request_of}
 use Rattle.tfs_http.specs.Body.{SpellsBody}
-use Rattle.tfs_http.specs.Framing.{BeginsWith}
-use Rattle.tfs_http.proofs.WantedLemmas.{wanted_without_head, wanted_without_body, begins_with_request}
+use Rattle.tfs_http.specs.Framing.{BeginsWith, framing_refusal}
+use Rattle.tfs_http.proofs.WantedLemmas.{wanted_without_head, wanted_without_body, begins_with_request, refused_by_body}
 use Rattle.tfs_http.proofs.framing.frame.Goals as goal
 
 -- What holds anyway holds where memory is refused.
@@ -19,6 +19,13 @@ returns-in-Wanted-clause-ok c =
     let has = c.in-Some.ensures.found in
     let read = c.in-Ok.ensures.ok in
     wanted_without_body _ has.0 _ _ read.0 _ _ has.1 read.1 c.in-Wanted.ensures
+
+pub returns-in-Flawed-clause-ok : goal.returns-in-Flawed-clause-ok
+returns-in-Flawed-clause-ok c =
+    let has = c.in-Some.ensures.found in
+    let read = c.in-Ok.ensures.ok in
+    subst (framing_refusal c.args.bytes.now) (sym c.refusal_of.ensures)
+    (refused_by_body _ has.0 _ _ read.0 _ _ has.1 read.1 c.in-Flawed.ensures)
 
 pub returns-in_err-request-clause-memory : goal.returns-in_err-request-clause-memory
 returns-in_err-request-clause-memory c =
