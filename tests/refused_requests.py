@@ -26,7 +26,7 @@ def build_shim():
 def built(crate):
     """The program of a crate. `rt ci` leaves it built; where it isn't there it is proved and built now."""
     program = TOP / "crates" / crate / "out" / crate
-    where = {"cwd": TOP / "crates" / crate, "stdout": subprocess.DEVNULL, "check": False}
+    where = {"cwd": TOP / "crates" / crate, "stdin": subprocess.DEVNULL, "stdout": subprocess.DEVNULL, "check": False}
     if not program.is_file() and subprocess.run(["rt", "run"], **where).returncode:
         sys.exit(f"the program can't be built: see `rt run` in crates/{crate}")
     return str(program)
@@ -45,10 +45,10 @@ def run_refused(words, first, last, data=b""):
     return ran.stdout, ran.returncode, ran.stderr, own, others
 
 
-def fault_of(words, ample, first, last):
+def fault_of(words, ample, first, last, data=b""):
     """Runs a program, whose requests from the first to the last are refused: what it wrote, and its fault, which is empty where
     there is none. It has to write its ample output, or whole lines of it and end with status 1."""
-    output, status, fault = run_refused(words, first, last)[:3]
+    output, status, fault = run_refused(words, first, last, data)[:3]
     lines = ample.splitlines(keepends=True)
     is_cut = output in [b"".join(lines[:count]) for count in range(len(lines) + 1)]
     if (output, status, fault) != (ample, 0, b"") and not (is_cut and status == 1 and fault):
@@ -56,9 +56,9 @@ def fault_of(words, ample, first, last):
     return output, fault
 
 
-def count_of(words, ample):
+def count_of(words, ample, data=b""):
     """How many requests a program makes with ample memory, of which it has to write this output."""
-    output, status, fault, own, _ = run_refused(words, 0, 0)
+    output, status, fault, own, _ = run_refused(words, 0, 0, data)
     if (output, status, fault) != (ample, 0, b"") or not own:
         raise AssertionError(f"with ample memory: {output[-200:]}, status {status}, {fault}, {own} requests")
     return own

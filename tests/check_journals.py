@@ -1,0 +1,233 @@
+"""Runs the program `journal_files`, which is the journal's crates over real bytes and files. What it reads is compared with what a
+plain reader does: four journals with each bit flipped, also under right MD5s, each prefix, and journals at random. Its files are
+compared with what it says of each append: whole ones, a limit on the size of files, a full device, a pipe, a closed descriptor. Its
+requests for memory are refused in turn."""
+import os
+import random
+import resource
+import signal
+import subprocess
+import sys
+import tempfile
+import threading
+from pathlib import Path
+
+from journal_reader import base_text, line_of, push_content, read_journal, record_text
+from refused_requests import FOREVER, build_shim, built, count_of, fault_of
+from stdio_program import SECONDS, S1, S2, checks_in, expect, run_checks
+
+PROGRAM = built("journal_files")
+FOLDER = tempfile.TemporaryDirectory(prefix="tfstated-")
+B = b'{"ID":"B"}'
+FIRST, SECOND = b"TFJ1\n", b"TFJ2\n"
+ROWS = [(b"a", B, b""), (b"b", b"", S1)]
+PUSH, LOCK = (3, b"a", push_content(b"", S1)), (1, b"a", B)
+LATER = [(3, b"b", push_content(b"", S2)), (2, b"a", b"B")]
+
+
+def pieces_of(header, base, entries):
+    """The pieces of a journal's text: header and base, and the record of each entry."""
+    return [header + (base_text(*base) if base else b""), *(record_text(*entry) for entry in entries)]
+
+
+JOURNALS = [(FIRST, None, [PUSH, LOCK]), (SECOND, (0, []), [PUSH, LOCK]), (SECOND, (2, [(b"a", B, S1)]), []), (SECOND, (2, ROWS), LATER)]
+PIECES = [pieces_of(*journal) for journal in JOURNALS]
+TEXTS = [b"".join(pieces) for pieces in PIECES]
+
+
+def path_of(name):
+    """A path at which there is no file."""
+    path = Path(FOLDER.name) / name
+    path.unlink(missing_ok=True)
+    return path
+
+
+def run(pieces, *words, **how):
+    """Runs the program on a line of hex digits for each piece: what it wrote, its status, and what it wrote on standard error."""
+    lines = "".join(piece.hex() + "\n" for piece in pieces).encode()
+    ran = subprocess.run([PROGRAM, *map(str, words)], input=lines, capture_output=True, timeout=SECONDS, check=False, **how)
+    return ran.stdout.decode(), ran.returncode, ran.stderr.decode()
+
+
+def expect_read(texts):
+    """Compares how the program and the plain reader read each text."""
+    output, status, errors = run(texts)
+    expect((status, errors), (0, ""), "the program")
+    lines = output.splitlines()
+    expect(len(lines), len(texts), "a line for each text")
+    for text, line in zip(texts, lines):
+        expect(line, line_of(text), text.hex())
+
+
+def flipped(text):
+    """The text with each of its bits flipped."""
+    number = int.from_bytes(text, "big")
+    return [(number ^ 1 << bit).to_bytes(len(text), "big") for bit in range(8 * len(text))]
+
+
+def check_the_four_journals_are_read():
+    expect([len(text) for text in TEXTS], [104, 130, 92, 192], "the lengths of the document")
+    expect([read_journal(text)[4] for text in TEXTS], ["whole"] * 4, "they are whole")
+    expect_read(TEXTS)
+
+
+def check_each_prefix_is_read():
+    expect_read([text[:count] for text in TEXTS for count in range(len(text) + 1)])
+
+
+def check_each_flipped_bit_is_read():
+    expect_read([changed for text in TEXTS for changed in flipped(text)])
+
+
+def check_each_flipped_bit_of_a_prefix_is_read():
+    for text in TEXTS[2:]:
+        expect_read([changed for count in range(len(text)) for changed in flipped(text[:count])[:400]])
+
+
+def check_each_flipped_bit_under_a_right_digest_is_read():
+    contents = [PUSH, LOCK, *LATER, (3, b"a", push_content(b"A", S1)), (4, b"a", "\u00e9".encode())]
+    records = [record_text(kind, name, other) for kind, name, content in contents for other in flipped(content)]
+    records += [record_text(kind, other, content) for kind, name, content in contents for other in flipped(name)]
+    expect_read([FIRST + record + record_text(*LOCK) for record in records])
+    bases = [base_text(2, [(b"a", holder, S1)]) for holder in flipped(B)]
+    bases += [base_text(2, [(b"a", B, state)]) for state in flipped(S1)]
+    bases += [base_text(2, [(name, B, S1), (b"b", b"", b"")]) for name in flipped(b"a")]
+    expect_read([SECOND + base + record_text(*LOCK) for base in bases])
+
+
+def some_entry(chance):
+    """An entry at random, of which about one in ten is refused."""
+    kind, name = chance.randint(1, 4), bytes(chance.choices(b"az09_-.", k=chance.randint(1, 64)))
+    identifier = chance.choice([b"", b"", b"B", "\u00e9".encode(), b"x" * 256, b"\xff"])
+    lock = chance.choice([B, b' {"Who":"","ID":"\\u00e9"}', b'{"ID":""}', b'{"ID":"0"} ', b"[]"])
+    state = chance.choice([S1, S2, S1 + b"\n", S1[:-1] + b',"resources":[{"mode":"data","type":"t","name":"n","instances":[{}]}]}', b"{}"])
+    return record_text(kind, name, {1: lock, 3: push_content(identifier, state)}.get(kind, identifier))
+
+
+def some_journal(chance):
+    """The text of a journal at random, of which one in four is changed in a byte, and one in four is cut."""
+    names = sorted(chance.sample([b"-", b"0.9", b"A", b"a", b"a_b", b"zz"], chance.randint(0, 4)))
+    names = chance.choice([names] * 8 + [names[::-1], names + names[-1:]])
+    rows = [(name, chance.choice([b"", B]), chance.choice([b"", S1, S2])) for name in names]
+    position = chance.choice([0, 3, 2**62, 2**62 + 1, chance.randrange(2**64)])
+    text = chance.choice([FIRST, SECOND + base_text(position, rows)])
+    text += b"".join(some_entry(chance) for _ in range(chance.randint(0, 5)))
+    if chance.random() < 0.25:
+        place = chance.randrange(len(text))
+        text = text[:place] + bytes([chance.randrange(256)]) + text[place + 1 :]
+    return text[: chance.randrange(len(text))] if chance.random() < 0.25 else text
+
+
+def check_journals_at_random_are_read():
+    chance = random.Random(5)
+    expect_read([some_journal(chance) for _ in range(4000)])
+
+
+def check_an_append_is_told_once_its_bytes_are_in_the_file():
+    path = path_of("told")
+    with subprocess.Popen([PROGRAM, "new", str(path)], stdin=subprocess.PIPE, stdout=subprocess.PIPE, bufsize=0) as process:
+        there = b""
+        for piece in PIECES[3]:
+            process.stdin.write(piece.hex().encode() + b"\n")
+            expect(process.stdout.readline(), b"done\n", "an append")
+            there += piece
+            expect(path.read_bytes(), there, "the file")
+        process.kill()
+    expect(path.read_bytes(), TEXTS[3], "the file after the program was killed")
+
+
+def limited(kind, limit):
+    """What sets a limit on a resource in front of a program; a write past a limit on size is an error, and no signal."""
+    def set_limit():
+        signal.signal(signal.SIGXFSZ, signal.SIG_IGN)
+        signal.signal(signal.SIGPIPE, signal.SIG_IGN)
+        resource.setrlimit(kind, (limit, limit))
+    return set_limit
+
+
+def expect_prefix(journal, path, whole):
+    """The file of a journal reads as that journal with some first entries, whole or torn; of a journal whose front isn't in it
+    as nothing, and torn."""
+    text = path.read_bytes()
+    form, position, rows, entries, end = read_journal(text)
+    expect(end == "whole" or end.startswith("torn "), True, end)
+    wanted = read_journal(TEXTS[journal])
+    if len(text) >= len(PIECES[journal][0]):
+        expect((form, position, rows), wanted[:3], "format and base")
+    expect(entries, wanted[3][: len(entries)], "the entries")
+    expect(len(entries) >= whole - 1, True, "each entry that was told as done")
+    expect_read([text])
+
+
+def check_a_limit_on_the_size_is_one_fault_and_leaves_a_prefix():
+    for journal, pieces in enumerate(PIECES):
+        ends = [len(b"".join(pieces[: count + 1])) for count in range(len(pieces))]
+        for limit in range(len(TEXTS[journal]) + 1):
+            path = path_of("limited")
+            output, status, errors = run(pieces, "new", path, preexec_fn=limited(resource.RLIMIT_FSIZE, limit))
+            whole = sum(end <= limit for end in ends)
+            expect(output, "done\n" * whole + "fault\n" * (whole < len(pieces)), f"a limit of {limit} bytes")
+            expect((status, errors), (0, ""), "the program")
+            expect(path.read_bytes(), TEXTS[journal][:limit], "the bytes up to the limit")
+            expect_prefix(journal, path, whole)
+
+
+def check_a_full_device_is_a_fault():
+    expect(run(PIECES[1], "over", "/dev/full"), ("fault\n", 0, ""), "no byte is taken")
+    expect(run([b"", *PIECES[1]], "over", "/dev/full"), ("done\nfault\n", 0, ""), "no bytes are appended without a write")
+
+
+def check_a_descriptor_that_is_closed_for_writing_is_a_fault():
+    path = path_of("closed")
+    path.write_bytes(TEXTS[0])
+    expect(run(PIECES[1], "closed", path), ("fault\n", 0, ""), "a file that is open for reading")
+    expect(path.read_bytes(), TEXTS[0], "it stays")
+
+
+def check_a_file_that_is_not_synced_is_a_fault():
+    path = path_of("pipe")
+    os.mkfifo(path)
+    found = []
+    reader = threading.Thread(target=lambda: found.append(path.read_bytes()), daemon=True)
+    reader.start()
+    expect(run(PIECES[1], "over", path), ("fault\n", 0, ""), "a pipe can't be synced")
+    reader.join(SECONDS)
+    expect(found, [PIECES[1][0]], "what the pipe was given before")
+
+
+def check_a_pipe_that_nobody_reads_is_a_fault():
+    path = path_of("unread")
+    os.mkfifo(path)
+    reader = os.open(path, os.O_RDONLY | os.O_NONBLOCK)
+    with subprocess.Popen([PROGRAM, "over", str(path)], stdin=subprocess.PIPE, stdout=subprocess.PIPE,
+                          preexec_fn=limited(resource.RLIMIT_CORE, 0)) as process:
+        process.stdin.write(b"\n")
+        process.stdin.flush()
+        expect(process.stdout.readline(), b"done\n", "no bytes are appended without a write")
+        os.close(reader)
+        output, _ = process.communicate(PIECES[1][0].hex().encode() + b"\n", timeout=SECONDS)
+    expect((output, process.returncode), (b"fault\n", 0), "nobody reads")
+
+
+def check_each_request_for_memory_is_refused_in_turn():
+    data = "".join(text.hex() + "\n" for text in TEXTS).encode()
+    ample = "".join(line_of(text) + "\n" for text in TEXTS).encode()
+    requests = range(1, count_of([PROGRAM], ample, data) + 1)
+    for last in (0, FOREVER):
+        faults = {fault_of([PROGRAM], ample, request, max(request, last), data)[1] for request in requests}
+        expect([fault for fault in faults if fault and b"memory" not in fault], [], "memory runs out")
+        expect(len(faults - {b""}) > 0, True, "some are told")
+
+
+def check_a_file_that_is_there_or_can_not_be_made_is_refused():
+    path = path_of("there")
+    path.write_bytes(TEXTS[0])
+    for words in [("new", path), ("new", path / "below"), ("closed", path_of("none")), ("other", path), ("new",)]:
+        output, status, errors = run(PIECES[1], *words)
+        expect((output, status, bool(errors)), ("", 1, True), f"{words}")
+    expect(path.read_bytes(), TEXTS[0], "the file stays")
+
+
+if __name__ == "__main__":
+    build_shim()
+    sys.exit(run_checks(checks_in(globals())))
