@@ -1,7 +1,7 @@
-"""Runs the program `journal_files`, which is the journal's crates over real bytes and files. What it reads is compared with what a
-plain reader does: four journals with each bit flipped, also under right MD5s, each prefix, and journals at random. Its files are
-compared with what it says of each append: whole ones, a limit on the size of files, a full device, a pipe, a closed descriptor. Its
-requests for memory are refused in turn."""
+"""Runs the program `journal_files`, which is the journal's crates over real bytes and files. What it reads, and writes of it again, is
+compared with a plain reader and writer: four journals with each bit flipped, also under right MD5s, each prefix, and journals at
+random. Its files are compared with what it says of each append: whole ones, a limit on the size of files, a full device, a pipe, a
+closed descriptor. Its requests for memory are refused in turn."""
 import os
 import random
 import resource
@@ -12,7 +12,7 @@ import tempfile
 import threading
 from pathlib import Path
 
-from journal_reader import base_text, line_of, push_content, read_journal, record_text
+from journal_reader import base_text, lines_of, push_content, read_journal, record_text
 from refused_requests import FOREVER, build_shim, built, count_of, fault_of
 from stdio_program import SECONDS, S1, S2, checks_in, expect, run_checks
 
@@ -50,13 +50,13 @@ def run(pieces, *words, **how):
 
 
 def expect_read(texts):
-    """Compares how the program and the plain reader read each text."""
+    """Compares how the program and the plain reader read each text, and the text of what they read."""
     output, status, errors = run(texts)
     expect((status, errors), (0, ""), "the program")
     lines = output.splitlines()
-    expect(len(lines), len(texts), "a line for each text")
-    for text, line in zip(texts, lines):
-        expect(line, line_of(text), text.hex())
+    expect(len(lines), 2 * len(texts), "two lines for each text")
+    for text, read, again in zip(texts, lines[::2], lines[1::2]):
+        expect([read, again], lines_of(text), text.hex())
 
 
 def flipped(text):
@@ -211,7 +211,7 @@ def check_a_pipe_that_nobody_reads_is_a_fault():
 
 def check_each_request_for_memory_is_refused_in_turn():
     data = "".join(text.hex() + "\n" for text in TEXTS).encode()
-    ample = "".join(line_of(text) + "\n" for text in TEXTS).encode()
+    ample = "".join(line + "\n" for text in TEXTS for line in lines_of(text)).encode()
     requests = range(1, count_of([PROGRAM], ample, data) + 1)
     for last in (0, FOREVER):
         faults = {fault_of([PROGRAM], ample, request, max(request, last), data)[1] for request in requests}

@@ -1,16 +1,30 @@
-//! How bytes are read, in a line.
+//! What was read, in lines.
 
 use crate::hex::push_hex;
 use anyhow::Result;
 use std::alloc::Global;
-use tfs_journal::{BaseRow, Entry};
+use tfs_journal::{BaseRow, Entry, encode, encode_base};
 use tfs_lock::Id;
-use tfs_reading::{End, decode};
+use tfs_reading::{Decoded, End};
 use tfs_rules::Act;
 
-/// The format, the position and the rows of the base, the entries, and the end of the reading of bytes.
-pub(crate) fn reading_line(alloc: Global, bytes: &[u8]) -> Result<String> {
-    let read = decode(alloc, bytes)?;
+/// The header, the base and the record of each entry of a reading, written again.
+pub(crate) fn text_line(alloc: Global, read: &Decoded) -> Result<String> {
+    let mut line = String::from_str(alloc, "text")?;
+    if read.format == 1 {
+        push_hex(&mut line, b"TFJ1\n")?;
+    } else {
+        push_hex(&mut line, b"TFJ2\n")?;
+        push_hex(&mut line, encode_base(alloc, &read.base)?.as_slice())?;
+    }
+    for entry in read.entries.as_slice() {
+        push_hex(&mut line, encode(alloc, entry)?.as_slice())?;
+    }
+    Ok(line)
+}
+
+/// The format, the position and the rows of the base, the entries, and the end of a reading.
+pub(crate) fn reading_line(alloc: Global, read: &Decoded) -> Result<String> {
     let position = read.base.position();
     let mut line = format!(in alloc; "format {} base {position}", read.format)?;
     for row in read.base.rows() {
