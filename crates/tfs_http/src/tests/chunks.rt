@@ -190,3 +190,73 @@ fn other_codings_are_refused(rt: HostRuntime) -> Result<(), Fail> {
     let odd = "POST / HTTP/1.1\r\nHost: h\r\ntransfer-encoding: \tcHuNkEd \r\n\r\n0\r\n\r\n";
     expect_body(&rt, odd.as_bytes(), "", odd.len())
 }
+
+/// Messages on which two readers could differ: the version, fields and the refusal of each; where there is none, its body is S1.
+const DOUBTFUL: [(&str, &str, &str); 14] = [
+    (
+        "1.1",
+        "Content-Length: 4\r\nTransfer-Encoding: chunked",
+        "BadLength",
+    ),
+    (
+        "1.1",
+        "Content-Length: 0\r\nContent-Length: 41",
+        "BadLength",
+    ),
+    ("1.1", "Content-Length: 41, 41", "BadLength"),
+    ("1.1", "Content-Length : 41", "BadHead"),
+    ("1.1", "Transfer-Encoding : chunked", "BadHead"),
+    ("1.1", "Transfer-Encoding:\r\n chunked", "BadHead"),
+    ("1.1", "Transfer-Encoding: chunked;q=1", "TransferCoding"),
+    (
+        "1.1",
+        "Transfer-Encoding: chunked\r\nTransfer-Encoding: chunked",
+        "TransferCoding",
+    ),
+    (
+        "1.1",
+        "Transfer-Encoding: chunked, chunked",
+        "TransferCoding",
+    ),
+    ("1.1", "Transfer-Encoding: x\tchunked", "TransferCoding"),
+    ("1.0", "Transfer-Encoding: chunked", "TransferCoding"),
+    ("1.1", "Transfer-Encoding: cHuNkEd", ""),
+    ("1.1", "Transfer-Encoding:\tchunked\t", ""),
+    ("1.1", "tRANSFER-eNCODING:chunked", ""),
+];
+
+#[test]
+fn heads_on_which_two_readers_could_differ(rt: HostRuntime) -> Result<(), Fail> {
+    for (version, fields, name) in DOUBTFUL {
+        let text = format!(in rt.alloc();
+            "POST /state/a HTTP/{version}\r\nHost: h\r\n{fields}\r\n\r\n29\r\n{S1}\r\n0\r\n\r\n"
+        )?;
+        let more = format!(in rt.alloc(); "{text}GET / HTTP/1.1\r\n\r\n")?;
+        if name.is_empty() {
+            expect_body(&rt, more.as_bytes(), S1, text.len())?;
+        } else {
+            expect_refusal(&rt, more.as_str(), name)?;
+        }
+    }
+    Ok(())
+}
+
+#[test]
+fn chunks_on_which_two_readers_could_differ(rt: HostRuntime) -> Result<(), Fail> {
+    for line in [
+        "29\n",
+        "+29\r\n",
+        "-29\r\n",
+        "0x29\r\n",
+        " 29\r\n",
+        "29 x\r\n",
+        "00000000000000029\r\n",
+    ] {
+        let coded = format!(in rt.alloc(); "{line}{S1}\r\n0\r\n\r\n")?;
+        let text = chunked(rt.alloc(), coded.as_str())?;
+        expect_refusal(&rt, text.as_str(), "BadChunk")?;
+    }
+    let bare = format!(in rt.alloc(); "29\r\n{S1}\n0\r\n\r\n")?;
+    let text = chunked(rt.alloc(), bare.as_str())?;
+    expect_refusal(&rt, text.as_str(), "BadChunk")
+}
