@@ -105,6 +105,7 @@ def check_no_request_hides_in_another():
         (post + b"Transfer-Encoding : chunked\r\n\r\n0\r\n\r\n", "BadHead"),
         (post + coded[:-2] + b";q=1\r\n\r\n0\r\n\r\n", "TransferCoding"), (post + coded * 2 + b"\r\n0\r\n\r\n", "TransferCoding"),
         (post.replace(b"1.1", b"1.0") + coded + b"\r\n0\r\n\r\n", "TransferCoding"),
+        (post + coded + b"\r\n29\n" + S1 + b"\r\n0\r\n\r\n", "BadChunk"),
         (post + coded + b"\r\n29\r\n" + S1 + b"\n0\r\n\r\n", "BadChunk"), (post + coded + b"\r\n+29\r\n" + S1 + b"\r\n", "BadChunk"),
         (post + coded + b"\r\n00000000000000029\r\n" + S1 + b"\r\n", "BadChunk"), (post + b"Content-Length: 5,5\r\n\r\n", "BadLength"),
     ]

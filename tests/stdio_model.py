@@ -1,7 +1,7 @@
 """A plain model of a conversation over a new table: what `tfstated stdio` writes for a list of bytes, and its status.
 
-It is written from docs/DEFINITIONS.md and docs/FORMATS.md, as far as these are built: GET, POST, DELETE, LOCK and UNLOCK
-of a state. It always looks at all of the bytes and never at how they were cut. It never runs out of memory.
+It is written from docs/DEFINITIONS.md and docs/FORMATS.md: GET, POST, DELETE, LOCK and UNLOCK of a state, and GET of an impact.
+It always looks at all of the bytes and never at how they were cut. It never runs out of memory.
 """
 import base64
 import hashlib
@@ -14,7 +14,7 @@ MAX_BODY = 16777216
 MAX_CHUNK_LINE, MAX_CHUNKS, MAX_TRAILER = 1024, 65536, 16384
 MAX_NAMES, MAX_ENTRIES, MAX_NESTING = 1024, 65536, 127
 MAX_LOCK_INFO, MAX_IDENTIFIER = 65536, 256
-MAX_INSTANCES = 4096
+MAX_INSTANCES, MAX_TEXTS = 4096, 64
 
 PHRASES = {
     200: "OK", 400: "Bad Request", 404: "Not Found", 405: "Method Not Allowed", 409: "Conflict", 413: "Content Too Large",
@@ -23,11 +23,13 @@ PHRASES = {
 }
 STATUSES = {
     "HeadTooLarge": 431, "BadHead": 400, "NoHost": 400, "BadLength": 400, "TransferCoding": 501, "BodyTooLarge": 413, "NoRoute": 404,
-    "MethodNotAllowed": 405, "BadName": 400, "BadDigest": 400, "BadChunk": 400, "BadLockInfo": 400, "BadState": 400, "TooManyInstances": 413, "LockLost": 409,
-    "LineageDiffers": 409, "SerialTooLow": 409, "SerialReused": 409, "NoState": 404, "TableFull": 507, "JournalFull": 507,
+    "MethodNotAllowed": 405, "BadName": 400, "BadDigest": 400, "BadChunk": 400, "BadLockInfo": 400, "BadState": 400,
+    "TooManyInstances": 413, "NoAddress": 400, "TooManyAddresses": 400, "UnknownAddress": 404, "LockLost": 409, "LineageDiffers": 409, "SerialTooLow": 409, "SerialReused": 409, "NoState": 404, "TableFull": 507, "JournalFull": 507,
     "OutOfMemory": 503,
 }
 METHODS = ["DELETE", "GET", "LOCK", "POST", "UNLOCK"]
+ROUTES = {"state": (re.compile(r"/state/([^/]+)"), METHODS)} | {
+    kind: (re.compile(rf"/impact/([^/]+)/{kind}"), ["GET"]) for kind in ("any", "all")}
 CLEAN, ASKED, CUT, REFUSED = 0, 0, 3, 4
 
 TOKEN = rb"[!#$%&'*+\-.^_`|~0-9A-Za-z]+"
@@ -35,7 +37,8 @@ REQUEST_LINE = re.compile(rb"(" + TOKEN + rb") ([^\x00-\x20\x7f]+) HTTP/1\.([01]
 CHUNK_LINE = re.compile(rb"([0-9A-Fa-f]{1,16})[ \t]*(?:;[^\r\n]*)?\r\n")
 FIELD_LINE = re.compile(rb"(" + TOKEN + rb"):[ \t]*([^\x00-\x08\x0a-\x1f\x7f]*)\r?\n")
 NAME = re.compile(r"[A-Za-z0-9_.-]{1,64}")
-PIECES = re.compile(r'(?:[^\[\]]|\[[0-9]+\]|\["(?:[^"\\]|\\.)*"\])*', re.DOTALL)
+KEY = re.compile(r'\[[0-9]+\]|\["(?:[^"\\]|\\.)*"\]', re.DOTALL)
+PIECES = re.compile(rf"(?:[^\[\]]|{KEY.pattern})*", re.DOTALL)
 
 
 def reply_text(status, body=b"", close=False, allow=None):
@@ -48,9 +51,9 @@ def reply_text(status, body=b"", close=False, allow=None):
     return "\r\n".join(lines).encode() + body
 
 
-def refusal_text(name, close=False):
-    """The bytes of a refusal's reply."""
-    allow = ", ".join(METHODS) if name == "MethodNotAllowed" else None
+def refusal_text(name, close=False, methods=METHODS):
+    """The bytes of a refusal's reply; where the method isn't the route's, with the methods of the route."""
+    allow = ", ".join(methods) if name == "MethodNotAllowed" else None
     return reply_text(STATUSES[name], b'{"error":"%s"}' % name.encode(), close, allow)
 
 
@@ -62,7 +65,7 @@ class Unfinished(Exception):
 
 
 class Refused(Exception):
-    """The name of a refusal."""
+    """The name of a refusal, and for MethodNotAllowed the methods of the route."""
 
 
 class Locked(Exception):
@@ -266,8 +269,8 @@ def reads_in_pieces(text):
     return PIECES.fullmatch(text) is not None
 
 
-def count_instances(resource):
-    """How many instances a resource has, each of which is one."""
+def instances_of(resource):
+    """The instances of a resource: of each its two addresses, and its dependencies without keys."""
     if type(resource) is not Members:
         raise Refused("BadState")
     members = dict(resource)
@@ -275,21 +278,32 @@ def count_instances(resource):
     if members.get("mode") not in ("managed", "data") or not all(
             isinstance(members.get(name), str) and members[name] for name in ("type", "name")):
         raise Refused("BadState")
-    instances = present(members, "instances", [list]) or []
-    for instance in instances:
+    found = []
+    for instance in present(members, "instances", [list]) or []:
         if type(instance) is not Members:
             raise Refused("BadState")
         own = dict(instance)
         present(own, "index_key", [int, str], lambda key: isinstance(key, str) or key < 2**64)
         present(own, "deposed", [str])
-        for text in present(own, "dependencies", [list]) or []:
-            if not isinstance(text, str) or not reads_in_pieces(text):
-                raise Refused("BadState")
-    return len(instances)
+        dependencies = present(own, "dependencies", [list]) or []
+        if not all(isinstance(text, str) and reads_in_pieces(text) for text in dependencies):
+            raise Refused("BadState")
+        found.append((*addresses_of(members, own), {KEY.sub("", text) for text in dependencies}))
+    return found
+
+
+def addresses_of(resource, instance):
+    """The address of an instance, and its configuration address."""
+    module = resource.get("module") or ""
+    name = ("data." if resource["mode"] == "data" else "") + resource["type"] + "." + resource["name"]
+    key, deposed = instance.get("index_key"), instance.get("deposed")
+    own = "" if key is None else f"[{json.dumps(key, ensure_ascii=False)}]"
+    own += f" (deposed {deposed})" if deposed else ""
+    return (module + "." if module else "") + name + own, (KEY.sub("", module) + "." if module else "") + name
 
 
 def document_of(body):
-    """Lineage, serial and bytes of the document that the bytes spell."""
+    """Lineage, serial, bytes and instances of the document that the bytes spell."""
     top = members_of(body, "BadState")
     version, serial, lineage = top.get("version"), top.get("serial"), top.get("lineage")
     if type(version) is not int or version != 4:
@@ -298,9 +312,35 @@ def document_of(body):
         raise Refused("BadState")
     if not isinstance(lineage, str) or not lineage:
         raise Refused("BadState")
-    if sum(map(count_instances, present(top, "resources", [list]) or [])) > MAX_INSTANCES:
+    instances = [instance for resource in present(top, "resources", [list]) or [] for instance in instances_of(resource)]
+    if len(instances) > MAX_INSTANCES:
         raise Refused("TooManyInstances")
-    return lineage, serial, body
+    return lineage, serial, body, instances
+
+
+def reached_from(instances, starts):
+    """The numbers of the instances that some of these reach."""
+    reached, left = set(), set(starts)
+    while left:
+        configs = {instances[number][1] for number in left}
+        left = {number for number, (_, _, texts) in enumerate(instances) if configs & texts} - reached
+        reached |= left
+    return reached
+
+
+def impact_of(kind, texts, instances):
+    """The numbers of the instances that a query chooses, rising."""
+    if not texts:
+        raise Refused("NoAddress")
+    if len(texts) > MAX_TEXTS:
+        raise Refused("TooManyAddresses")
+    sets = []
+    for text in texts:
+        named = [number for number, instance in enumerate(instances) if text in instance[:2]]
+        if not named:
+            raise Refused("UnknownAddress")
+        sets.append(reached_from(instances, named))
+    return sorted(set.union(*sets) if kind == "any" else set.intersection(*sets))
 
 
 def bounded(identifier):
@@ -325,13 +365,16 @@ def decoded(part):
     return unquote_to_bytes(part.replace("+", " ")).decode("utf-8", "replace")
 
 
+def values_in(query, called):
+    """The values of the parameters with this name."""
+    pairs = [piece.partition("=") for piece in query.split("&") if piece]
+    return [decoded(value) for name, _, value in pairs if decoded(name) == called]
+
+
 def identifier_in(query):
     """The identifier that a query gives; none where it is missing or empty."""
-    for piece in filter(None, query.split("&")):
-        name, _, value = piece.partition("=")
-        if decoded(name) == "ID":
-            return bounded(decoded(value)) or None
-    return None
+    values = values_in(query, "ID")
+    return bounded(values[0]) or None if values else None
 
 
 def act_of(method, query, body):
@@ -370,8 +413,8 @@ class Table:
         """Refuses a push by the state of its name."""
         if name not in self.states:
             return
-        lineage, serial, body = document
-        old_lineage, old_serial, old_body = self.states[name]
+        lineage, serial, body, _ = document
+        old_lineage, old_serial, old_body, _ = self.states[name]
         if lineage != old_lineage:
             raise Refused("LineageDiffers")
         if serial < old_serial:
@@ -403,12 +446,12 @@ class Table:
     def answer(self, request):
         """The status and the body of the reply to a request that isn't refused."""
         path, _, query = request.target.partition("?")
-        route = re.fullmatch(r"/state/([^/]+)", path)
-        if route is None:
+        found = [(kind, match[1], methods) for kind, (route, methods) in ROUTES.items() if (match := route.fullmatch(path))]
+        if not found:
             raise Refused("NoRoute")
-        if request.method not in METHODS:
-            raise Refused("MethodNotAllowed")
-        name = route[1]
+        kind, name, methods = found[0]
+        if request.method not in methods:
+            raise Refused("MethodNotAllowed", methods)
         if not NAME.fullmatch(name):
             raise Refused("BadName")
         if not request.has_good_digest():
@@ -418,7 +461,14 @@ class Table:
             return b""
         if name not in self.states:
             raise Refused("NoState")
-        return self.states[name][2]
+        return self.states[name][2] if kind == "state" else self.impact(kind, values_in(query, "of"), self.states[name])
+
+    def impact(self, kind, texts, document):
+        """The body of the answer to a query."""
+        _, serial, _, instances = document
+        chosen = [instances[number][0] for number in impact_of(kind, texts, instances)]
+        answer = {"instances": chosen, "position": self.entries, "serial": serial}
+        return json.dumps(answer, ensure_ascii=False, separators=(",", ":")).encode()
 
     def reply(self, request):
         """The bytes of the reply to a request; HEAD gets no body."""
@@ -432,7 +482,7 @@ class Table:
         except Locked as locked:
             return reply_text(423, locked.args[0], close)
         except Refused as refusal:
-            return refusal_text(str(refusal), close)
+            return refusal_text(refusal.args[0], close, *refusal.args[1:])
 
 
 def replies_to(data):

@@ -11,7 +11,7 @@ use Rattle.httparse.specs.Grammar.{is_uri_byte, is_value_byte, AllPass, LineEnd,
 use Rattle.httparse.specs.Pieces.{Piece, Begins, Then, Stops, is_newline, Newline, Blank, Word, Target, Version, Text}
 use Rattle.httparse.proofs.PieceLemmas.{IsDeterministic, Newline_deterministic, Word_deterministic}
 use Rattle.httparse.proofs.PieceLemmas.{newline_not_stopped}
-use Rattle.tfs_http.proofs.RoutingLemmas.{front_split, front_joined}
+use Rattle.tfs_http.proofs.RowLemmas.{front_split, front_joined}
 
 -- Two numbers are the same or not.
 pub same_or_not : (a b : ℕ) → (a ≡ b) ⊎ ¬ (a ≡ b)

@@ -186,10 +186,12 @@ impact_once r a b query other p q =
 -- A request has one call.
 call_once : (r : RequestValue) (call other : Call) → HasCall r call → HasCall r other → call ≡ other
 call_once r (Impact a query) (Impact b other) p q = impact_once r a b query other p q
-call_once r (Impact a query) (Read b) p q = absurd (no_impact query.kind (sym (served_once r.target (served.Impact query.kind) served.State a b p.0.taken.has_route q.0.taken.has_route).0))
+call_once r (Impact a query) (Read b) p q =
+    absurd (no_impact query.kind (sym (served_once r.target (served.Impact query.kind) served.State a b p.0.taken.has_route q.0.taken.has_route).0))
 call_once r (Impact a query) (Change b raw) p q =
     absurd (no_impact query.kind (sym (served_once r.target (served.Impact query.kind) served.State a b p.0.taken.has_route q.0.taken.has_route).0))
-call_once r (Read a) (Impact b query) p q = absurd (no_impact query.kind (served_once r.target served.State (served.Impact query.kind) a b p.0.taken.has_route q.0.taken.has_route).0)
+call_once r (Read a) (Impact b query) p q =
+    absurd (no_impact query.kind (served_once r.target served.State (served.Impact query.kind) a b p.0.taken.has_route q.0.taken.has_route).0)
 call_once r (Change a raw) (Impact b query) p q =
     absurd (no_impact query.kind (served_once r.target served.State (served.Impact query.kind) a b p.0.taken.has_route q.0.taken.has_route).0)
 call_once r (Read a) (Read b) p q = ap Read (part_once r.target state_path state_path a b p.0.taken.has_route q.0.taken.has_route).1

@@ -13,6 +13,7 @@ pub mod MessageLemmas
 pub mod AnswerLemmas
 pub mod ReplyLemmas
 pub mod PathLemmas
+pub mod RowLemmas
 pub mod RoutingLemmas
 pub mod TargetLemmas
 pub mod EachPath

@@ -1,98 +1,23 @@
 -- Laws of routing: the paths that the router's rows match are those of the routes.
-use Rattle.std.proofs.Common.{◌≡◌, ◌≢◌, ◌⊎◌, ◌<◌, ◌-◌, ◌+◌, ◌==◌, ℕ, zero, suc, List, [], ◌∷◌, ◌++◌, length, take, drop, get_or, cond, nat_eq, Bool, true}
+use Rattle.std.proofs.Common.{◌≡◌, ◌⊎◌, ◌<◌, ◌-◌, ◌+◌, ◌==◌, ℕ, zero, suc, List, [], ◌∷◌, ◌++◌, length, drop, get_or, cond}
+use Rattle.std.proofs.Common.{nat_eq, Bool, true}
 use Rattle.std.proofs.Common.{false, Option, Some, None, codes, refl, sym, ◌∙◌, ap, subst, inl, inr, arith, rules}
-use Rattle.std.proofs.Common.{append-nil, take-append-drop, length-append, Fits, w8}
+use Rattle.std.proofs.Common.{append-nil, length-append, Fits, w8}
 use Rattle.std.proofs.lemmas.Bool.Decides.{nat_tests}
-use Rattle.std.proofs.Math.Seq.{take-append_seam, drop-append_seam}
-use Rattle.std.specs.Cmp.Lexicographic.{bytes_decides}
+use Rattle.std.proofs.Math.Seq.{drop-append_seam}
 use Rattle.std.specs.List.{starts_with, ends_with}
-use Rattle.matchit.specs.Rows.{Rows, prepend, param_token, catch_all_token}
-use Rattle.matchit.specs.Seek.{seek, first, param_step, own, or_else, has_slash, segment, cuts, longest_suffix, step}
-use Rattle.matchit.specs.Level.{IsText}
+use Rattle.matchit.specs.Rows.{Rows, prepend, param_token}
+use Rattle.matchit.specs.Seek.{seek, first, param_step, or_else, has_slash, segment, cuts, longest_suffix}
 use Rattle.matchit.specs.Router.{RouteOf, map_key}
-use Rattle.matchit.proofs.ParamLemmas.{same_text-self}
-use Rattle.matchit.proofs.SeekLemmas.{own-append, step-append, step-hit, step-miss, seek-empty, seek-drop, seek-lit, or_else-none, param_step-empty, first-prefix}
+use Rattle.matchit.proofs.SeekLemmas.{seek-empty, seek-drop, or_else-none}
+use Rattle.matchit.proofs.SeekLemmas.{param_step-empty, first-prefix}
 use Rattle.matchit.proofs.RenameLemmas.{first-rename}
 use Rattle.tfs_calls.specs.declared.query.Kind.{Kind}
 use Rattle.tfs_calls.specs.declared.query.Kind.TheVariants.{Any, All}
 use Rattle.tfs_http.specs.declared.routes.Served.{Served}
 use Rattle.tfs_http.specs.Routing.{kind_part, state_row, impact_row, route_rows}
 use Rattle.tfs_http.proofs.PathLemmas.{IsSplit, no_slash, at_slash, split_at, segment_at, segment_all, ends_otherwise, ends_so, differ_at}
-
--- ---- rows that begin with texts
-
--- Two texts differ at a byte.
-abbrev Differ : List ℕ → List ℕ → Type 0
-Differ [] b = ⊥
-Differ (x ∷ a) [] = ⊥
-Differ (x ∷ a) (y ∷ b) = (x ≢ y) ⊎ ((x ≡ y) × Differ a b)
-
--- A byte is no token of a pattern.
-no_token : (x : ℕ) → x < 256 → (x ≢ param_token) × (x ≢ catch_all_token)
-no_token x small = (λ e. omega arith, λ e. omega arith)
-
--- A walk of rows that begin with bytes takes one.
-one_byte : (x y : ℕ) (w v : List ℕ) (r t : Rows) (b : ℕ) (p : List ℕ) → x < 256 → y < 256
-    → seek 0 (prepend (x ∷ w) r ++ prepend (y ∷ v) t) (b ∷ p) ≡ seek 0 (step b (prepend (x ∷ w) r) ++ step b (prepend (y ∷ v) t)) p
-unfolding seek
-one_byte x y w v r t b p low less =
-    let n = no_token x low in
-    let m = no_token y less in
-    simp (
-      step-append,
-      step-miss param_token x w r n.0,
-      step-miss catch_all_token x w r n.1,
-      step-miss param_token y v t m.0,
-      step-miss catch_all_token y v t m.1,
-      param_step-empty (b ∷ p),
-      seek-empty ((param_step {K = ℕ} [] (b ∷ p)).0 - 1) p,
-      or_else-none,
-    )
-
--- Rows that begin with two texts, which differ, answer what the ones do, or else the others.
-fork : (w v : List ℕ) (r t : Rows) (path : List ℕ) → IsText w → IsText v → Differ w v
-    → first (prepend w r ++ prepend v t) path ≡ or_else (first (prepend w r) path) (first (prepend v t) path)
-unfolding seek
-fork [] v r t path hw hv d = absurd d
-fork (x ∷ w) [] r t path hw hv d = absurd d
-fork (x ∷ w) (y ∷ v) r t [] hw hv d = own-append (prepend (x ∷ w) r) (prepend (y ∷ v) t)
-fork (x ∷ w) (y ∷ v) r t (b ∷ p) hw hv d =
-    one_byte x y w v r t b p hw.0 hv.0
-    ∙ by (x == b) refl (y == b) refl d (λ h. fork w v r t p hw.1 hv.1 h)
-    ∙ sym (ap (λ o. or_else o (first (prepend (y ∷ v) t) (b ∷ p))) (seek-lit x w r b p hw.0)
-    ∙ ap (or_else (seek 0 (step b (prepend (x ∷ w) r)) p)) (seek-lit y v t b p hv.0))
-  where
-    by : (i : Bool) → (x == b) ≡ i → (j : Bool) → (y == b) ≡ j → Differ (x ∷ w) (y ∷ v)
-        → (Differ w v → first (prepend w r ++ prepend v t) p ≡ or_else (first (prepend w r) p) (first (prepend v t) p))
-        → seek 0 (step b (prepend (x ∷ w) r) ++ step b (prepend (y ∷ v) t)) p
-        ≡ or_else (seek 0 (step b (prepend (x ∷ w) r)) p) (seek 0 (step b (prepend (y ∷ v) t)) p)
-    by true e true f (inl other) more = absurd (other (grind (arith, nat_tests)))
-    by true e true f (inr d) more =
-        let xb : x ≡ b = grind (arith, nat_tests) in
-        let yb : y ≡ b = grind (arith, nat_tests) in
-        rw (xb, yb, step-hit b w r, step-hit b v t) (more d.1)
-    by true e false f d more =
-        let xb : x ≡ b = grind (arith, nat_tests) in
-        let yb : y ≢ b = λ q. grind (arith, nat_tests) in
-        rw (xb, step-hit b w r, step-miss b y v t yb, append-nil (prepend w r), seek-empty 0 p) (sym (or_else-none (seek 0 (prepend w r) p)))
-    by false e j f d more =
-        let xb : x ≢ b = λ q. grind (arith, nat_tests) in
-        rw (step-miss b x w r xb, seek-empty 0 p) refl
-
--- A text that starts so is that and what is left.
-pub front_split : (front path : List ℕ) → starts_with nat_eq path front ≡ true → path ≡ front ++ drop (length front) path
-front_split front path e =
-    sym (take-append-drop (length front) path) ∙ ap (λ t. t ++ drop (length front) path) (sym ((bytes_decides front (take (length front) path)).0 e))
-
--- A text and a rest start with the text.
-pub front_joined : (front rest : List ℕ) → starts_with nat_eq (front ++ rest) front ≡ true
-front_joined front rest = rw (take-append_seam front rest) (same_text-self front)
-
--- A walk that skips all that is left ends where it stands.
-skips_all : (r : Rows) (p : List ℕ) → seek (length p) r p ≡ own r
-unfolding seek
-skips_all r [] = refl
-skips_all r (b ∷ p) = skips_all r p
+use Rattle.tfs_http.proofs.RowLemmas.{fork, front_split, skips_all}
 
 -- ---- what stands behind a name
 

@@ -13,7 +13,8 @@ use Rattle.matchit.specs.Router.{RouteOf}
 use Rattle.tfs_calls.specs.declared.query.Kind.{Kind}
 use Rattle.tfs_calls.specs.declared.query.Kind.TheVariants.{Any, All}
 use Rattle.tfs_http.specs.declared.routes.Served.{Served}
-use Rattle.tfs_http.specs.Routing.{slash, Route, IsPathOf, state_path, impact_path, kind_part, routes, route_of, state_row, impact_row, route_rows}
+use Rattle.tfs_http.specs.Routing.{slash, Route, IsPathOf, state_path, impact_path, kind_part, routes, route_of, state_row, impact_row}
+use Rattle.tfs_http.specs.Routing.{route_rows}
 use Rattle.tfs_http.proofs.PathLemmas.{slash_found, slash_tested, segment_at}
 use Rattle.tfs_http.proofs.RoutingLemmas.{AreBytes, IsAnswered, is_impact, is_state, answered, impact_answered, state_answered}
 
@@ -139,8 +140,8 @@ pub record Matched (path : List ℕ) (row : RouteOf Served) : Type 0 where
   pub text : IsUtf8 path → IsUtf8 part
 
 -- A part between ASCII bytes is a text.
-text_behind : (front rest : List ℕ) (path : List ℕ) (n : ℕ) → path ≡ front ++ rest → length front ≡ n + 1 → get_or front n 0 ≡ 47 → get_or path n 0 ≡ get_or front n 0
-    → IsUtf8 path → IsUtf8 rest
+text_behind : (front rest : List ℕ) (path : List ℕ) (n : ℕ) → path ≡ front ++ rest → length front ≡ n + 1 → get_or front n 0 ≡ 47
+    → get_or path n 0 ≡ get_or front n 0 → IsUtf8 path → IsUtf8 rest
 text_behind front rest path n parts size last same text =
     let long = ap length parts ∙ length-append front rest in
     let code : get_or path n 0 ≡ 47 = same ∙ last in

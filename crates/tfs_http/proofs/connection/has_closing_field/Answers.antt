@@ -3,7 +3,8 @@ use Rattle.std.proofs.Common.{sym, refl, ◌∙◌, ap}
 use Rattle.std.specs.List.{list_any}
 use Rattle.tfs_http.specs.Connection.{lists_close}
 use Rattle.tfs_http.proofs.LengthLemmas.{value_found, value_absent, within_rest}
-use Rattle.tfs_http.proofs.connection.has_closing_field.Goals.{else-is_word-via-then-is_word+else-lists_close, else-is_word-via-else-is_word}
+use Rattle.tfs_http.proofs.connection.has_closing_field.Goals.{else-is_word-via-then-is_word+else-lists_close}
+use Rattle.tfs_http.proofs.connection.has_closing_field.Goals.{else-is_word-via-else-is_word}
 use Rattle.tfs_http.proofs.connection.has_closing_field.Goals as goal
 
 pub loop-field-preserved : goal.loop-field-preserved
