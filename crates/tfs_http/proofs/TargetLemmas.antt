@@ -13,8 +13,8 @@ use Rattle.matchit.specs.Router.{RouteOf}
 use Rattle.tfs_calls.specs.declared.query.Kind.{Kind}
 use Rattle.tfs_calls.specs.declared.query.Kind.TheVariants.{Any, All}
 use Rattle.tfs_http.specs.declared.routes.Served.{Served}
-use Rattle.tfs_http.specs.Routing.{slash, Route, IsPathOf, state_path, impact_path, kind_part, routes, route_of, state_row, impact_row}
-use Rattle.tfs_http.specs.Routing.{route_rows}
+use Rattle.tfs_http.specs.Routing.{slash, Route, IsPathOf, state_path, impact_path, kind_part, routes, route_of}
+use Rattle.tfs_http.specs.Rows.{state_row, impact_row, route_rows}
 use Rattle.tfs_http.proofs.PathLemmas.{slash_found, slash_tested, segment_at}
 use Rattle.tfs_http.proofs.RoutingLemmas.{AreBytes, IsAnswered, is_impact, is_state, answered, impact_answered, state_answered}
 

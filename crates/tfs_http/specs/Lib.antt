@@ -11,4 +11,5 @@ pub mod Framing
 pub mod Form
 pub mod Query
 pub mod Routing
+pub mod Rows
 pub mod ReplyText

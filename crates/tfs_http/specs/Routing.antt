@@ -2,8 +2,6 @@
 use Rattle.std.specs.Prelude.{◌≡◌, ◌≢◌, ◌⊎◌, ◌==◌, ℕ, true, false, List, [], ◌∷◌, ◌++◌, codes, Contains, Result, Ok, Err}
 use Rattle.std.specs.List.{before_first}
 use Rattle.std.specs.Str.{IsUtf8}
-use Rattle.matchit.specs.Rows.{RowsOf, param_token}
-use Rattle.matchit.specs.Router.{RouteOf}
 use Rattle.tfs_rules.specs.Name.{IsName}
 use Rattle.tfs_calls.specs.declared.call.Call.{Call}
 use Rattle.tfs_calls.specs.declared.call.Call.TheVariants.{Read, Change, Impact}
@@ -118,23 +116,3 @@ RoutesTo r (Err refusal) = routing_refusal r refusal
 abbrev pub route_of : Served → Route
 route_of served.State = state_path
 route_of (served.Impact kind) = impact_path kind
-
--- The route of a state, as `matchit` has it: the pattern of `/state/{name}`, where its name stands, and what it serves.
-abbrev pub state_row : RouteOf Served
-state_row = record { pattern = codes "/state/" ++ param_token ∷ []; text = codes "/state/{name}"; names = (8, 12) ∷ []; value = served.State }
-
--- The same of `/impact/{name}/any` and `/impact/{name}/all`.
-abbrev pub impact_row : Kind → RouteOf Served
-impact_row kind = record {
-  pattern = codes "/impact/" ++ param_token ∷ kind_part kind;
-  text = codes "/impact/{name}" ++ kind_part kind;
-  names = (9, 13) ∷ [];
-  value = served.Impact kind;
-}
-
--- The rows of a router that has the routes.
-abbrev pub route_rows : RowsOf (RouteOf Served)
-route_rows = ((impact_row All).pattern, impact_row All)
-    ∷ ((impact_row Any).pattern, impact_row Any)
-    ∷ (state_row.pattern, state_row)
-    ∷ []

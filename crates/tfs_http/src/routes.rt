@@ -6,7 +6,8 @@ ghost use Rattle.tfs_rules.specs.Name.{IsName};
 ghost use Rattle.tfs_calls.specs.declared.refusal.Refusal.TheVariants.{OutOfMemory, BadName};
 ghost use Rattle.tfs_http.specs.Query.{identifier_parameter, texts_parameter};
 ghost use Rattle.tfs_http.specs.Routing.{path_of, Route, IsPathOf, HasRoute, IsTaken, IsOneOf, HasCall, methods_of, routing_refusal, routes as all_routes};
-ghost use Rattle.tfs_http.specs.Routing.{impact_path, route_of, route_rows};
+ghost use Rattle.tfs_http.specs.Routing.{impact_path, route_of};
+ghost use Rattle.tfs_http.specs.Rows.{route_rows};
 
 use crate::query::{identifier_parameter, texts_parameter};
 use crate::request::Request;
@@ -33,15 +34,13 @@ pub struct Routes {
 }
 
 impl Model for Routes {
-    ghost use Rattle.std.specs.Prelude.{◌≡◌};
-    ghost use Rattle.matchit.specs.Rows.{RowsOf};
-    ghost use Rattle.matchit.specs.Router.{RouteOf};
-    ghost use Rattle.tfs_http.specs.declared.routes.Served.{Served};
-    ghost use Rattle.tfs_http.specs.Routing.{route_rows};
+    ghost use Rattle.std.specs.Prelude.{◌≡◌, List};
+    ghost use Rattle.tfs_http.specs.Routing.{Route, routes};
+    ghost use Rattle.tfs_http.specs.Rows.{route_rows};
 
-    ghost Value = { RowsOf (RouteOf Served) };
+    ghost Value = { List Route };
 
-    ghost view = { λ r. r.router };
+    ghost view = { λ _. routes };
 
     ghost invariant = { λ r. r.router ≡ route_rows };
 }
@@ -49,7 +48,7 @@ impl Model for Routes {
 impl Routes {
     /// The routes, or an error where a request for memory is refused: nothing else is wrong with them.
     pub fn new(alloc: Global) -> Result<Routes, AllocError>
-        ensures ok { IfOk result (λ routes. routes ≡ route_rows) }
+        ensures value { IfOk result (λ routes. routes ≡ all_routes) }
     {
         match build(alloc) {
             Ok(router) => Ok(Routes { router }),
