@@ -1,7 +1,7 @@
 """A plain model of a conversation over a new table: what `tfstated stdio` writes for a list of bytes, and its status.
 
-It is written from docs/DEFINITIONS.md and docs/FORMATS.md: GET, POST, DELETE, LOCK and UNLOCK of a state, and GET of an impact.
-It always looks at all of the bytes and never at how they were cut. It never runs out of memory.
+It is written from docs/DEFINITIONS.md and docs/FORMATS.md: GET, POST, DELETE, LOCK and UNLOCK of a state, and queries for the
+impact of changes. It always looks at all of the bytes and never at how they were cut. It never runs out of memory.
 """
 import base64
 import hashlib
@@ -9,12 +9,14 @@ import json
 import re
 from urllib.parse import unquote_to_bytes
 
+from impact_model import QueryFault, impact, instances_of, json_text
+
 MAX_HEAD, MAX_LINE_FEEDS, MAX_FIELDS = 16384, 66, 64
 MAX_BODY = 16777216
 MAX_CHUNK_LINE, MAX_CHUNKS, MAX_TRAILER = 1024, 65536, 16384
 MAX_NAMES, MAX_ENTRIES, MAX_NESTING = 1024, 65536, 127
 MAX_LOCK_INFO, MAX_IDENTIFIER = 65536, 256
-MAX_INSTANCES, MAX_TEXTS = 4096, 64
+MAX_INSTANCES = 4096
 
 PHRASES = {
     200: "OK", 400: "Bad Request", 404: "Not Found", 405: "Method Not Allowed", 409: "Conflict", 413: "Content Too Large",
@@ -23,13 +25,13 @@ PHRASES = {
 }
 STATUSES = {
     "HeadTooLarge": 431, "BadHead": 400, "NoHost": 400, "BadLength": 400, "TransferCoding": 501, "BodyTooLarge": 413, "NoRoute": 404,
-    "MethodNotAllowed": 405, "BadName": 400, "BadDigest": 400, "BadChunk": 400, "BadLockInfo": 400, "BadState": 400,
-    "TooManyInstances": 413, "NoAddress": 400, "TooManyAddresses": 400, "UnknownAddress": 404, "LockLost": 409, "LineageDiffers": 409, "SerialTooLow": 409, "SerialReused": 409, "NoState": 404, "TableFull": 507, "JournalFull": 507,
+    "MethodNotAllowed": 405, "BadName": 400, "BadDigest": 400, "BadChunk": 400, "BadLockInfo": 400, "BadState": 400, "TooManyInstances": 413, "LockLost": 409,
+    "LineageDiffers": 409, "SerialTooLow": 409, "SerialReused": 409, "NoState": 404, "NoAddress": 400,
+    "TooManyAddresses": 400, "UnknownAddress": 404, "TableFull": 507, "JournalFull": 507,
     "OutOfMemory": 503,
 }
 METHODS = ["DELETE", "GET", "LOCK", "POST", "UNLOCK"]
-ROUTES = {"state": (re.compile(r"/state/([^/]+)"), METHODS)} | {
-    kind: (re.compile(rf"/impact/([^/]+)/{kind}"), ["GET"]) for kind in ("any", "all")}
+QUERY_METHODS = ["GET"]
 CLEAN, ASKED, CUT, REFUSED = 0, 0, 3, 4
 
 TOKEN = rb"[!#$%&'*+\-.^_`|~0-9A-Za-z]+"
@@ -37,8 +39,7 @@ REQUEST_LINE = re.compile(rb"(" + TOKEN + rb") ([^\x00-\x20\x7f]+) HTTP/1\.([01]
 CHUNK_LINE = re.compile(rb"([0-9A-Fa-f]{1,16})[ \t]*(?:;[^\r\n]*)?\r\n")
 FIELD_LINE = re.compile(rb"(" + TOKEN + rb"):[ \t]*([^\x00-\x08\x0a-\x1f\x7f]*)\r?\n")
 NAME = re.compile(r"[A-Za-z0-9_.-]{1,64}")
-KEY = re.compile(r'\[[0-9]+\]|\["(?:[^"\\]|\\.)*"\]', re.DOTALL)
-PIECES = re.compile(rf"(?:[^\[\]]|{KEY.pattern})*", re.DOTALL)
+PIECES = re.compile(r'(?:[^\[\]]|\[[0-9]+\]|\["(?:[^"\\]|\\.)*"\])*', re.DOTALL)
 
 
 def reply_text(status, body=b"", close=False, allow=None):
@@ -52,7 +53,7 @@ def reply_text(status, body=b"", close=False, allow=None):
 
 
 def refusal_text(name, close=False, methods=METHODS):
-    """The bytes of a refusal's reply; where the method isn't the route's, with the methods of the route."""
+    """The bytes of a refusal's reply; the methods are those of the route."""
     allow = ", ".join(methods) if name == "MethodNotAllowed" else None
     return reply_text(STATUSES[name], b'{"error":"%s"}' % name.encode(), close, allow)
 
@@ -65,7 +66,11 @@ class Unfinished(Exception):
 
 
 class Refused(Exception):
-    """The name of a refusal, and for MethodNotAllowed the methods of the route."""
+    """The name of a refusal."""
+
+
+class NotAllowed(Exception):
+    """The methods of a route that hasn't the request's."""
 
 
 class Locked(Exception):
@@ -269,8 +274,8 @@ def reads_in_pieces(text):
     return PIECES.fullmatch(text) is not None
 
 
-def instances_of(resource):
-    """The instances of a resource: of each its two addresses, and its dependencies without keys."""
+def count_instances(resource):
+    """How many instances a resource has, each of which is one."""
     if type(resource) is not Members:
         raise Refused("BadState")
     members = dict(resource)
@@ -278,32 +283,21 @@ def instances_of(resource):
     if members.get("mode") not in ("managed", "data") or not all(
             isinstance(members.get(name), str) and members[name] for name in ("type", "name")):
         raise Refused("BadState")
-    found = []
-    for instance in present(members, "instances", [list]) or []:
+    instances = present(members, "instances", [list]) or []
+    for instance in instances:
         if type(instance) is not Members:
             raise Refused("BadState")
         own = dict(instance)
         present(own, "index_key", [int, str], lambda key: isinstance(key, str) or key < 2**64)
         present(own, "deposed", [str])
-        dependencies = present(own, "dependencies", [list]) or []
-        if not all(isinstance(text, str) and reads_in_pieces(text) for text in dependencies):
-            raise Refused("BadState")
-        found.append((*addresses_of(members, own), {KEY.sub("", text) for text in dependencies}))
-    return found
-
-
-def addresses_of(resource, instance):
-    """The address of an instance, and its configuration address."""
-    module = resource.get("module") or ""
-    name = ("data." if resource["mode"] == "data" else "") + resource["type"] + "." + resource["name"]
-    key, deposed = instance.get("index_key"), instance.get("deposed")
-    own = "" if key is None else f"[{json.dumps(key, ensure_ascii=False)}]"
-    own += f" (deposed {deposed})" if deposed else ""
-    return (module + "." if module else "") + name + own, (KEY.sub("", module) + "." if module else "") + name
+        for text in present(own, "dependencies", [list]) or []:
+            if not isinstance(text, str) or not reads_in_pieces(text):
+                raise Refused("BadState")
+    return len(instances)
 
 
 def document_of(body):
-    """Lineage, serial, bytes and instances of the document that the bytes spell."""
+    """Lineage, serial and bytes of the document that the bytes spell."""
     top = members_of(body, "BadState")
     version, serial, lineage = top.get("version"), top.get("serial"), top.get("lineage")
     if type(version) is not int or version != 4:
@@ -312,35 +306,9 @@ def document_of(body):
         raise Refused("BadState")
     if not isinstance(lineage, str) or not lineage:
         raise Refused("BadState")
-    instances = [instance for resource in present(top, "resources", [list]) or [] for instance in instances_of(resource)]
-    if len(instances) > MAX_INSTANCES:
+    if sum(map(count_instances, present(top, "resources", [list]) or [])) > MAX_INSTANCES:
         raise Refused("TooManyInstances")
-    return lineage, serial, body, instances
-
-
-def reached_from(instances, starts):
-    """The numbers of the instances that some of these reach."""
-    reached, left = set(), set(starts)
-    while left:
-        configs = {instances[number][1] for number in left}
-        left = {number for number, (_, _, texts) in enumerate(instances) if configs & texts} - reached
-        reached |= left
-    return reached
-
-
-def impact_of(kind, texts, instances):
-    """The numbers of the instances that a query chooses, rising."""
-    if not texts:
-        raise Refused("NoAddress")
-    if len(texts) > MAX_TEXTS:
-        raise Refused("TooManyAddresses")
-    sets = []
-    for text in texts:
-        named = [number for number, instance in enumerate(instances) if text in instance[:2]]
-        if not named:
-            raise Refused("UnknownAddress")
-        sets.append(reached_from(instances, named))
-    return sorted(set.union(*sets) if kind == "any" else set.intersection(*sets))
+    return lineage, serial, body
 
 
 def bounded(identifier):
@@ -365,10 +333,10 @@ def decoded(part):
     return unquote_to_bytes(part.replace("+", " ")).decode("utf-8", "replace")
 
 
-def values_in(query, called):
-    """The values of the parameters with this name."""
+def values_in(query, wanted):
+    """The values of the pairs of one name that a query has, in order."""
     pairs = [piece.partition("=") for piece in query.split("&") if piece]
-    return [decoded(value) for name, _, value in pairs if decoded(name) == called]
+    return [decoded(value) for name, _, value in pairs if decoded(name) == wanted]
 
 
 def identifier_in(query):
@@ -413,8 +381,8 @@ class Table:
         """Refuses a push by the state of its name."""
         if name not in self.states:
             return
-        lineage, serial, body, _ = document
-        old_lineage, old_serial, old_body, _ = self.states[name]
+        lineage, serial, body = document
+        old_lineage, old_serial, old_body = self.states[name]
         if lineage != old_lineage:
             raise Refused("LineageDiffers")
         if serial < old_serial:
@@ -424,7 +392,10 @@ class Table:
 
     def change(self, method, name, query, body):
         """Takes a change, or refuses it."""
-        identifier, carried = act_of(method, query, body)
+        self.take(method, name, *act_of(method, query, body))
+
+    def take(self, method, name, identifier, carried):
+        """Takes an act, or refuses it."""
         self.judge_by_lock(method, name, identifier, carried)
         if method == "POST":
             self.judge_by_state(name, carried)
@@ -443,32 +414,41 @@ class Table:
         else:
             self.states.pop(name, None)
 
+    def body(self, name):
+        """The state of a name."""
+        if name not in self.states:
+            raise Refused("NoState")
+        return self.states[name][2]
+
+    def impact(self, name, kind, query):
+        """The JSON text that answers a query."""
+        top = dict(json_of(self.body(name)))
+        try:
+            chosen = impact(kind, values_in(query, "of"), instances_of(top))
+        except QueryFault as fault:
+            raise Refused(str(fault)) from None
+        return json_text({"instances": chosen, "position": self.entries, "serial": top["serial"]}).encode()
+
     def answer(self, request):
-        """The status and the body of the reply to a request that isn't refused."""
+        """The body of the reply to a request that isn't refused."""
         path, _, query = request.target.partition("?")
-        found = [(kind, match[1], methods) for kind, (route, methods) in ROUTES.items() if (match := route.fullmatch(path))]
-        if not found:
+        route = re.fullmatch(r"/state/(?P<name>[^/]+)|/impact/(?P<asked>[^/]+)/(?P<kind>any|all)", path)
+        if route is None:
             raise Refused("NoRoute")
-        kind, name, methods = found[0]
+        methods = QUERY_METHODS if route["kind"] else METHODS
         if request.method not in methods:
-            raise Refused("MethodNotAllowed", methods)
+            raise NotAllowed(methods)
+        name = route["asked"] or route["name"]
         if not NAME.fullmatch(name):
             raise Refused("BadName")
         if not request.has_good_digest():
             raise Refused("BadDigest")
-        if request.method != "GET":
-            self.change(request.method, name, query, request.body)
-            return b""
-        if name not in self.states:
-            raise Refused("NoState")
-        return self.states[name][2] if kind == "state" else self.impact(kind, values_in(query, "of"), self.states[name])
-
-    def impact(self, kind, texts, document):
-        """The body of the answer to a query."""
-        _, serial, _, instances = document
-        chosen = [instances[number][0] for number in impact_of(kind, texts, instances)]
-        answer = {"instances": chosen, "position": self.entries, "serial": serial}
-        return json.dumps(answer, ensure_ascii=False, separators=(",", ":")).encode()
+        if route["kind"]:
+            return self.impact(name, route["kind"], query)
+        if request.method == "GET":
+            return self.body(name)
+        self.change(request.method, name, query, request.body)
+        return b""
 
     def reply(self, request):
         """The bytes of the reply to a request; HEAD gets no body."""
@@ -481,8 +461,10 @@ class Table:
             return reply_text(200, self.answer(request), close)
         except Locked as locked:
             return reply_text(423, locked.args[0], close)
+        except NotAllowed as refusal:
+            return refusal_text("MethodNotAllowed", close, refusal.args[0])
         except Refused as refusal:
-            return refusal_text(refusal.args[0], close, *refusal.args[1:])
+            return refusal_text(str(refusal), close)
 
 
 def replies_to(data):

@@ -5,7 +5,7 @@ ghost use Rattle.std.specs.Prelude.{◌≡◌, ◌≤◌};
 use std::io;
 use std::io::{Read, Write};
 use tfs_serve::Desk;
-use tfs_table::{Call, Refusal, Reply};
+use tfs_calls::{Call, Refusal, Reply};
 
 /// Gives bytes in pieces of one size.
 #[derive(Drop)]
@@ -48,10 +48,10 @@ pub(crate) struct Still;
 
 impl Desk for Still {
     ghost use Rattle.std.specs.Prelude.{◌≡◌};
-    ghost use Rattle.tfs_table.specs.Refusal.{no_state};
-    ghost use Rattle.tfs_table.specs.Reply.{reply_value, refused};
+    ghost use Rattle.tfs_calls.specs.Refusal.{no_state};
+    ghost use Rattle.tfs_calls.specs.Reply.{refused};
 
-    ghost step = { λ _ _ reply _. reply_value reply ≡ refused no_state };
+    ghost step = { λ _ _ reply _. reply ≡ refused no_state };
 
     fn answer(&mut self, call: Call) -> Reply {
         drop(call);

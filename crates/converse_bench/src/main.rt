@@ -4,13 +4,13 @@
 
 use crate::input::Kind;
 use crate::run::{Desks, run};
-use std::{env, io};
+use std::env;
 
 mod ends;
 mod input;
 mod run;
 
-const DESKS: [Desks; 2] = [Desks::Still, Desks::Memory];
+const DESKS: [Desks; 2] = [Desks::Still, Desks::Table];
 
 // What is sent, and the bytes of one read.
 const CASES: [(Kind, usize); 4] = [
@@ -22,12 +22,12 @@ const CASES: [(Kind, usize); 4] = [
 
 const RUNS: usize = 7;
 
-fn print_counts(rt: &HostRuntime) -> io::Result<()> {
+fn print_counts(rt: &HostRuntime) -> anyhow::Result<()> {
     for (kind, piece) in CASES {
         let data = input::requests(rt.alloc(), kind, kind.few())?;
         for desk in DESKS {
             let (name, over) = (kind.name(), desk.name());
-            let found = run(rt.alloc(), desk, &data, piece);
+            let found = run(rt.alloc(), desk, &data, piece)?;
             let (reads, written, ended) = (found.reads, found.written, found.ended);
             println!(rt; "{name} {piece} over {over}: {reads} reads, {written} bytes, {ended:?}")?;
         }
@@ -35,7 +35,7 @@ fn print_counts(rt: &HostRuntime) -> io::Result<()> {
     Ok(())
 }
 
-fn print_times(rt: &HostRuntime) -> io::Result<()> {
+fn print_times(rt: &HostRuntime) -> anyhow::Result<()> {
     for (kind, piece) in CASES {
         for desk in DESKS {
             let (name, over) = (kind.name(), desk.name());
@@ -51,7 +51,7 @@ fn print_times(rt: &HostRuntime) -> io::Result<()> {
     Ok(())
 }
 
-fn main(rt: HostRuntime) -> io::Result<()> {
+fn main(rt: HostRuntime) -> anyhow::Result<()> {
     match env::args(&rt)?.nth(1) {
         Some(word) if word.as_str() == "times" => print_times(&rt),
         _ => print_counts(&rt),

@@ -2,25 +2,25 @@
 
 use crate::ends::{Count, Pieces, Still};
 use std::alloc::Global;
-use std::io;
 use std::time::Instant;
-use tfs_serve::memory_desk::MemoryDesk;
-use tfs_serve::{Desk, Ended, Reads, ServeFault, converse};
+use tfs_journal::Discard;
+use tfs_serve::{Desk, Ended, Reads, ServeFault, TableDesk, converse};
+use tfs_table::{OpenFault, Table};
 
 /// What answers.
 #[derive(Clone, Copy)]
 pub(crate) enum Desks {
     /// A desk that refuses each call at once, so that the time is that of the conversation alone.
     Still,
-    /// The desk that keeps its journal in memory, which reads each state as JSON.
-    Memory,
+    /// A table whose journal is discarded, which reads each state as JSON.
+    Table,
 }
 
 impl Desks {
     pub(crate) fn name(self) -> &'static str {
         match self {
             Desks::Still => "still",
-            Desks::Memory => "memory",
+            Desks::Table => "table",
         }
     }
 }
@@ -49,15 +49,24 @@ fn run_over<D: Desk>(alloc: Global, desk: &mut D, data: &[u8], piece: usize) -> 
 }
 
 /// A conversation over bytes that are read in pieces of one size, from a new desk.
-pub(crate) fn run(alloc: Global, desk: Desks, data: &[u8], piece: usize) -> Found {
+pub(crate) fn run(
+    alloc: Global,
+    desk: Desks,
+    data: &[u8],
+    piece: usize,
+) -> Result<Found, OpenFault> {
     match desk {
         Desks::Still => {
             let mut still = Still;
-            run_over(alloc, &mut still, data, piece)
+            Ok(run_over(alloc, &mut still, data, piece))
         }
-        Desks::Memory => {
-            let mut desk = MemoryDesk::new(alloc);
-            run_over(alloc, &mut desk, data, piece)
+        Desks::Table => {
+            let mut table = Table::new(alloc, Discard)?;
+            let mut desk = TableDesk {
+                alloc,
+                table: &mut table,
+            };
+            Ok(run_over(alloc, &mut desk, data, piece))
         }
     }
 }
@@ -69,11 +78,11 @@ pub(crate) fn best_of(
     data: &[u8],
     piece: usize,
     runs: usize,
-) -> io::Result<u128> {
+) -> anyhow::Result<u128> {
     let mut best = u128::MAX;
     for _ in 0..runs {
         let start = Instant::now(rt)?;
-        let found = run(rt.alloc(), desk, data, piece);
+        let found = run(rt.alloc(), desk, data, piece)?;
         best = best.min(start.elapsed(rt)?.as_micros());
         drop(found);
     }

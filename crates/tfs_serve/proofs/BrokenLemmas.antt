@@ -3,11 +3,10 @@ use Rattle.std.proofs.Common.{◌≡◌, ◌<◌, ℕ, List, [], ◌∷◌, ◌+
 use Rattle.std.proofs.Common.{refl, sym, ◌∙◌, inl, inr}
 use Rattle.std.proofs.Common.{append-nil}
 use Rattle.std.specs.Io.KnownBytes.{Consumes}
-use Rattle.tfs_table.specs.declared.call.Call.{Call}
-use Rattle.tfs_table.specs.declared.reply.Reply.{Reply}
-use Rattle.tfs_table.specs.declared.refusal.Refusal.{Refusal}
-use Rattle.tfs_table.specs.Refusal.{refusal_value}
-use Rattle.tfs_table.specs.Reply.{ReplyValue, refused}
+use Rattle.tfs_calls.specs.declared.call.Call.{Call}
+use Rattle.tfs_calls.specs.declared.refusal.Refusal.{Refusal}
+use Rattle.tfs_calls.specs.Refusal.{refusal_value}
+use Rattle.tfs_calls.specs.Reply.{ReplyValue, refused}
 use Rattle.tfs_http.specs.Request.{RequestValue}
 use Rattle.tfs_http.specs.Form.{form_of}
 use Rattle.tfs_http.specs.Framing.{BeginsWith, AreWanted, framing_refusal}
@@ -20,7 +19,7 @@ use Rattle.tfs_serve.specs.declared.fault.ServeFault.TheVariants.{NoMemory}
 use Rattle.tfs_serve.proofs.FaultLemmas.{comes_reading, comes_writing}
 use Rattle.tfs_serve.proofs.ConversationLemmas.{still_unfinished, moved_nowhere, moved_reading, moved_writing, serves_one}
 
-module _ {S : Type 0} (step : S → Call → Reply → S → Type 0) where
+module _ {S : Type 0} (step : S → Call → ReplyValue → S → Type 0) where
   -- A fault while more was read.
   pub broken_reading : (desk : S) (from reader writer : Option (List ℕ)) (before after : ℕ) (input left more : List ℕ) (wanted : ℕ) (fault : ServeFault)
       → left ≡ input ++ more → Consumes from reader more → ComesInReads more before after → AreWanted input wanted → length left < wanted

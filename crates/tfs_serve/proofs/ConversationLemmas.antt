@@ -3,11 +3,10 @@ use Rattle.std.proofs.Common.{◌≡◌, ◌<◌, ◌⊎◌, ◌||◌, ℕ, Bool
 use Rattle.std.proofs.Common.{refl, sym, ◌∙◌, ap, subst, inl, inr}
 use Rattle.std.proofs.Common.{append_assoc, append-nil}
 use Rattle.std.specs.Io.KnownBytes.{Appends, Consumes, IsAtEnd}
-use Rattle.tfs_table.specs.declared.call.Call.{Call}
-use Rattle.tfs_table.specs.declared.reply.Reply.{Reply}
-use Rattle.tfs_table.specs.declared.refusal.Refusal.{Refusal}
-use Rattle.tfs_table.specs.Refusal.{refusal_value}
-use Rattle.tfs_table.specs.Reply.{ReplyValue, refused}
+use Rattle.tfs_calls.specs.declared.call.Call.{Call}
+use Rattle.tfs_calls.specs.declared.refusal.Refusal.{Refusal}
+use Rattle.tfs_calls.specs.Refusal.{refusal_value}
+use Rattle.tfs_calls.specs.Reply.{ReplyValue, refused}
 use Rattle.tfs_http.specs.Request.{RequestValue}
 use Rattle.tfs_http.specs.Form.{form_of}
 use Rattle.tfs_http.specs.Framing.{BeginsWith, AreWanted, IsUnfinished, framing_refusal}
@@ -46,7 +45,7 @@ pub asked_ends : (P : Ended → Type 0) (asks : Bool) (end : Option Ended) → e
 asked_ends P true end is so = subst (λ (o : Option Ended). IfSome o P) (sym is) (so refl)
 asked_ends P false end is so = subst (λ (o : Option Ended). IfSome o P) (sym is) tt
 
-module _ {S : Type 0} (step : S → Call → Reply → S → Type 0) where
+module _ {S : Type 0} (step : S → Call → ReplyValue → S → Type 0) where
   -- What was served and what was served after it, with more bytes, was served.
   serves_then : (old between new : S) (bytes rest left text later more : List ℕ) (xs ys : List Exchange) → has_asked xs ≡ false
       → Serves step old bytes xs between rest text → Serves step between (rest ++ more) ys new left later

@@ -1,14 +1,15 @@
--- Bytes have one output.
-use Rattle.std.proofs.Common.{◌≡◌, ◌<◌, ◌+◌, ◌||◌, Bool, true, false, ℕ, List, [], ◌∷◌, ◌++◌, length, Result, Ok, Err, refl, sym, ◌∙◌, ap, subst}
+-- Bytes have one output over a table.
+use Rattle.std.specs.List.{AllByRecursion}
+use Rattle.std.proofs.Common.{◌≡◌, ◌≢◌, ◌<◌, ◌+◌, ◌||◌, Bool, true, false, ℕ, List, [], ◌∷◌, ◌++◌, length, Result, Ok, Err, refl, sym, ◌∙◌, ap, subst}
 use Rattle.std.proofs.Common.{arith, inl, inr, append_assoc}
 use Rattle.std.proofs.lemmas.List.{length-append}
-use Rattle.tfs_journal.specs.Journal.{Journal}
-use Rattle.tfs_table.specs.declared.call.Call.{Call}
-use Rattle.tfs_table.specs.declared.reply.Reply.{Reply}
-use Rattle.tfs_table.specs.declared.refusal.Refusal.{Refusal}
-use Rattle.tfs_table.specs.Refusal.{out_of_memory, refusal_value}
-use Rattle.tfs_table.specs.Reply.{ReplyValue, refused, reply_value}
-use Rattle.tfs_table.specs.Transition.{TableModel}
+use Rattle.tfs_calls.specs.declared.call.Call.{Call}
+use Rattle.tfs_calls.specs.declared.call.Call.TheVariants.{Read, Change, Impact}
+use Rattle.tfs_calls.specs.declared.refusal.Refusal.{Refusal}
+use Rattle.tfs_calls.specs.Refusal.{out_of_memory, journal_fault, refusal_value}
+use Rattle.tfs_calls.specs.Reply.{ReplyValue, refused}
+use Rattle.tfs_calls.specs.Transition.{TableModel, Answers, FaultsJournal}
+use Rattle.tfs_table.specs.Table.{TableValue, model_of}
 use Rattle.tfs_http.specs.Request.{RequestValue}
 use Rattle.tfs_http.specs.Form.{form_of}
 use Rattle.tfs_http.specs.Framing.{Frames, ReadsMessage, framing_refusal}
@@ -18,27 +19,39 @@ use Rattle.tfs_http.specs.declared.taken.Take.{Take}
 use Rattle.tfs_http.specs.declared.taken.Take.TheVariants.{Got, Fault}
 use Rattle.tfs_serve.specs.Desk.{AnswersCall}
 use Rattle.tfs_serve.specs.Conversation.{AnswersRequest, Exchange, has_asked, Serves, Ends, closing_form}
-use Rattle.tfs_serve.specs.Output.{HadMemory, HasOutput}
+use Rattle.tfs_serve.specs.Output.{IsUndisturbed, HasOutput}
+use Rattle.tfs_serve.proofs.StepLemmas.{serves_over}
 use Rattle.tfs_serve.specs.declared.ended.Ended.{Ended}
 use Rattle.tfs_serve.specs.declared.ended.Ended.TheVariants.{Clean, Cut, Asked, Refused}
 use Rattle.tfs_http.proofs.MessageLemmas.{frame_is_no_empty_text, no_refusal_of_no_bytes, begins, first_message_once}
 
 -- ---- the answer to a request
 
--- A desk in memory that had memory gives the model's answer.
-memory_step : (j k l : Journal) (call : Call) (given also : Reply) → AnswersCall j call given k → AnswersCall j call also l
-    → ¬ (reply_value given ≡ refused out_of_memory) → ¬ (reply_value also ≡ refused out_of_memory) → (reply_value given ≡ reply_value also) × (k ≡ l)
-memory_step j k l call given also (inl a) (inl b) had has = (a.0 ∙ sym b.0, ap (λ (m : TableModel). m.journal) (a.1 ∙ sym b.1))
-memory_step j k l call given also (inr a) b had has = absurd (had a.0)
-memory_step j k l call given also (inl a) (inr b) had has = absurd (has b.0)
+-- A fault of the sink is told as such.
+fault_is_told : (m n : TableModel) (call : Call) (reply : ReplyValue) → FaultsJournal m call reply n → reply ≡ refused journal_fault
+fault_is_told m n (Read name) reply f = absurd f
+fault_is_told m n (Impact name query) reply f = absurd f
+fault_is_told m n (Change name raw) reply f = f.2.1
+
+-- The reply tells neither of want of memory nor of a fault of the sink.
+abbrev IsModels : ReplyValue → Type 0
+IsModels reply = (reply ≢ refused out_of_memory) × (reply ≢ refused journal_fault)
+
+-- A table that had memory, and whose sink hasn't failed, gives the model's answer.
+step_once : (m k l : TableModel) (call : Call) (given also : ReplyValue) → Answers m call given k → Answers m call also l
+    → IsModels given → IsModels also → (given ≡ also) × (k ≡ l)
+step_once m k l call given also (inl (inl a)) (inl (inl b)) had has = (a.0 ∙ sym b.0, a.1 ∙ sym b.1)
+step_once m k l call given also (inl (inr a)) b had has = absurd (had.0 a.0)
+step_once m k l call given also (inr a) b had has = absurd (had.1 (fault_is_told m k call given a))
+step_once m k l call given also (inl (inl a)) (inl (inr b)) had has = absurd (has.0 b.0)
+step_once m k l call given also (inl (inl a)) (inr b) had has = absurd (has.1 (fault_is_told m l call also b))
 
 module _ (routed : (r : RequestValue) (x y : Result Call Refusal) → RoutesTo r x → RoutesTo r y → x ≡ y) where
-  -- A request has one answer of a desk that had memory.
-  answers_once : (j k l : Journal) (r : RequestValue) (reply also : ReplyValue) → AnswersRequest AnswersCall j r reply k
-      → AnswersRequest AnswersCall j r also l
-      → ¬ (reply ≡ refused out_of_memory) → ¬ (also ≡ refused out_of_memory) → (reply ≡ also) × (k ≡ l)
-  answers_once j k l r reply also (inr (inl a)) b had has = absurd (had a.0)
-  answers_once j k l r reply also a (inr (inl b)) had has = absurd (has b.0)
+  -- A request has one answer of a table that had memory, and whose sink hasn't failed.
+  answers_once : (j k l : TableModel) (r : RequestValue) (reply also : ReplyValue) → AnswersRequest Answers j r reply k
+      → AnswersRequest Answers j r also l → IsModels reply → IsModels also → (reply ≡ also) × (k ≡ l)
+  answers_once j k l r reply also (inr (inl a)) b had has = absurd (had.0 a.0)
+  answers_once j k l r reply also a (inr (inl b)) had has = absurd (has.0 b.0)
   answers_once j k l r reply also (inl a) (inl b) had has =
       let same = routed r (Err a.0) (Err b.0) a.1 b.1 in
       let refusal : a.0 ≡ b.0 = cc in
@@ -50,8 +63,7 @@ module _ (routed : (r : RequestValue) (x y : Result Call Refusal) → RoutesTo r
   answers_once j k l r reply also (inr (inr a)) (inr (inr b)) had has =
       let same = routed r (Ok a.0) (Ok b.0) a.1 b.1 in
       let call : a.0 ≡ b.0 = cc in
-      let step = memory_step j k l b.0 a.2 b.2 (subst (λ (x : Call). AnswersCall j x a.2 k) call a.3) b.3 (λ e. had (a.4 ∙ e)) (λ e. has (b.4 ∙ e)) in
-      (a.4 ∙ step.0 ∙ sym b.4, step.1)
+      step_once j k l b.0 reply also (subst (λ (x : Call). Answers j x reply k) call a.2) b.2 had has
 
 -- ---- the first message
 
@@ -110,9 +122,9 @@ module _ (framed : (bytes : List ℕ) (t u : Take) → Frames bytes t → Frames
         ∙ ap (λ (w : List ℕ). w ++ (later ++ last)) front ∙ ap (λ (w : List ℕ). reply_text y.reply (form_of y.request) ++ w) rests
         ∙ sym (append_assoc (reply_text y.reply (form_of y.request)) other end) ∙ ap (λ (w : List ℕ). w ++ end) (sym is_also)
 
-    output_once : (j k l : Journal) (bytes rest left text also last end : List ℕ) (d e : Ended) (xs ys : List Exchange)
-        → Serves AnswersCall j bytes xs k rest text → Serves AnswersCall j bytes ys l left also → Ends (has_asked xs) rest last d
-        → Ends (has_asked ys) left end e → HadMemory xs → HadMemory ys
+    output_once : (j k l : TableModel) (bytes rest left text also last end : List ℕ) (d e : Ended) (xs ys : List Exchange)
+        → Serves Answers j bytes xs k rest text → Serves Answers j bytes ys l left also → Ends (has_asked xs) rest last d
+        → Ends (has_asked ys) left end e → AllByRecursion IsUndisturbed xs → AllByRecursion IsUndisturbed ys
         → (k ≡ l) × (text ++ last ≡ also ++ end) × (d ≡ e)
     output_once j k l bytes rest left text also last end d e [] [] s t ends stops had has =
         let same = ends_once rest last end d e ends (subst (λ (b : List ℕ). Ends false b end e) (sym t.0 ∙ s.0) stops) in
@@ -132,11 +144,11 @@ module _ (framed : (bytes : List ℕ) (t u : Take) → Frames bytes t → Frames
 
         answer : (x.reply ≡ y.reply) × (s.5 ≡ t.5)
         answer = answers_once routed j s.5 t.5 y.request x.reply y.reply
-            (subst (λ (r : RequestValue). AnswersRequest AnswersCall j r x.reply s.5) message.0 s.6) t.6 had.0 has.0
+            (subst (λ (r : RequestValue). AnswersRequest Answers j r x.reply s.5) message.0 s.6) t.6 had.0 has.0
 
-        served : Serves AnswersCall s.5 s.1 ys l left t.7
-        served = subst (λ (b : List ℕ). Serves AnswersCall s.5 b ys l left t.7) (sym message.1)
-            (subst (λ (m : Journal). Serves AnswersCall m t.1 ys l left t.7) (sym answer.1) t.9)
+        served : Serves Answers s.5 s.1 ys l left t.7
+        served = subst (λ (b : List ℕ). Serves Answers s.5 b ys l left t.7) (sym message.1)
+            (subst (λ (m : TableModel). Serves Answers m t.1 ys l left t.7) (sym answer.1) t.9)
 
         same_close : (v : Bool) → x.request.close ≡ v → y.request.close ≡ v
         same_close v is = ap (λ (r : RequestValue). r.close) (sym message.0) ∙ is
@@ -149,20 +161,25 @@ module _ (framed : (bytes : List ℕ) (t u : Take) → Frames bytes t → Frames
         by true is goes_on =
             let one = ends_asked rest last d (subst (λ (v : Bool). Ends (v || has_asked xs) rest last d) is ends) in
             let two = ends_asked left end e (subst (λ (v : Bool). Ends (v || has_asked ys) left end e) (same_close true is) stops) in
-            let behind : Serves AnswersCall s.5 s.1 [] k rest s.7 = subst (λ zs. Serves AnswersCall s.5 s.1 zs k rest s.7) (s.4 is) s.9 in
-            let also_behind : Serves AnswersCall s.5 s.1 [] l left t.7 =
-            subst (λ zs. Serves AnswersCall s.5 s.1 zs l left t.7) (t.4 (same_close true is)) served in (
+            let behind : Serves Answers s.5 s.1 [] k rest s.7 = subst (λ zs. Serves Answers s.5 s.1 zs k rest s.7) (s.4 is) s.9 in
+            let also_behind : Serves Answers s.5 s.1 [] l left t.7 =
+            subst (λ zs. Serves Answers s.5 s.1 zs l left t.7) (t.4 (same_close true is)) served in (
               behind.2 ∙ sym also_behind.2,
               same_texts x y text also s.7 t.7 last end answer.0 message.0 s.8 t.8
                   (ap (λ (w : List ℕ). w ++ last) behind.1 ∙ one.0 ∙ sym two.0 ∙ ap (λ (w : List ℕ). w ++ end) (sym also_behind.1)),
               one.1 ∙ sym two.1,
             )
 
-    pub one_output : (j k l : Journal) (bytes text also : List ℕ) (d e : Ended) → HasOutput j k bytes text d → HasOutput j l bytes also e → (k ≡ l)
-        × (text ≡ also) × (d ≡ e)
-    one_output j k l bytes text also d e a b =
+    pub one_output : (old new start other : TableValue) (bytes text also : List ℕ) (d e : Ended) → model_of old ≡ model_of start
+        → HasOutput old new bytes text d → HasOutput start other bytes also e → (model_of new ≡ model_of other) × (text ≡ also) × (d ≡ e)
+    one_output old new start other bytes text also d e is a b =
         let x = a.converses in
         let y = b.converses in
-        let same = output_once j k l bytes x.rest y.rest x.served y.served x.last y.last d e x.exchanges y.exchanges
-        x.serves y.serves x.ends y.ends a.had_memory b.had_memory in
+        let first = serves_over AnswersCall Answers model_of (λ s t call reply step. step.answered)
+        old new bytes x.rest x.served x.exchanges x.serves in
+        let second = serves_over AnswersCall Answers model_of (λ s t call reply step. step.answered)
+        start other bytes y.rest y.served y.exchanges y.serves in
+        let same = output_once (model_of start) (model_of new) (model_of other) bytes x.rest y.rest x.served y.served x.last y.last d e
+        x.exchanges y.exchanges (subst (λ m. Serves Answers m bytes x.exchanges (model_of new) x.rest x.served) is first) second
+        x.ends y.ends a.undisturbed b.undisturbed in
         (same.0, x.whole ∙ same.1 ∙ sym y.whole, same.2)

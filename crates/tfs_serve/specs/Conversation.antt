@@ -2,11 +2,10 @@
 use Rattle.std.specs.Prelude.{◌≡◌, ◌≢◌, ◌≤◌, ◌<◌, ◌-◌, ◌*◌, ◌⊎◌, ℕ, Bool, Option, List, [], ◌∷◌, ◌++◌, length, true, false}
 use Rattle.std.specs.List.{list_any}
 use Rattle.std.specs.Io.KnownBytes.{IsAtEnd}
-use Rattle.tfs_table.specs.declared.call.Call.{Call}
-use Rattle.tfs_table.specs.declared.reply.Reply.{Reply}
-use Rattle.tfs_table.specs.declared.refusal.Refusal.{Refusal}
-use Rattle.tfs_table.specs.Refusal.{out_of_memory, refusal_value}
-use Rattle.tfs_table.specs.Reply.{ReplyValue, refused, reply_value}
+use Rattle.tfs_calls.specs.declared.call.Call.{Call}
+use Rattle.tfs_calls.specs.declared.refusal.Refusal.{Refusal}
+use Rattle.tfs_calls.specs.Refusal.{out_of_memory, refusal_value}
+use Rattle.tfs_calls.specs.Reply.{ReplyValue, refused}
 use Rattle.tfs_http.specs.declared.form.Form.{Form}
 use Rattle.tfs_http.specs.Request.{RequestValue}
 use Rattle.tfs_http.specs.Form.{form_of}
@@ -20,11 +19,11 @@ use Rattle.tfs_serve.specs.declared.fault.ServeFault.TheVariants.{Read, Write, T
 
 -- The reply to a request, over the steps of a desk: its refusal by routing, or want of memory in routing, and the desk stays;
 -- else the desk's own answer to its call.
-abbrev pub AnswersRequest : {S : Type 0} → (S → Call → Reply → S → Type 0) → S → RequestValue → ReplyValue → S → Type 0
+abbrev pub AnswersRequest : {S : Type 0} → (S → Call → ReplyValue → S → Type 0) → S → RequestValue → ReplyValue → S → Type 0
 AnswersRequest step old r reply new =
     ((refusal : Refusal) × routing_refusal r refusal × (reply ≡ refused (refusal_value refusal)) × (new ≡ old))
     ⊎ (((reply ≡ refused out_of_memory) × (new ≡ old))
-    ⊎ ((call : Call) × HasCall r call × (given : Reply) × step old call given new × (reply ≡ reply_value given)))
+    ⊎ ((call : Call) × HasCall r call × step old call reply new))
 
 -- A message's request, with its reply.
 pub record Exchange : Type 0 where
@@ -37,7 +36,7 @@ has_asked exchanges = list_any (λ x. x.request.close) exchanges
 
 -- The bytes are the messages of the exchanges and a rest; none but the last asks to close; the desk answers them in turn; the
 -- text is that of the replies.
-abbrev pub Serves : {S : Type 0} → (S → Call → Reply → S → Type 0) → S → List ℕ → List Exchange → S → List ℕ → List ℕ → Type 0
+abbrev pub Serves : {S : Type 0} → (S → Call → ReplyValue → S → Type 0) → S → List ℕ → List Exchange → S → List ℕ → List ℕ → Type 0
 Serves step old bytes [] new rest text = (bytes ≡ rest) × (text ≡ []) × (new ≡ old)
 Serves {S} step old bytes (x ∷ xs) new rest text =
     (frame : List ℕ) × (after : List ℕ) × (bytes ≡ frame ++ after) × ReadsMessage frame x.request × (x.request.close ≡ true → xs ≡ [])
@@ -45,7 +44,7 @@ Serves {S} step old bytes (x ∷ xs) new rest text =
     × (later : List ℕ) × (text ≡ reply_text x.reply (form_of x.request) ++ later) × Serves step between after xs new rest later
 
 -- So far the bytes were served, up to a rest, and no request asked to close.
-abbrev pub HasServed : {S : Type 0} → (S → Call → Reply → S → Type 0) → S → S → List ℕ → List ℕ → List ℕ → Type 0
+abbrev pub HasServed : {S : Type 0} → (S → Call → ReplyValue → S → Type 0) → S → S → List ℕ → List ℕ → List ℕ → Type 0
 HasServed step old new bytes rest text = (exchanges : List Exchange) × Serves step old bytes exchanges new rest text × (has_asked exchanges ≡ false)
 
 -- The form of a reply after which the conversation ends.
@@ -69,7 +68,7 @@ IsReadThrough Asked reader = Unit {0}
 IsReadThrough Refused reader = Unit {0}
 
 -- A conversation of these bytes, with this text, which ended so.
-pub record Converses {S : Type 0} (step : S → Call → Reply → S → Type 0) (old new : S) (bytes text : List ℕ) (ended : Ended) : Type 0 where
+pub record Converses {S : Type 0} (step : S → Call → ReplyValue → S → Type 0) (old new : S) (bytes text : List ℕ) (ended : Ended) : Type 0 where
   pub exchanges : List Exchange
   pub rest : List ℕ
   pub served : List ℕ
@@ -116,7 +115,7 @@ ComesAt NoMemory l before after = (IsBetween l × MayGoOn l.rest) ⊎ IsLastRepl
 
 -- A conversation of these bytes, with this text, that a fault broke off between two counts of reads: what was written is the
 -- text of the replies but for the end that is lost.
-pub record BreaksOff {S : Type 0} (step : S → Call → Reply → S → Type 0) (old new : S) (bytes text : List ℕ) (fault : ServeFault)
+pub record BreaksOff {S : Type 0} (step : S → Call → ReplyValue → S → Type 0) (old new : S) (bytes text : List ℕ) (fault : ServeFault)
     (before after : ℕ) : Type 0 where
   pub left : LeftOver
   pub served : List ℕ

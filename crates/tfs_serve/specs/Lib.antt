@@ -1,4 +1,3 @@
-pub mod Rows
 pub mod Desk
 pub mod Conversation
 pub mod Turns

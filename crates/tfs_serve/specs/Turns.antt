@@ -1,8 +1,8 @@
 -- The turns of a conversation: what was done from one moment to another.
 use Rattle.std.specs.Prelude.{◌≡◌, ◌≢◌, ◌⊎◌, ◌<◌, ◌+◌, ◌-◌, ◌*◌, ℕ, List, [], ◌++◌, length, Option}
 use Rattle.std.specs.Io.KnownBytes.{Appends, Consumes}
-use Rattle.tfs_table.specs.declared.call.Call.{Call}
-use Rattle.tfs_table.specs.declared.reply.Reply.{Reply}
+use Rattle.tfs_calls.specs.declared.call.Call.{Call}
+use Rattle.tfs_calls.specs.Reply.{ReplyValue}
 use Rattle.tfs_serve.specs.Conversation.{HasServed, IsReadThrough, ComesInReads, Converses, BreaksOff}
 use Rattle.tfs_serve.specs.declared.ended.Ended.{Ended}
 use Rattle.tfs_serve.specs.declared.fault.ServeFault.{ServeFault}
@@ -43,14 +43,14 @@ pub record Moved {S : Type 0} (from to : Moment S) (bytes text : List ℕ) : Typ
   pub came : ComesInReads bytes from.reads to.reads
 
 -- More was read, messages were answered, and the conversation goes on with what is left.
-pub record Went {S : Type 0} (step : S → Call → Reply → S → Type 0) (from to : Moment S) : Type 0 where
+pub record Went {S : Type 0} (step : S → Call → ReplyValue → S → Type 0) (from to : Moment S) : Type 0 where
   pub more : List ℕ
   pub text : List ℕ
   pub moved : Moved from to more text
   pub served : HasServed step from.desk to.desk (from.input ++ more) to.input text
 
 -- The conversation has ended so.
-pub record HasEnded {S : Type 0} (step : S → Call → Reply → S → Type 0) (from to : Moment S) (ended : Ended) : Type 0 where
+pub record HasEnded {S : Type 0} (step : S → Call → ReplyValue → S → Type 0) (from to : Moment S) (ended : Ended) : Type 0 where
   pub more : List ℕ
   pub text : List ℕ
   pub moved : Moved from to more text
@@ -58,7 +58,7 @@ pub record HasEnded {S : Type 0} (step : S → Call → Reply → S → Type 0) 
   pub through : IsReadThrough ended to.reader
 
 -- A fault broke the conversation off.
-pub record HasBroken {S : Type 0} (step : S → Call → Reply → S → Type 0) (from to : Moment S) (fault : ServeFault) : Type 0 where
+pub record HasBroken {S : Type 0} (step : S → Call → ReplyValue → S → Type 0) (from to : Moment S) (fault : ServeFault) : Type 0 where
   pub more : List ℕ
   pub text : List ℕ
   pub moved : Moved from to more text

@@ -2,7 +2,7 @@
 
 ghost use Rattle.std.specs.Prelude.{◌≡◌, ◌≤◌, ◌<◌, ◌⊎◌, ◌++◌, ℕ, List, [], length, Some, None, Ok, if◌then◌else◌, IfOk, IfErr, IfSome, OnOk};
 ghost use Rattle.std.specs.Io.KnownBytes.{Appends, Consumes};
-ghost use Rattle.tfs_table.specs.Reply.{ReplyValue, reply_value};
+ghost use Rattle.tfs_calls.specs.Reply.{ReplyValue, reply_value};
 ghost use Rattle.tfs_http.specs.Form.{form_of};
 ghost use Rattle.tfs_http.specs.ReplyText.{reply_text};
 ghost use Rattle.tfs_serve.specs.Conversation.{AnswersRequest, ComesInReads, Converses, BreaksOff, IsReadThrough};
@@ -17,8 +17,8 @@ use crate::output::write_out;
 use crate::reads::Reads;
 use std::alloc::{AllocError, Global};
 use std::io::{Read, Write};
+use tfs_calls::{Refusal, Reply};
 use tfs_http::{Form, Framed, Request, Routes, call_of, frame, write_reply};
-use tfs_table::{Refusal, Reply};
 
 /// The form of a reply after which the conversation ends.
 const CLOSING: Form = Form {

@@ -1,5 +1,4 @@
-//! Conversations over a connection: requests in, replies out, and a desk that answers the calls. So far the one desk is
-//! that which keeps its journal in memory.
+//! Conversations over a connection: requests in, replies out, and a desk that answers the calls, such as one that asks a table.
 #![tactic(auto)]
 
 mod conversation;
@@ -8,11 +7,9 @@ mod ended;
 mod fault;
 mod input;
 mod laws;
-pub mod memory_desk;
 mod output;
 mod reads;
-mod row;
-mod rows;
+mod table_desk;
 
 pub use conversation::converse;
 pub use desk::Desk;
@@ -20,6 +17,7 @@ pub use ended::Ended;
 pub use fault::ServeFault;
 pub use laws::bytes_have_one_output;
 pub use reads::{MAX_READS, Reads};
+pub use table_desk::{TableDesk, converse_over_table};
 
 #[cfg(test)]
 mod tests;

@@ -1,21 +1,23 @@
-//! Conversations and their desk, with replies worked out by hand.
+//! Conversations over a table, with replies worked out by hand.
 
 mod closing;
 mod cuts;
 mod desks;
 mod faults;
+mod impacts;
+mod limits;
 mod locks;
 mod pipes;
 mod replies;
+mod stops;
 
 use super::*;
-use crate::memory_desk::MemoryDesk;
 use std::alloc::Global;
 use std::io;
 use std::process::Abort;
 use std::test::Fail;
-use tfs_rules::Name;
-use tfs_table::{Bytes, Call, Raw, Reply};
+use tfs_journal::{Discard, Sink};
+use tfs_table::Table;
 
 const S1: &str = "{\"version\":4, \"serial\":1 ,\"lineage\":\"L1\"}";
 
@@ -32,46 +34,44 @@ const PUSH_REPLY_BYTES: usize = 38;
 /// The reply to an accepted change.
 const DONE: &str = "HTTP/1.1 200 OK\r\nContent-Length: 0\r\n\r\n";
 
-/// How many entries the desk has: a further push tells the position that it gets.
-fn entries_of(rt: &(impl Alloc<A = Global> + Abort), desk: &mut MemoryDesk) -> Result<u64, Fail> {
-    let Some(name) = Name::read(String::from_str(rt.alloc(), "count")?) else {
-        panic!(rt; "the text is a name");
-    };
-    let body = Bytes::new(S1.as_bytes().to_vec(rt.alloc())?);
-    match desk.answer(Call::Change(name, Raw::Push(None, body))) {
-        Reply::Done(position) => Ok(position - 1),
-        _ => panic!(rt; "the push is accepted"),
-    }
+/// A new table, whose journal is discarded.
+fn table_of(rt: &(impl Alloc<A = Global> + Abort)) -> Table<Discard> {
+    Table::new(rt.alloc(), Discard).ok().expect(rt, "a table")
 }
 
 /// A conversation with no reads so far.
-fn talk<R: io::Read, W: io::Write>(
+fn talk<R: io::Read, W: io::Write, K: Sink>(
     alloc: Global,
     reader: &mut R,
     writer: &mut W,
-    desk: &mut MemoryDesk,
+    table: &mut Table<K>,
 ) -> Result<Ended, ServeFault> {
-    converse(alloc, reader, writer, desk, &mut Reads::new())
+    converse_over_table(alloc, reader, writer, table, &mut Reads::new())
 }
 
 /// The input in one piece is answered with this output and this end.
-fn expect_end(
+fn expect_end<K: Sink>(
     rt: &(impl Alloc<A = Global> + Abort),
-    desk: &mut MemoryDesk,
+    table: &mut Table<K>,
     input: &str,
     output: &str,
     end: Ended,
 ) {
     let mut reader = input.as_bytes();
     let mut writer = Vec::new(rt.alloc());
-    let ended = talk(rt.alloc(), &mut reader, &mut writer, desk);
+    let ended = talk(rt.alloc(), &mut reader, &mut writer, table);
     assert!(rt; ended == Ok(end), "{input}");
     assert!(rt; writer.as_slice() == output.as_bytes(), "{input}");
 }
 
 /// The input in one piece is answered with this output, and the conversation is Clean.
-fn expect(rt: &(impl Alloc<A = Global> + Abort), desk: &mut MemoryDesk, input: &str, output: &str) {
-    expect_end(rt, desk, input, output, Ended::Clean);
+fn expect<K: Sink>(
+    rt: &(impl Alloc<A = Global> + Abort),
+    table: &mut Table<K>,
+    input: &str,
+    output: &str,
+) {
+    expect_end(rt, table, input, output, Ended::Clean);
 }
 
 /// A push of the text to `a`.
@@ -79,6 +79,41 @@ fn push_of(rt: &impl Alloc<A = Global>, text: &str) -> Result<String, Fail> {
     let len = text.len();
     Ok(format!(in rt.alloc();
         "POST /state/a HTTP/1.1\r\nHost: h\r\nContent-Length: {len}\r\n\r\n{text}"
+    )?)
+}
+
+/// A request with a body, whose length it tells.
+fn request_of(
+    rt: &impl Alloc<A = Global>,
+    method: &str,
+    target: &str,
+    body: &str,
+) -> Result<String, Fail> {
+    let len = body.len();
+    Ok(format!(in rt.alloc();
+        "{method} {target} HTTP/1.1\r\nHost: h\r\nContent-Length: {len}\r\n\r\n{body}"
+    )?)
+}
+
+/// A request is answered with this reply, and the conversation ends with the input.
+fn ask<K: Sink>(
+    rt: &(impl Alloc<A = Global> + Abort),
+    table: &mut Table<K>,
+    method: &str,
+    target: &str,
+    body: &str,
+    reply: &str,
+) -> Result<(), Fail> {
+    let request = request_of(rt, method, target, body)?;
+    expect(rt, table, request.as_str(), reply);
+    Ok(())
+}
+
+/// The reply that tells a JSON text.
+fn reply_of(rt: &impl Alloc<A = Global>, text: &str) -> Result<String, Fail> {
+    let len = text.len();
+    Ok(format!(in rt.alloc();
+        "HTTP/1.1 200 OK\r\nContent-Type: application/json\r\nContent-Length: {len}\r\n\r\n{text}"
     )?)
 }
 

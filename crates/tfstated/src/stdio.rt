@@ -5,17 +5,22 @@ ghost use Rattle.tfstated.specs.Status.{status_of};
 
 use std::io;
 use std::process::ExitCode;
-use tfs_serve::memory_desk::MemoryDesk;
-use tfs_serve::{Ended, Reads, ServeFault, converse};
+use tfs_journal::Discard;
+use tfs_serve::{Ended, Reads, ServeFault, converse_over_table};
+use tfs_table::Table;
 
 /// Answers standard input on standard output from a new table, whose journal is discarded. Gives the program's status.
 pub(crate) fn run(rt: &(impl AllocGlobal + Input + Print + Eprint)) -> ExitCode {
     let alloc = rt.alloc();
     let mut reader = rt.reader();
     let mut writer = io::writer(rt);
-    let mut desk = MemoryDesk::new(alloc);
+    // A discarded journal has no fault of its sink.
+    let Ok(mut table) = Table::new(alloc, Discard) else {
+        print_fault(rt, ServeFault::NoMemory);
+        return ExitCode::FAILURE;
+    };
     let mut reads = Reads::new();
-    match converse(alloc, &mut reader, &mut writer, &mut desk, &mut reads) {
+    match converse_over_table(alloc, &mut reader, &mut writer, &mut table, &mut reads) {
         Ok(ended) => ExitCode::from(status_of(ended)),
         Err(fault) => {
             print_fault(rt, fault);

@@ -11,7 +11,7 @@ const NO_STATE_AND_CLOSED: &str =
 
 #[test]
 fn a_request_that_asks_to_close_is_the_last(rt: HostRuntime) -> Result<(), Fail> {
-    let mut desk = MemoryDesk::new(rt.alloc());
+    let mut table = table_of(&rt);
     for head in [
         "GET /state/a HTTP/1.0\r\n",
         "GET /state/a HTTP/1.1\r\nHost: h\r\nConnection: keep-alive, Close\r\n",
@@ -25,7 +25,7 @@ fn a_request_that_asks_to_close_is_the_last(rt: HostRuntime) -> Result<(), Fail>
             let input = format!(in rt.alloc(); "{head}\r\n{behind}")?;
             expect_end(
                 &rt,
-                &mut desk,
+                &mut table,
                 input.as_str(),
                 NO_STATE_AND_CLOSED,
                 Ended::Asked,
@@ -35,17 +35,23 @@ fn a_request_that_asks_to_close_is_the_last(rt: HostRuntime) -> Result<(), Fail>
     let push = format!(in rt.alloc();
         "POST /state/a HTTP/1.0\r\nContent-Length: 41\r\n\r\n{S1}{PUSH_AND_READ}"
     )?;
-    expect_end(&rt, &mut desk, push.as_str(), DONE_AND_CLOSED, Ended::Asked);
-    assert_eq!(rt; entries_of(&rt, &mut desk)?, 1);
+    expect_end(
+        &rt,
+        &mut table,
+        push.as_str(),
+        DONE_AND_CLOSED,
+        Ended::Asked,
+    );
+    assert_eq!(rt; table.len(), 1);
     Ok(())
 }
 
 #[test]
 fn a_refused_request_may_ask_to_close(rt: HostRuntime) -> Result<(), Fail> {
-    let mut desk = MemoryDesk::new(rt.alloc());
+    let mut table = table_of(&rt);
     expect_end(
         &rt,
-        &mut desk,
+        &mut table,
         "PUT /state/a HTTP/1.0\r\n\r\nGET",
         "HTTP/1.1 405 Method Not Allowed\r\nAllow: DELETE, GET, LOCK, POST, UNLOCK\r\nConnection: close\r\n\
          Content-Type: application/json\r\nContent-Length: 28\r\n\r\n{\"error\":\"MethodNotAllowed\"}",
@@ -56,10 +62,10 @@ fn a_refused_request_may_ask_to_close(rt: HostRuntime) -> Result<(), Fail> {
 
 #[test]
 fn the_reply_to_head_has_no_body(rt: HostRuntime) -> Result<(), Fail> {
-    let mut desk = MemoryDesk::new(rt.alloc());
+    let mut table = table_of(&rt);
     expect(
         &rt,
-        &mut desk,
+        &mut table,
         "HEAD /state/a HTTP/1.1\r\nHost: h\r\n\r\n",
         "HTTP/1.1 405 Method Not Allowed\r\nAllow: DELETE, GET, LOCK, POST, UNLOCK\r\nContent-Type: application/json\r\nContent-Length: 28\r\n\r\n",
     );
@@ -68,14 +74,14 @@ fn the_reply_to_head_has_no_body(rt: HostRuntime) -> Result<(), Fail> {
 
 #[test]
 fn a_request_without_its_host_ends_the_conversation(rt: HostRuntime) -> Result<(), Fail> {
-    let mut desk = MemoryDesk::new(rt.alloc());
+    let mut table = table_of(&rt);
     let refused =
         "HTTP/1.1 400 Bad Request\r\nConnection: close\r\nContent-Type: application/json\r\nContent-Length: 18\r\n\r\n{\"error\":\"NoHost\"}";
     for fields in ["", "Host: a\r\nHost: a\r\n", "Content-Length: x\r\n"] {
         let input = format!(in rt.alloc(); "GET /state/a HTTP/1.1\r\n{fields}\r\n{PUSH_AND_READ}")?;
-        expect_end(&rt, &mut desk, input.as_str(), refused, Ended::Refused);
+        expect_end(&rt, &mut table, input.as_str(), refused, Ended::Refused);
     }
-    assert_eq!(rt; entries_of(&rt, &mut desk)?, 0);
+    assert_eq!(rt; table.len(), 0);
     Ok(())
 }
 
@@ -94,7 +100,7 @@ fn told(
 
 #[test]
 fn a_body_is_compared_with_its_digest(rt: HostRuntime) -> Result<(), Fail> {
-    let mut desk = MemoryDesk::new(rt.alloc());
+    let mut table = table_of(&rt);
     let state = refusal_of(&rt, "400 Bad Request", "BadState")?;
     let digest = refusal_of(&rt, "400 Bad Request", "BadDigest")?;
     for (field, body, reply) in [
@@ -116,7 +122,7 @@ fn a_body_is_compared_with_its_digest(rt: HostRuntime) -> Result<(), Fail> {
         ),
     ] {
         let push = told(&rt, "POST", field, body)?;
-        expect(&rt, &mut desk, push.as_str(), reply);
+        expect(&rt, &mut table, push.as_str(), reply);
     }
     let unlock = told(
         &rt,
@@ -124,7 +130,7 @@ fn a_body_is_compared_with_its_digest(rt: HostRuntime) -> Result<(), Fail> {
         "Content-MD5: 1B2M2Y8AsgTpgAmY7PhCfg==\r\n",
         "",
     )?;
-    expect(&rt, &mut desk, unlock.as_str(), DONE);
-    assert_eq!(rt; entries_of(&rt, &mut desk)?, 1);
+    expect(&rt, &mut table, unlock.as_str(), DONE);
+    assert_eq!(rt; table.len(), 1);
     Ok(())
 }

@@ -6,25 +6,25 @@ use super::*;
 #[test]
 fn a_push_and_a_read_are_answered_however_they_are_cut(rt: HostRuntime) -> Result<(), Fail> {
     for cut in 0..PUSH_AND_READ.len() {
-        let mut desk = MemoryDesk::new(rt.alloc());
+        let mut table = table_of(&rt);
         let mut reader = Pieces::new(PUSH_AND_READ, usize::MAX);
         reader.before_cut = cut;
         let mut writer = Vec::new(rt.alloc());
-        let ended = talk(rt.alloc(), &mut reader, &mut writer, &mut desk);
+        let ended = talk(rt.alloc(), &mut reader, &mut writer, &mut table);
         assert!(rt; ended == Ok(Ended::Clean), "{cut}");
         assert!(rt; writer.as_slice() == BOTH_REPLIES.as_bytes(), "{cut}");
     }
     for most in [1, 2, 3, 7, 64] {
-        let mut desk = MemoryDesk::new(rt.alloc());
+        let mut table = table_of(&rt);
         let mut reader = Pieces::new(PUSH_AND_READ, most);
         let mut writer = Taking::new(rt.alloc(), 1);
-        let ended = talk(rt.alloc(), &mut reader, &mut writer, &mut desk);
+        let ended = talk(rt.alloc(), &mut reader, &mut writer, &mut table);
         assert!(rt; ended == Ok(Ended::Clean), "{most}");
         assert!(rt;
             writer.taken.as_slice() == BOTH_REPLIES.as_bytes(),
             "{most}"
         );
-        assert_eq!(rt; entries_of(&rt, &mut desk)?, 1);
+        assert_eq!(rt; table.len(), 1);
     }
     Ok(())
 }
@@ -32,18 +32,18 @@ fn a_push_and_a_read_are_answered_however_they_are_cut(rt: HostRuntime) -> Resul
 #[test]
 fn the_input_is_read_to_its_end(rt: HostRuntime) -> Result<(), Fail> {
     for cut in [0, 1, 53, 95, 96, 129] {
-        let mut desk = MemoryDesk::new(rt.alloc());
+        let mut table = table_of(&rt);
         let mut reader = Pieces::new(PUSH_AND_READ, usize::MAX);
         reader.before_cut = cut;
         let mut writer = Vec::new(rt.alloc());
-        let ended = talk(rt.alloc(), &mut reader, &mut writer, &mut desk);
+        let ended = talk(rt.alloc(), &mut reader, &mut writer, &mut table);
         assert!(rt; ended == Ok(Ended::Clean), "{cut}");
         assert!(rt; reader.told_end, "{cut}");
     }
-    let mut desk = MemoryDesk::new(rt.alloc());
+    let mut table = table_of(&rt);
     let mut reader = Pieces::new("GET /state/a HT", 1);
     let mut writer = Vec::new(rt.alloc());
-    let ended = talk(rt.alloc(), &mut reader, &mut writer, &mut desk);
+    let ended = talk(rt.alloc(), &mut reader, &mut writer, &mut table);
     assert!(rt; ended == Ok(Ended::Cut));
     assert!(rt; reader.told_end);
     Ok(())
@@ -54,10 +54,10 @@ fn an_input_that_is_cut_short_has_the_replies_to_its_whole_messages(
     rt: HostRuntime,
 ) -> Result<(), Fail> {
     for len in 0..PUSH_AND_READ.len() + 1 {
-        let mut desk = MemoryDesk::new(rt.alloc());
+        let mut table = table_of(&rt);
         let mut reader = PUSH_AND_READ.as_bytes().split_at(len).0;
         let mut writer = Vec::new(rt.alloc());
-        let ended = talk(rt.alloc(), &mut reader, &mut writer, &mut desk);
+        let ended = talk(rt.alloc(), &mut reader, &mut writer, &mut table);
         let (written, end) = match len {
             0 => (0, Ended::Clean),
             1..=95 => (0, Ended::Cut),
@@ -80,10 +80,10 @@ fn a_long_body_comes_in_pieces(rt: HostRuntime) -> Result<(), Fail> {
     }
     let push = push_of(&rt, body.as_str())?;
     for most in [64, 65_536, usize::MAX] {
-        let mut desk = MemoryDesk::new(rt.alloc());
+        let mut table = table_of(&rt);
         let mut writer = Vec::new(rt.alloc());
         let mut reader = Pieces::new(push.as_str(), most);
-        let ended = talk(rt.alloc(), &mut reader, &mut writer, &mut desk);
+        let ended = talk(rt.alloc(), &mut reader, &mut writer, &mut table);
         assert!(rt; ended == Ok(Ended::Clean), "{most}");
         assert!(rt; writer.as_slice() == DONE.as_bytes(), "{most}");
     }
@@ -102,10 +102,10 @@ fn a_long_state_is_written_in_pieces(rt: HostRuntime) -> Result<(), Fail> {
     let output = format!(in rt.alloc();
         "{DONE}HTTP/1.1 200 OK\r\nContent-Type: application/json\r\nContent-Length: 200000\r\n\r\n{state}"
     )?;
-    let mut desk = MemoryDesk::new(rt.alloc());
+    let mut table = table_of(&rt);
     let mut reader = input.as_bytes();
     let mut writer = Taking::new(rt.alloc(), 1_000);
-    let ended = talk(rt.alloc(), &mut reader, &mut writer, &mut desk);
+    let ended = talk(rt.alloc(), &mut reader, &mut writer, &mut table);
     assert!(rt; ended == Ok(Ended::Clean));
     assert!(rt; writer.taken.as_slice() == output.as_bytes());
     Ok(())

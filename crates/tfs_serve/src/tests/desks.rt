@@ -1,10 +1,16 @@
-//! A desk in memory, asked over small journals, with answers worked out by hand.
+//! The desk over a table, asked call by call.
 
 use super::*;
+use tfs_calls::{Bytes, Call, Kind, Query, Raw, Refusal, Reply, Text, Texts};
+use tfs_rules::Name;
 use tfs_state::MAX_STATE_BYTES;
-use tfs_table::Refusal;
 
 const S2: &str = "{\"version\":4, \"serial\":2 ,\"lineage\":\"L1\"}";
+
+/// A state with two resources, of which `t.b` depends on `t.a`.
+const PAIR: &str = r#"{"version":4,"serial":1,"lineage":"L1","resources":[
+    {"mode":"managed","type":"t","name":"a","instances":[{}]},
+    {"mode":"managed","type":"t","name":"b","instances":[{"dependencies":["t.a"]}]}]}"#;
 
 fn name_of(rt: &(impl Alloc<A = Global> + Abort), text: &str) -> Result<Name, Fail> {
     match Name::read(String::from_str(rt.alloc(), text)?) {
@@ -13,9 +19,10 @@ fn name_of(rt: &(impl Alloc<A = Global> + Abort), text: &str) -> Result<Name, Fa
     }
 }
 
+/// The answer to a push.
 fn push(
     rt: &(impl Alloc<A = Global> + Abort),
-    desk: &mut MemoryDesk,
+    desk: &mut TableDesk<'_, Discard>,
     name: &str,
     text: &str,
 ) -> Result<Reply, Fail> {
@@ -41,7 +48,7 @@ fn expect_refused(rt: &impl Abort, reply: Reply, refusal: Refusal) {
 
 fn expect_state(
     rt: &(impl Alloc<A = Global> + Abort),
-    desk: &mut MemoryDesk,
+    desk: &mut TableDesk<'_, Discard>,
     name: &str,
     text: &str,
 ) -> Result<(), Fail> {
@@ -54,21 +61,12 @@ fn expect_state(
 }
 
 #[test]
-fn what_was_pushed_is_read(rt: HostRuntime) -> Result<(), Fail> {
-    let mut desk = MemoryDesk::new(rt.alloc());
-    let name = name_of(&rt, "a")?;
-    expect_refused(&rt, desk.answer(Call::Read(name)), Refusal::NoState);
-    expect_done(&rt, push(&rt, &mut desk, "a", S1)?, 1);
-    expect_done(&rt, push(&rt, &mut desk, "a", S1)?, 2);
-    let spaced = format!(in rt.alloc(); "{S1} ")?;
-    let reply = push(&rt, &mut desk, "a", spaced.as_str())?;
-    expect_refused(&rt, reply, Refusal::SerialReused);
-    expect_state(&rt, &mut desk, "a", S1)
-}
-
-#[test]
 fn names_have_states_of_their_own(rt: HostRuntime) -> Result<(), Fail> {
-    let mut desk = MemoryDesk::new(rt.alloc());
+    let mut table = table_of(&rt);
+    let mut desk = TableDesk {
+        alloc: rt.alloc(),
+        table: &mut table,
+    };
     expect_done(&rt, push(&rt, &mut desk, "a", S2)?, 1);
     expect_done(&rt, push(&rt, &mut desk, "b", S1)?, 2);
     expect_refused(&rt, push(&rt, &mut desk, "a", S1)?, Refusal::SerialTooLow);
@@ -80,29 +78,37 @@ fn names_have_states_of_their_own(rt: HostRuntime) -> Result<(), Fail> {
     expect_refused(&rt, reply, Refusal::LineageDiffers);
     expect_done(&rt, push(&rt, &mut desk, "c", other)?, 4);
     expect_refused(&rt, push(&rt, &mut desk, "c", "abc")?, Refusal::BadState);
-    expect_state(&rt, &mut desk, "c", other)
-}
-
-#[test]
-fn a_new_name_is_refused_where_there_are_1024(rt: HostRuntime) -> Result<(), Fail> {
-    let mut desk = MemoryDesk::new(rt.alloc());
-    for i in 0..1_024 {
-        let name = format!(in rt.alloc(); "n{i}")?;
-        expect_done(&rt, push(&rt, &mut desk, name.as_str(), S1)?, i + 1);
-    }
-    expect_refused(&rt, push(&rt, &mut desk, "n1024", S1)?, Refusal::TableFull);
-    expect_done(&rt, push(&rt, &mut desk, "n0", S2)?, 1_025);
+    expect_state(&rt, &mut desk, "c", other)?;
+    let name = name_of(&rt, "d")?;
+    expect_refused(&rt, desk.answer(Call::Read(name)), Refusal::NoState);
+    assert_eq!(rt; table.len(), 4);
     Ok(())
 }
 
 #[test]
-fn another_entry_is_refused_where_there_are_65536(rt: HostRuntime) -> Result<(), Fail> {
-    let mut desk = MemoryDesk::new(rt.alloc());
-    for i in 0..65_536 {
-        expect_done(&rt, push(&rt, &mut desk, "a", S1)?, i + 1);
+fn a_query_has_the_version_and_the_position_of_its_answer(rt: HostRuntime) -> Result<(), Fail> {
+    let mut table = table_of(&rt);
+    let mut desk = TableDesk {
+        alloc: rt.alloc(),
+        table: &mut table,
+    };
+    expect_done(&rt, push(&rt, &mut desk, "b", S1)?, 1);
+    expect_done(&rt, push(&rt, &mut desk, "a", PAIR)?, 2);
+    let mut texts = Vec::new(rt.alloc());
+    texts.push(Text::new(String::from_str(rt.alloc(), "t.a")?))?;
+    let query = Query {
+        kind: Kind::Any,
+        texts: Texts::new(texts),
+    };
+    match desk.answer(Call::Impact(name_of(&rt, "a")?, query)) {
+        Reply::Impact(impact) => {
+            assert!(rt; impact.chosen.as_slice() == [1usize].as_slice());
+            assert_eq!(rt; impact.position, 2);
+            assert!(rt; impact.version.doc().bytes() == PAIR.as_bytes());
+        }
+        _ => panic!(rt; "the query is answered"),
     }
-    expect_refused(&rt, push(&rt, &mut desk, "a", S1)?, Refusal::JournalFull);
-    expect_state(&rt, &mut desk, "a", S1)
+    Ok(())
 }
 
 #[test]
@@ -116,12 +122,24 @@ fn a_refused_growth_is_told_and_changes_nothing(rt: HostRuntime) -> Result<(), F
     let Some(name) = Name::read(text) else {
         panic!(rt; "the text is a name");
     };
+    let Ok(mut table) = Table::new(rt.alloc(), Discard) else {
+        return Ok(());
+    };
     assert!(rt; bytes.len() <= MAX_STATE_BYTES);
-    let mut desk = MemoryDesk::new(rt.alloc());
+    let mut desk = TableDesk {
+        alloc: rt.alloc(),
+        table: &mut table,
+    };
     match desk.answer(Call::Change(name, Raw::Push(None, Bytes::new(bytes)))) {
-        Reply::Done(position) => assert_eq!(rt; position, 1),
-        Reply::Refused(refusal) => assert_eq!(rt; refusal.name(), "OutOfMemory"),
-        Reply::State(_) => panic!(rt; "a push has no state"),
+        Reply::Done(position) => {
+            assert_eq!(rt; position, 1);
+            assert_eq!(rt; table.len(), 1);
+        }
+        Reply::Refused(refusal) => {
+            assert_eq!(rt; refusal.name(), "OutOfMemory");
+            assert_eq!(rt; table.len(), 0);
+        }
+        _ => panic!(rt; "a push has no state and no impact"),
     }
     Ok(())
 }

@@ -12,41 +12,24 @@ const B: &str = "{\"ID\":\"B\"}";
 const HELD_BY_A: &str =
     "HTTP/1.1 423 Locked\r\nContent-Type: application/json\r\nContent-Length: 20\r\n\r\n{\"ID\":\"A\" ,\"Who\":\"\"}";
 
-/// A request is answered with this reply, and the conversation ends with the input.
-fn ask(
-    rt: &(impl Alloc<A = Global> + Abort),
-    desk: &mut MemoryDesk,
-    method: &str,
-    target: &str,
-    body: &str,
-    reply: &str,
-) -> Result<(), Fail> {
-    let len = body.len();
-    let request = format!(in rt.alloc();
-        "{method} {target} HTTP/1.1\r\nHost: h\r\nContent-Length: {len}\r\n\r\n{body}"
-    )?;
-    expect(rt, desk, request.as_str(), reply);
-    Ok(())
-}
-
 #[test]
 fn a_deleted_state_is_forgotten(rt: HostRuntime) -> Result<(), Fail> {
-    let mut desk = MemoryDesk::new(rt.alloc());
+    let mut table = table_of(&rt);
     let push = push_of(&rt, S1)?;
-    expect(&rt, &mut desk, push.as_str(), DONE);
+    expect(&rt, &mut table, push.as_str(), DONE);
     let differs = refusal_of(&rt, "409 Conflict", "LineageDiffers")?;
     let other = "{\"version\":4,\"serial\":9,\"lineage\":\"L2\"}";
-    ask(&rt, &mut desk, "POST", "/state/a", other, differs.as_str())?;
-    ask(&rt, &mut desk, "DELETE", "/state/a", "", DONE)?;
+    ask(&rt, &mut table, "POST", "/state/a", other, differs.as_str())?;
+    ask(&rt, &mut table, "DELETE", "/state/a", "", DONE)?;
     let none = refusal_of(&rt, "404 Not Found", "NoState")?;
-    ask(&rt, &mut desk, "GET", "/state/a", "", none.as_str())?;
+    ask(&rt, &mut table, "GET", "/state/a", "", none.as_str())?;
     let first = "{\"version\":4,\"serial\":0,\"lineage\":\"L2\"}";
-    ask(&rt, &mut desk, "POST", "/state/a", first, DONE)
+    ask(&rt, &mut table, "POST", "/state/a", first, DONE)
 }
 
 #[test]
 fn a_lock_is_held_until_it_is_given_back(rt: HostRuntime) -> Result<(), Fail> {
-    let mut desk = MemoryDesk::new(rt.alloc());
+    let mut table = table_of(&rt);
     for (method, body, reply) in [
         ("LOCK", A, DONE),
         ("LOCK", B, HELD_BY_A),
@@ -56,14 +39,14 @@ fn a_lock_is_held_until_it_is_given_back(rt: HostRuntime) -> Result<(), Fail> {
         ("UNLOCK", A2, DONE),
         ("LOCK", B, DONE),
     ] {
-        ask(&rt, &mut desk, method, "/state/a", body, reply)?;
+        ask(&rt, &mut table, method, "/state/a", body, reply)?;
     }
     Ok(())
 }
 
 #[test]
 fn a_write_bears_the_lock_that_is_held(rt: HostRuntime) -> Result<(), Fail> {
-    let mut desk = MemoryDesk::new(rt.alloc());
+    let mut table = table_of(&rt);
     for (method, target, body, reply) in [
         ("LOCK", "/state/a", A, DONE),
         ("POST", "/state/a", S1, HELD_BY_A),
@@ -76,24 +59,24 @@ fn a_write_bears_the_lock_that_is_held(rt: HostRuntime) -> Result<(), Fail> {
         ("LOCK", "/state/a", B, HELD_BY_A),
         ("LOCK", "/state/b", B, DONE),
     ] {
-        ask(&rt, &mut desk, method, target, body, reply)?;
+        ask(&rt, &mut table, method, target, body, reply)?;
     }
     Ok(())
 }
 
 #[test]
 fn a_lock_that_was_given_back_is_lost(rt: HostRuntime) -> Result<(), Fail> {
-    let mut desk = MemoryDesk::new(rt.alloc());
+    let mut table = table_of(&rt);
     let lost = refusal_of(&rt, "409 Conflict", "LockLost")?;
-    ask(&rt, &mut desk, "LOCK", "/state/a", A, DONE)?;
-    ask(&rt, &mut desk, "UNLOCK", "/state/a", "", DONE)?;
-    ask(&rt, &mut desk, "POST", "/state/a?ID=A", S1, lost.as_str())?;
-    ask(&rt, &mut desk, "UNLOCK", "/state/a", "", DONE)
+    ask(&rt, &mut table, "LOCK", "/state/a", A, DONE)?;
+    ask(&rt, &mut table, "UNLOCK", "/state/a", "", DONE)?;
+    ask(&rt, &mut table, "POST", "/state/a?ID=A", S1, lost.as_str())?;
+    ask(&rt, &mut table, "UNLOCK", "/state/a", "", DONE)
 }
 
 #[test]
 fn lock_information_that_cannot_be_read_is_refused(rt: HostRuntime) -> Result<(), Fail> {
-    let mut desk = MemoryDesk::new(rt.alloc());
+    let mut table = table_of(&rt);
     let bad = refusal_of(&rt, "400 Bad Request", "BadLockInfo")?;
     let mut id = String::new(rt.alloc());
     for _ in 0..256 {
@@ -105,7 +88,7 @@ fn lock_information_that_cannot_be_read_is_refused(rt: HostRuntime) -> Result<()
     }
     let longer = format!(in rt.alloc(); "{{\"ID\":\"{id}i\"}}")?;
     for body in ["x", "[]", "{\"ID\":\"\"}", longer.as_str(), long.as_str()] {
-        ask(&rt, &mut desk, "LOCK", "/state/a", body, bad.as_str())?;
+        ask(&rt, &mut table, "LOCK", "/state/a", body, bad.as_str())?;
     }
     let target = format!(in rt.alloc(); "/state/a?ID={id}i")?;
     for (method, body) in [
@@ -114,25 +97,25 @@ fn lock_information_that_cannot_be_read_is_refused(rt: HostRuntime) -> Result<()
         ("DELETE", ""),
         ("UNLOCK", ""),
     ] {
-        ask(&rt, &mut desk, method, target.as_str(), body, bad.as_str())?;
+        ask(&rt, &mut table, method, target.as_str(), body, bad.as_str())?;
     }
     let most = format!(in rt.alloc(); "{{\"ID\":\"{id}\"}}")?;
-    ask(&rt, &mut desk, "LOCK", "/state/a", most.as_str(), DONE)
+    ask(&rt, &mut table, "LOCK", "/state/a", most.as_str(), DONE)
 }
 
 #[test]
 fn identifiers_are_compared_as_they_are_spelled_out(rt: HostRuntime) -> Result<(), Fail> {
-    let mut desk = MemoryDesk::new(rt.alloc());
+    let mut table = table_of(&rt);
     let info = "{\"ID\":\"\\u0061 b\\u00e9\"}";
     let held =
         "HTTP/1.1 423 Locked\r\nContent-Type: application/json\r\nContent-Length: 23\r\n\r\n{\"ID\":\"\\u0061 b\\u00e9\"}";
-    ask(&rt, &mut desk, "LOCK", "/state/a", info, DONE)?;
-    ask(&rt, &mut desk, "POST", "/state/a?ID=A+b%C3%A9", S1, held)?;
-    ask(&rt, &mut desk, "POST", "/state/a?ID=a%2Bb%C3%A9", S1, held)?;
-    ask(&rt, &mut desk, "POST", "/state/a?ID=a+b%C3%A9", S1, DONE)?;
+    ask(&rt, &mut table, "LOCK", "/state/a", info, DONE)?;
+    ask(&rt, &mut table, "POST", "/state/a?ID=A+b%C3%A9", S1, held)?;
+    ask(&rt, &mut table, "POST", "/state/a?ID=a%2Bb%C3%A9", S1, held)?;
+    ask(&rt, &mut table, "POST", "/state/a?ID=a+b%C3%A9", S1, DONE)?;
     ask(
         &rt,
-        &mut desk,
+        &mut table,
         "DELETE",
         "/state/a?ID=%61%20b%C3%A9",
         "",

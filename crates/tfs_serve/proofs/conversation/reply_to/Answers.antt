@@ -1,7 +1,7 @@
 -- The reply that was written is the one that the desk or the routing gave.
 use Rattle.std.proofs.Common.{subst}
 use Rattle.std.specs.Io.KnownBytes.{Appends}
-use Rattle.tfs_table.specs.Reply.{reply_value}
+use Rattle.tfs_calls.specs.Reply.{reply_value}
 use Rattle.tfs_http.specs.declared.form.Form.{Form}
 use Rattle.tfs_http.specs.ReplyText.{reply_text}
 use Rattle.tfs_serve.specs.Turns.{WritesPart}

@@ -1,0 +1,176 @@
+"""Drives `tfstated stdio` with queries for the impact of changes. What it must write is written here by hand; random queries over
+random states are answered by the plain models of stdio_model.py and impact_model.py."""
+import json
+import random
+import sys
+from urllib.parse import quote, quote_plus
+
+import stdio_model as model
+from stdio_model import CLEAN, DONE, refusal_text, reply_text
+from stdio_program import checks_in, expect, request_text, run, run_checks
+
+
+def resource(name, *instances, **members):
+    """A resource of type t with these instances."""
+    return {"mode": "managed", "type": "t", "name": name, "instances": list(instances), **members}
+
+
+def depending(*texts, **members):
+    """An instance with these dependencies."""
+    return {"dependencies": list(texts), **members}
+
+
+def state(*resources, serial=1):
+    """The bytes of a state."""
+    return json.dumps({"version": 4, "serial": serial, "lineage": "L1", "resources": list(resources)}, ensure_ascii=False).encode()
+
+
+def ask(kind, *texts, name="a"):
+    """The bytes of a query."""
+    return request_text("GET", f"/impact/{name}/{kind}?" + "&".join("of=" + quote(text) for text in texts))
+
+
+def answer(*instances, position=1, serial=1):
+    """The reply to a query, its body written without a reader or a writer of JSON."""
+    names = ",".join(f'"{name}"' for name in instances)
+    return reply_text(200, f'{{"instances":[{names}],"position":{position},"serial":{serial}}}'.encode())
+
+
+CHAIN = state(resource("a", depending("x.y")), resource("b", depending("t.a")), resource("c", depending("t.b")), serial=2)
+FIVE = state(resource("a", {}), resource("b", {}), resource("c", depending("t.a")), resource("d", depending("t.a", "t.b")),
+             resource("e", depending("t.b")))
+UNKNOWN = refusal_text("UnknownAddress")
+
+
+def expect_answers(pushed, asked):
+    """Pushes a state, and asks in one conversation."""
+    output = b"".join(reply for _, reply in asked)
+    expect(run(request_text("POST", "/state/a", pushed) + b"".join(text for text, _ in asked)), (DONE + output, CLEAN, b""), pushed)
+
+
+def check_a_change_reaches_what_depends_on_it():
+    both = answer("t.b", "t.c", serial=2)
+    expect(both, b"HTTP/1.1 200 OK\r\nContent-Type: application/json\r\nContent-Length: 51\r\n\r\n"
+           b'{"instances":["t.b","t.c"],"position":1,"serial":2}')
+    expect_answers(CHAIN, [
+        (ask("any", "t.a"), both), (ask("all", "t.a"), both), (ask("any", "t.c"), answer(serial=2)),
+        (ask("any", "x.y"), UNKNOWN), (ask("any", ""), UNKNOWN), (ask("all", "t.a", "t.a[0]"), UNKNOWN),
+        (ask("any"), refusal_text("NoAddress")), (ask("any", "t.a", name="b"), refusal_text("NoState")),
+    ])
+    cycle = state(resource("a", depending("t.b")), resource("b", depending("t.a")))
+    expect_answers(cycle, [(ask("any", "t.a"), answer("t.a", "t.b"))])
+
+
+def check_all_meets_what_any_unites():
+    texts = ["t.a"] * 64
+    expect_answers(FIVE, [
+        (ask("any", "t.a"), answer("t.c", "t.d")), (ask("any", "t.b", "t.a"), answer("t.c", "t.d", "t.e")),
+        (ask("all", "t.b", "t.a"), answer("t.d")), (ask("all", "t.c"), answer()),
+        (ask("all", *texts), answer("t.c", "t.d")), (ask("all", *texts, "t.a"), refusal_text("TooManyAddresses")),
+        (ask("any", *texts, "x"), refusal_text("TooManyAddresses")), (ask("any", "t.a", "x.y"), UNKNOWN),
+    ])
+
+
+def check_addresses_are_told_as_json_texts():
+    keys = state(resource("n", {"index_key": "\u00e9\"\n"}, {"index_key": 7, "deposed": "ab"}, module="module.m[\"p.q]\"]"),
+                 resource("z", depending("module.m.t.n"), {"dependencies": ["module.m[8].t.n"], "deposed": ""}, mode="data"),
+                 resource("y", {"index_key": "\u00e9\"\n", "dependencies": ["data.t.z"]}))
+    told = ("data.t.z", "data.t.z", 't.y[\\"\u00e9\\\\\\"\\\\n\\"]')
+    by_key = 'module.m["p.q]"].t.n["\u00e9\\"\\n"]'
+    names = ["module.m.t.n", by_key, 'module.m["p.q]"].t.n[7] (deposed ab)']
+    expect_answers(keys, [(ask("any", name), answer(*told)) for name in names] + [(ask("any", 'module.m["p.q]"].t.n[7]'), UNKNOWN)])
+
+
+def check_queries_are_read_as_forms():
+    got = answer("t.c", "t.d")
+    table = [
+        ("any?of=t.a", got), ("any?%6F%66=t%2Ea", got), ("any?ID=x&&of=t.a&b=c", got), ("any?Of=t.a", refusal_text("NoAddress")),
+        ("any", refusal_text("NoAddress")), ("any?of", UNKNOWN), ("any?of=t.a+", UNKNOWN), ("all?of=t.a?of=t.b", UNKNOWN),
+        ("any?of=%FF", UNKNOWN),
+    ]
+    expect_answers(FIVE, [(request_text("GET", "/impact/a/" + query), reply) for query, reply in table])
+
+
+def check_impact_routes_have_one_method():
+    allowed = b"HTTP/1.1 405 Method Not Allowed\r\nAllow: GET\r\nContent-Type: application/json\r\nContent-Length: 28\r\n\r\n"
+    body = b'{"error":"MethodNotAllowed"}'
+    for method in ("POST", "DELETE", "LOCK", "UNLOCK", "get"):
+        expect(run(request_text(method, "/impact/a/any?of=t.a")), (allowed + body, CLEAN, b""), method)
+    expect(run(request_text("HEAD", "/impact/a/all")), (allowed, CLEAN, b""))
+    for target in ("/impact/a", "/impact/a/", "/impact//any", "/impact/a/ANY", "/impact/a/any/", "/impact/a/b/any", "/impact/a/some"):
+        expect(run(request_text("GET", target)), (refusal_text("NoRoute"), CLEAN, b""), target)
+    for target, name in [("/impact/a%20b/any", "BadName"), ("/impact/any/any", "NoState"), ("/impact/all/all?of=x", "NoState")]:
+        expect(run(request_text("GET", target)), (refusal_text(name), CLEAN, b""), target)
+    digest = request_text("GET", "/impact/a/any?of=t.a", more="Content-MD5: ?\r\n")
+    expect(run(digest), (refusal_text("BadDigest"), CLEAN, b""))
+
+
+def check_answers_follow_the_state_of_the_day():
+    other = state(resource("b", {}), resource("c", depending("t.b")), serial=0)
+    locked, info = request_text("LOCK", "/state/b", b'{"ID":"B"}'), b'{"ID":"A"}'
+    steps = [
+        (request_text("POST", "/state/a", CHAIN), DONE), (locked, DONE), (ask("any", "t.b"), answer("t.c", position=2, serial=2)),
+        (request_text("DELETE", "/state/a"), DONE), (ask("any", "t.b"), refusal_text("NoState")),
+        (request_text("POST", "/state/a", other), DONE), (ask("any", "t.b"), answer("t.c", position=4, serial=0)),
+        (ask("any", "t.a"), UNKNOWN), (request_text("LOCK", "/state/a", info), DONE),
+        (request_text("POST", "/state/a", FIVE), reply_text(423, info)), (ask("all", "t.b"), answer("t.c", position=5, serial=0)),
+    ]
+    expect(run(b"".join(text for text, _ in steps)), (b"".join(reply for _, reply in steps), CLEAN, b""))
+
+
+MODULES = ["", "module.m", "module.m[0]", 'module.m["x]"]', "[0]"]
+KEYS = [None, None, 0, 1, "k", 'q"\u00e9']
+
+
+def random_state(chance):
+    """A state of a few resources, of which many depend on one another, and the texts that may name them."""
+    names = [(chance.choice(MODULES), chance.choice(["", "", "", "data."]), f"t.{chance.choice('abcdef')}") for _ in range(6)]
+    known = [(module + "." if module else "") + kind + name for module, kind, name in names]
+    resources, texts = [], known + ["x.y", "t.a[0]", "module.m.t.b", ""]
+    for (module, kind, name), full in zip(names, known):
+        instances = []
+        for key in chance.sample(KEYS, chance.randrange(4)):
+            own = depending(*(chance.choice(known + ["x.y", "module.m[3].t.a", "t.b[5]"]) for _ in range(chance.randrange(3))))
+            own |= {"index_key": key} if key is not None else {}
+            own |= {"deposed": chance.choice(["", "ab12"])} if chance.random() < 0.2 else {}
+            instances.append(own)
+            texts.append(full + ("" if key is None else f"[{json.dumps(key, ensure_ascii=False)}]"))
+        members = {"module": module} if module or chance.random() < 0.5 else {}
+        resources.append({**resource(name[2:], *instances, **members), "mode": "data" if kind else "managed"})
+    return state(*resources, serial=chance.randrange(2)), texts
+
+
+def random_query(chance, texts):
+    """The bytes of a query."""
+    count = chance.choice([1, 1, 1, 1, 2, 2, 3, 64, 65, 0])
+    encode = chance.choice([quote, quote_plus])
+    pairs = [f"of={encode(chance.choice(texts))}" for _ in range(count)] + ["ID=x"] * (chance.random() < 0.1)
+    method = "GET" if chance.random() < 0.95 else "POST"
+    name = chance.choice("aaaab")
+    return request_text(method, f"/impact/{name}/{chance.choice(['any', 'all'])}?" + "&".join(pairs))
+
+
+def check_random_queries_are_answered_as_the_models_say():
+    chance, met, lengths = random.Random(20261123), set(), set()
+    for turn in range(300):
+        requests, texts = [], ["t.a"]
+        for _ in range(chance.randrange(1, 25)):
+            if chance.random() < 0.2:
+                pushed, texts = random_state(chance)
+                requests.append(request_text("POST", f"/state/{chance.choice('ab')}", pushed))
+            elif chance.random() < 0.05:
+                requests.append(request_text("DELETE", "/state/a"))
+            else:
+                requests.append(random_query(chance, texts))
+        data = b"".join(requests)
+        replies, status = model.replies_to(data)
+        expect(run(data), (b"".join(replies), status, b""), f"queries {turn}, {data}")
+        met |= {name for name in model.STATUSES if any(b'"%s"' % name.encode() in reply for reply in replies)}
+        lengths |= {reply.count(b'","') for reply in replies if b'"instances":["' in reply}
+    wanted = {"NoState", "NoAddress", "TooManyAddresses", "UnknownAddress", "MethodNotAllowed"}
+    expect(wanted - met, set(), "each refusal is met")
+    expect(max(lengths) >= 4, True, "answers of many instances are met")
+
+
+if __name__ == "__main__":
+    sys.exit(run_checks(checks_in(globals())))
