@@ -1,80 +1,12 @@
 //! Tables over sinks in memory.
 
-use super::{A, B, Change, S1, draft_of};
+use super::{A, B, Change, S1, S2, draft_of, has_state, is_done, is_refused, name_of, numbered};
 use crate::{OpenFault, Table};
 use std::alloc::Global;
 use std::process::Abort;
 use std::test::Fail;
 use tfs_calls::{Kind, Query, Refusal, Text, Texts};
 use tfs_journal::{Discard, MemorySink, Sink};
-use tfs_rules::Name;
-
-const S2: &str = "{\"version\":4, \"serial\":2 ,\"lineage\":\"L1\"}";
-
-/// A name.
-fn name_of(rt: &(impl Alloc<A = Global> + Abort), text: &str) -> Result<Name, Fail> {
-    let text = String::from_str(rt.alloc(), text)?;
-    Ok(Name::read(text).expect(rt, "a name"))
-}
-
-/// The answer to a change.
-fn answer<K: Sink>(
-    rt: &(impl Alloc<A = Global> + Abort),
-    table: &mut Table<K>,
-    name: &str,
-    change: Change<'_>,
-) -> Result<Result<u64, Refusal>, Fail> {
-    let name = name_of(rt, name)?;
-    match draft_of(rt, change)? {
-        Ok(draft) => Ok(table.apply(name, draft)),
-        Err(refusal) => Ok(Err(refusal)),
-    }
-}
-
-/// A change is answered by this position.
-fn is_done<K: Sink>(
-    rt: &(impl Alloc<A = Global> + Abort),
-    table: &mut Table<K>,
-    name: &str,
-    change: Change<'_>,
-    position: u64,
-) -> Result<(), Fail> {
-    match answer(rt, table, name, change)? {
-        Ok(given) => assert_eq!(rt; given, position),
-        Err(refusal) => assert!(rt; false, "{}", refusal.name()),
-    }
-    Ok(())
-}
-
-/// A change is refused by this name.
-fn is_refused<K: Sink>(
-    rt: &(impl Alloc<A = Global> + Abort),
-    table: &mut Table<K>,
-    name: &str,
-    change: Change<'_>,
-    refusal: &str,
-) -> Result<(), Fail> {
-    match answer(rt, table, name, change)? {
-        Ok(position) => assert!(rt; false, "{position}"),
-        Err(given) => assert!(rt; given.name() == refusal, "{}", given.name()),
-    }
-    Ok(())
-}
-
-/// The state of a name is of these bytes; no bytes stand for no state.
-fn has_state<K: Sink>(
-    rt: &(impl Alloc<A = Global> + Abort),
-    table: &Table<K>,
-    name: &str,
-    bytes: &str,
-) -> Result<(), Fail> {
-    let name = name_of(rt, name)?;
-    match table.state(&name) {
-        Ok(doc) => assert!(rt; doc.bytes() == bytes.as_bytes()),
-        Err(refusal) => assert!(rt; bytes.is_empty() && refusal.name() == "NoState"),
-    }
-    Ok(())
-}
 
 #[test]
 fn a_push_and_a_lock_take_130_bytes(rt: HostRuntime) -> Result<(), Fail> {
@@ -139,13 +71,6 @@ fn a_sink_may_fail_at_each_call(rt: HostRuntime) -> Result<(), Fail> {
     fails_after(&rt, 3, "", "JournalFault", S1, 97)?;
     fails_after(&rt, 4, "", "JournalFault", S1, 147)?;
     fails_after(&rt, 5, "", "", S2, 163)
-}
-
-/// The name of a number.
-fn numbered(rt: &(impl Alloc<A = Global> + Abort), number: u64) -> Result<Name, Fail> {
-    let mut text = String::new(rt.alloc());
-    write!(text, "n{number}")?;
-    Ok(Name::read(text).expect(rt, "a name"))
 }
 
 #[test]
