@@ -4,8 +4,8 @@ ghost use Rattle.std.specs.Prelude.{◌≡◌, ◌≤◌};
 
 use std::io;
 use std::io::{Read, Write};
-use tfs_serve::Desk;
 use tfs_calls::{Call, Refusal, Reply};
+use tfs_serve::Desk;
 
 /// Gives bytes in pieces of one size.
 #[derive(Drop)]
