@@ -1,5 +1,8 @@
 -- What a judgement over workspaces says of the journal.
-use Rattle.std.proofs.Common.{◌≡◌, ◌≢◌, ℕ, List, length, Bool, not, Option, Some, None, is_some, Result, Ok, Err, refl, sym, ◌∙◌, ap}
+use Rattle.std.proofs.lemmas.Option.{slice_get_within}
+use Rattle.std.proofs.Common.{◌≡◌, ◌≢◌, ◌≤◌, IfSome, ℕ, List, [], ◌++◌, length, Bool, not, Option, Some, None, is_some, Result, Ok, Err}
+use Rattle.std.proofs.Common.{refl, sym}
+use Rattle.std.proofs.Common.{◌∙◌, ap}
 use Rattle.std.proofs.Common.{◌<◌, ◌∷◌, All, option_map, get_or, cond, true, false, arith, length-append}
 use Rattle.std.specs.Arc.{arc_value}
 use Rattle.std.specs.Result.{is_err}
@@ -7,19 +10,21 @@ use Rattle.std.proofs.lemmas.List.Elements.{All-get_or}
 use Rattle.tfs_lock.specs.LockInfo.{LockInformation}
 use Rattle.tfs_rules.specs.declared.verdict.Verdict.{Verdict}
 use Rattle.tfs_rules.specs.declared.verdict.Verdict.TheVariants as verdict
-use Rattle.tfs_table.proofs.WorkspaceLemmas.{find_behind, standing_at_place}
+use Rattle.tfs_table.proofs.WorkspaceLemmas.{find_behind, standing_at_place, get_at, found_there, number_behind}
+use Rattle.tfs_journal.proofs.NameLemmas.{bytes_same}
+use Rattle.tfs_journal.proofs.JournalLemmas.{names_kept, names_added}
 use Rattle.tfs_table.proofs.LawfulLemmas.{neither}
-use Rattle.std.specs.List.{find, list_any}
+use Rattle.std.specs.List.{find, list_any, slice_get}
 use Rattle.std.specs.Option.{option_or}
 use Rattle.std.specs.Str.{bytes_eq}
 use Rattle.tfs_rules.specs.Act.{ActValue}
 use Rattle.tfs_rules.specs.History.{Standing}
 use Rattle.tfs_rules.specs.Verdict.{verdict_over}
-use Rattle.tfs_journal.specs.Journal.{Journal, acts_of, names_of}
+use Rattle.tfs_journal.specs.Journal.{Journal, acts_of, names_of, with_entry}
 use Rattle.tfs_calls.specs.Refusal.{RefusalValue, journal_stopped, journal_fault, table_full, journal_full}
 use Rattle.tfs_calls.specs.Transition.{refusal_of, verdict_refusal, limit_refusal, full_refusal, act_refusal, open_model, TableModel}
 use Rattle.tfs_table.specs.declared.workspace.Workspace.{Workspace}
-use Rattle.tfs_table.specs.Workspaces.{is_of, standing_at, AreWorkspacesOf, HasVersion, IsPlaceOf, IsFound}
+use Rattle.tfs_table.specs.Workspaces.{is_of, standing_at, AreWorkspacesOf, HasVersion, IsNumbered, IsPlaceOf, IsGapFor, IsFound}
 
 -- The refusal by the rules over the workspace of a name is that over its history.
 pub rules_over : (j : Journal) (ws : List Workspace) (name : List ℕ) (act : ActValue) → AreWorkspacesOf j ws
@@ -94,6 +99,44 @@ version_here name ws place d p all =
     let at = p.at in
     let within : place < length ws = omega arith in
     All-get_or HasVersion ws place d within all ∙ ap (λ (s : Standing). s.state) (sym (standing_at_place name ws place d p))
+
+-- The workspace of a name has the name's number.
+pub number_here : (j : Journal) (ws : List Workspace) (name : List ℕ) (place : ℕ) (d : Workspace) → IsPlaceOf name ws place
+    → AreWorkspacesOf j ws
+    → slice_get (names_of j) (get_or ws place d).number ≡ Some name
+number_here j ws name place d p are =
+    let sizes = ap length p.parts ∙ length-append p.before (p.own ∷ p.after) in
+    let at = p.at in
+    let within : place < length ws = omega arith in
+    All-get_or (IsNumbered (names_of j)) ws place d within are.numbers
+    ∙ ap (λ (w : Workspace). Some w.name) (get_at ws p.before p.after p.own d place p.parts p.at)
+    ∙ ap (λ n. Some n) (bytes_same p.own.name name p.named)
+
+-- It has it with one entry more.
+pub number_known : (j : Journal) (act : ActValue) (ws : List Workspace) (name : List ℕ) (place : ℕ) (d : Workspace)
+    → IsPlaceOf name ws place
+    → AreWorkspacesOf j ws → slice_get (names_of (with_entry j (record { name = name; act = act }))) (get_or ws place d).number ≡ Some name
+number_known j act ws name place d p are =
+    let there : list_any (bytes_eq name) (names_of j) ≡ true =
+    sym (are.names name) ∙ ap (λ t. is_some (find (is_of name) t)) p.parts ∙ found_there name p.before p.after p.own p.first p.named in
+    ap (λ ns. slice_get ns (get_or ws place d).number) (names_kept j (record { name = name; act = act }) there)
+    ∙ number_here j ws name place d p are
+
+-- A name without a workspace gets the next number.
+pub number_new : (j : Journal) (act : ActValue) (ws : List Workspace) (name : List ℕ) (place : ℕ) → IsGapFor name ws place
+    → AreWorkspacesOf j ws
+    → slice_get (names_of (with_entry j (record { name = name; act = act }))) (length ws) ≡ Some name
+number_new j act ws name place p are =
+    let none : list_any (bytes_eq name) (names_of j) ≡ false = sym (are.names name) ∙ ap is_some p.absent in
+    ap (λ ns. slice_get ns (length ws)) (names_added j (record { name = name; act = act }) none)
+    ∙ ap (slice_get (names_of j ++ name ∷ [])) are.count ∙ number_behind (names_of j) [] name
+
+-- A number is below the count of names.
+pub number_below : (found : Option ℕ) (ws : List Workspace) (name : List ℕ) (j : Journal)
+    → IfSome found (λ k. (i : Journal) → AreWorkspacesOf i ws → slice_get (names_of i) k ≡ Some name) → AreWorkspacesOf j ws
+    → length (names_of j) ≤ 1024 → IfSome found (λ k. k < 1024)
+number_below None ws name j is are few = tt
+number_below (Some k) ws name j is are few = let below = slice_get_within (names_of j) k name (is j are) in omega arith
 
 -- No verdict is told as a fault of the journal.
 rules_without_fault : (holder : Option LockInformation) (v : Verdict) → refusal_of holder v ≡ Some journal_fault → ⊥

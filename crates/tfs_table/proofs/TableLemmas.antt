@@ -1,8 +1,8 @@
 -- What tables keep: at the start, and after a change.
-use Rattle.std.proofs.Common.{◌≡◌, ℕ, List, [], ◌∷◌, ◌++◌, All, Bool}
+use Rattle.std.proofs.Common.{◌≡◌, ◌≤◌, length, ℕ, List, [], ◌∷◌, ◌++◌, All, Bool}
 use Rattle.std.proofs.Common.{true, false, Option, Some, None, is_some, IfSome, refl, sym, ◌∙◌}
 use Rattle.std.proofs.Common.{ap, subst, append_assoc, append-nil}
-use Rattle.std.specs.List.{flat_map}
+use Rattle.std.specs.List.{flat_map, slice_get}
 use Rattle.std.specs.List.Sorted.{IsStrictlySortedBy}
 use Rattle.std.specs.Io.KnownBytes.{Appends}
 use Rattle.std.proofs.lemmas.List.Elements.{All-nil, All-append, All-cons}
@@ -11,7 +11,7 @@ use Rattle.std.proofs.lemmas.Slice.Eq.{bytes_eq-Decides}
 use Rattle.tfs_state.specs.Document.{Document}
 use Rattle.tfs_rules.specs.Act.{ActValue}
 use Rattle.tfs_rules.specs.History.{Standing, state_of, state_after}
-use Rattle.tfs_journal.specs.Journal.{Journal, EntryValue, IsEntry, BaseValue, IsBase, empty_base, opened, acts_of, with_entry}
+use Rattle.tfs_journal.specs.Journal.{Journal, EntryValue, IsEntry, BaseValue, IsBase, empty_base, opened, acts_of, names_of, with_entry}
 use Rattle.tfs_journal.specs.Format.{header_text, base_text, record_text, journal_text}
 use Rattle.tfs_journal.specs.Sink.{AppendsPart}
 use Rattle.tfs_journal.proofs.JournalLemmas.{acts_of_own}
@@ -20,7 +20,7 @@ use Rattle.tfs_table.specs.Lawful.{IsLawful}
 use Rattle.tfs_table.specs.Ready.{ReadyValue, IsReady}
 use Rattle.tfs_table.specs.Table.{IsTold, IsTable}
 use Rattle.tfs_calls.specs.Transition.{act_refusal, open_model}
-use Rattle.tfs_table.specs.Workspaces.{standing_at, AreWorkspacesOf, HasVersion}
+use Rattle.tfs_table.specs.Workspaces.{standing_at, AreWorkspacesOf, HasVersion, IsNumbered}
 use Rattle.tfs_table.specs.declared.workspace.Workspace.{Workspace}
 use Rattle.tfs_table.proofs.LawfulLemmas.{taken, lawful_opened, lawful_more}
 
@@ -69,7 +69,7 @@ told_part (Some bytes) (Some all) j e told part = record {
 -- The journal of no entries has no workspaces where its base is the empty one.
 pub no_workspaces : AreWorkspacesOf (opened empty_base) []
 unfolding IsStrictlySortedBy
-no_workspaces = record { standings = λ name. refl; names = λ name. refl; count = refl; rise = tt }
+no_workspaces = record { standings = λ name. refl; names = λ name. refl; count = refl; rise = tt; numbers = All-nil (IsNumbered []) }
 
 -- What a table keeps that has a base and no entries.
 pub opened_table : (base : BaseValue) (entries : List EntryValue) (ws : List Workspace) (first old new : Option (List ℕ)) (faults spare : ℕ)
@@ -124,41 +124,45 @@ new_table base entries ws first old new faults spare is_base none empty same wel
     well untold told
 
 -- What a change keeps that is ready.
-pub is_ready : (base given_base : BaseValue) (entries given_entries : List EntryValue) (e : EntryValue) (name : List ℕ) (act draft :
-    ActValue)
-    (ws : List Workspace)
-    (version : Option Document) (bytes : List ℕ) → base ≡ given_base → entries ≡ given_entries → e.name ≡ name → e.act ≡ act
-    → act ≡ draft → IsEntry e
-    → bytes ≡ record_text e → AreWorkspacesOf (record { base = given_base; entries = given_entries }) ws
-    → version ≡ state_after (standing_at name ws).state act
-    → act_refusal (open_model (record { base = given_base; entries = given_entries })) name draft ≡ None
-    → IsReady (record { journal = record { base = base; entries = entries }; entry = e }) name act version bytes
-is_ready base given_base entries given_entries e name act draft ws version bytes same_base same_entries is_name is_act is_draft read text
-    are is accepted =
+pub is_ready : (base given_base : BaseValue) (entries given_entries : List EntryValue) (e : EntryValue) (name : List ℕ) (number : ℕ)
+    (act : ActValue) (ws : List Workspace) (version : Option Document) (bytes : List ℕ) → base ≡ given_base → entries ≡ given_entries
+    → name ≡ e.name → act ≡ e.act → IsEntry e → bytes ≡ record_text e
+    → AreWorkspacesOf (record { base = given_base; entries = given_entries }) ws → version ≡ state_after (standing_at name ws).state act
+    → slice_get (names_of (with_entry (record { base = given_base; entries = given_entries }) (record { name = name; act = act })))
+    number ≡ Some name
+    → IsLawful (record { base = given_base; entries = given_entries })
+    → act_refusal (open_model (record { base = given_base; entries = given_entries })) e.name e.act ≡ None
+    → IsReady (record { journal = record { base = base; entries = entries }; entry = e }) name number act version bytes
+is_ready base given_base entries given_entries e name number act ws version bytes same_base same_entries is_name is_act read text are is
+    numbered lawful accepted =
     let given : Journal = record { base = given_base; entries = given_entries } in
     let same : given ≡ record { base = base; entries = entries } = rw (same_base, same_entries) refl in
+    let as_entry : record { name = name; act = act } ≡ e = rw (is_name, is_act) refl in
     let stands : state_after (standing_at name ws).state act ≡ state_after (state_of (acts_of name given)) act =
     ap (λ (s : Standing). state_after s.state act) (are.standings name) in
     let after : state_after (state_of (acts_of name given)) act ≡ state_of (acts_of name given ++ act ∷ []) =
     sym (fold-append state_after None (acts_of name given) (act ∷ [])) in
     let own : acts_of name given ++ act ∷ [] ≡ acts_of e.name (with_entry given e) =
-    ap (λ a. acts_of name given ++ a ∷ []) (sym is_act) ∙ sym (acts_of_own name given e ((bytes_eq-Decides e.name name).1 is_name))
-    ∙ ap (λ n. acts_of n (with_entry given e)) (sym is_name) in
+    ap (λ a. acts_of name given ++ a ∷ []) is_act
+    ∙ sym (acts_of_own name given e ((bytes_eq-Decides e.name name).1 (sym is_name)))
+    ∙ ap (λ n. acts_of n (with_entry given e)) is_name in
+    let number_there = subst (λ (x : EntryValue). slice_get (names_of (with_entry given x)) number ≡ Some x.name) as_entry numbered in
+    let more = lawful_more given e lawful (taken given e.name e.act accepted) in
     record {
-      name = sym is_name;
-      act = sym is_act;
+      name = is_name;
+      act = is_act;
       read = read;
       text = text;
+      number = subst (λ (j : Journal). slice_get (names_of (with_entry j e)) number ≡ Some e.name) same number_there;
+      few = subst (λ (j : Journal). length (names_of (with_entry j e)) ≤ 1024) same more.names;
       version = is ∙ stands ∙ after ∙ ap state_of own ∙ ap (λ (j : Journal). state_of (acts_of e.name (with_entry j e))) same;
-      accepted = ap (λ (k : Journal). act_refusal (open_model k) e.name e.act) (sym same)
-          ∙ ap (λ n. act_refusal (open_model given) n e.act) is_name
-          ∙ ap (act_refusal (open_model given) name) (is_act ∙ is_draft) ∙ accepted;
+      accepted = subst (λ (k : Journal). act_refusal (open_model k) e.name e.act ≡ None) same accepted;
     }
 
 -- What a table keeps after a change that was ready.
 pub finished : (base : BaseValue) (entries more : List EntryValue) (ws new : List Workspace) (stopped tells : Bool) (told after : Option
     (List ℕ))
-    (faults now spare left : ℕ) (r : ReadyValue) (name : List ℕ) (act : ActValue) (version : Option Document) (bytes : List ℕ)
+    (faults now spare left number : ℕ) (r : ReadyValue) (name : List ℕ) (act : ActValue) (version : Option Document) (bytes : List ℕ)
     → IsTable (record {
       journal = record { base = base; entries = entries };
       stopped = stopped;
@@ -168,7 +172,7 @@ pub finished : (base : BaseValue) (entries more : List EntryValue) (ws new : Lis
           faults;
       spare = spare;
     })
-    → AreWorkspacesOf (record { base = base; entries = entries }) ws → All HasVersion ws → IsReady r name act version bytes
+    → AreWorkspacesOf (record { base = base; entries = entries }) ws → All HasVersion ws → IsReady r name number act version bytes
     → r.journal ≡ record { base = base; entries = entries } → stopped ≡ false → Appends told after bytes → now ≡ 0
     → more ≡ entries ++ r.entry ∷ []
     → ((j : Journal) → AreWorkspacesOf j ws → AreWorkspacesOf (with_entry j (record { name = name; act = act })) new)
@@ -184,7 +188,7 @@ pub finished : (base : BaseValue) (entries more : List EntryValue) (ws new : Lis
       spare = left;
     })
     × AreWorkspacesOf (record { base = base; entries = more }) new × All HasVersion new
-finished base entries more ws new stopped tells told after faults now spare left r name act version bytes is are versions ready same
+finished base entries more ws new stopped tells told after faults now spare left number r name act version bytes is are versions ready same
     running sent well longer commits keeps =
     let j : Journal = record { base = base; entries = entries } in
     let e = r.entry in

@@ -1,8 +1,9 @@
 -- Laws of specs/Workspaces.antt: one workspace is changed or added, and the others stay.
-use Rattle.std.proofs.Common.{◌≡◌, ℕ, ◌+◌, List, [], ◌∷◌, ◌++◌, length, take, drop, map, get_or, set, Bool, true, false, cond, ◌||◌}
+use Rattle.std.proofs.Common.{◌≡◌, ℕ, zero, suc, ◌+◌, List, [], ◌∷◌, ◌++◌, length, take, drop, map, get_or, set, Bool, true, false, cond}
+use Rattle.std.proofs.Common.{◌||◌}
 use Rattle.std.proofs.Common.{Result, Ok, Err, is_ok, IsOk, Option, Some, None, is_some, option_map}
 use Rattle.std.proofs.Common.{refl, sym, ◌∙◌, ap, subst, arith, length-append, All}
-use Rattle.std.specs.List.{AllByRecursion, find, insert, list_any}
+use Rattle.std.specs.List.{AllByRecursion, find, insert, list_any, slice_get}
 use Rattle.std.specs.List.Sorted.{IsStrictlySortedBy}
 use Rattle.std.specs.Option.{option_map_or, option_or}
 use Rattle.std.specs.Ordering.{nat_cmp}
@@ -12,7 +13,7 @@ use Rattle.std.specs.Str.{bytes_eq}
 use Rattle.std.specs.Arc.{arc_value}
 use Rattle.std.proofs.Math.Seq.{get_or-append_seam, set-append_seam, take-append_seam, drop-append_seam}
 use Rattle.std.proofs.lemmas.List.{map-append}
-use Rattle.std.proofs.lemmas.List.Elements.{All-append, All-cons, All-set, All-take, All-drop}
+use Rattle.std.proofs.lemmas.List.Elements.{All-append, All-cons, All-set, All-take, All-drop, All-head, All-tail, All-weaker}
 use Rattle.std.proofs.lemmas.List.Folds.{find-append, list_any-append}
 use Rattle.std.proofs.lemmas.Slice.Eq.{bytes_eq-Decides}
 use Rattle.tfs_rules.specs.Act.{ActValue}
@@ -21,7 +22,7 @@ use Rattle.tfs_journal.specs.Journal.{Journal, EntryValue, acts_of, names_of, wi
 use Rattle.tfs_journal.proofs.NameLemmas.{bytes_same, bytes_eq_sym}
 use Rattle.tfs_journal.proofs.JournalLemmas.{acts_of_own, acts_of_other, names_kept, names_added}
 use Rattle.tfs_table.specs.declared.workspace.Workspace.{Workspace}
-use Rattle.tfs_table.specs.Workspaces.{is_of, standing_at, AreWorkspacesOf, HasVersion, IsPlaceOf, IsGapFor}
+use Rattle.tfs_table.specs.Workspaces.{is_of, standing_at, AreWorkspacesOf, HasVersion, IsPlaceOf, IsGapFor, IsNumbered}
 
 -- The first element that passes, where it stands behind elements that don't.
 pub find_behind : {A : Type 0} (test : A → Bool) (before after : List A) (x : A) → find test before ≡ None → test x ≡ true
@@ -96,7 +97,8 @@ pub standing_absent : (name : List ℕ) (ws : List Workspace) → find (is_of na
 standing_absent name ws none = ap (λ o. option_map_or (λ (w : Workspace). w.standing) o (standing_of [])) none
 
 -- A workspace is there for the name of the place, whatever it has.
-found_there : (name : List ℕ) (before after : List Workspace) (own : Workspace) → find (is_of name) before ≡ None → is_of name own ≡ true
+pub found_there : (name : List ℕ) (before after : List Workspace) (own : Workspace) → find (is_of name) before ≡ None
+    → is_of name own ≡ true
     → is_some (find (is_of name) (before ++ own ∷ after)) ≡ true
 found_there name before after own none named = ap is_some (find_behind (is_of name) before after own none named)
 
@@ -116,12 +118,38 @@ found_alike name (first ∷ before) after own other same =
       | false ↦ found_alike name before after own other same
     ]
 
+-- What each element has, each has where one is changed that has it, too.
+all_swapped : {A : Type 0} (P : A → Type 0) (before after : List A) (x y : A) → (P x → P y) → All P (before ++ x ∷ after)
+    → All P (before ++ y ∷ after)
+all_swapped P [] after x y f all = All-cons P y after (f (All-head P x after all)) (All-tail P x after all)
+all_swapped P (first ∷ before) after x y f all =
+    All-cons P first (before ++ y ∷ after) (All-head P first (before ++ x ∷ after) all)
+    (all_swapped P before after x y f (All-tail P first (before ++ x ∷ after) all))
+
+-- Or where one is added.
+all_added : {A : Type 0} (P : A → Type 0) (before after : List A) (x : A) → P x → All P (before ++ after) → All P (before ++ x ∷ after)
+all_added P [] after x has all = All-cons P x after has all
+all_added P (first ∷ before) after x has all =
+    All-cons P first (before ++ x ∷ after) (All-head P first (before ++ after) all)
+    (all_added P before after x has (All-tail P first (before ++ after) all))
+
+-- More names leave the numbers of those before.
+number_kept : (names more : List (List ℕ)) (k : ℕ) (name : List ℕ) → slice_get names k ≡ Some name → slice_get (names ++ more) k ≡ Some name
+number_kept [] more k name e = cc
+number_kept (first ∷ names) more zero name e = e
+number_kept (first ∷ names) more (suc k) name e = number_kept names more k name e
+
+-- A name behind others has their count as its number.
+pub number_behind : (names more : List (List ℕ)) (name : List ℕ) → slice_get (names ++ name ∷ more) (length names) ≡ Some name
+number_behind [] more name = refl
+number_behind (first ∷ names) more name = number_behind names more name
+
 -- The workspace of a name is changed.
 pub workspace_changed : (name : List ℕ) (act : ActValue) (ws : List Workspace) (place : ℕ) (own new : Workspace) → IsPlaceOf name ws place
-    → own ≡ get_or ws place own → new.name ≡ own.name
+    → own ≡ get_or ws place own → new.name ≡ own.name → new.number ≡ own.number
     → ((h : History) → own.standing ≡ standing_of h → new.standing ≡ standing_of (h ++ act ∷ []))
     → (j : Journal) → AreWorkspacesOf j ws → AreWorkspacesOf (with_entry j (record { name = name; act = act })) (set ws place new)
-workspace_changed name act ws place own new p is same commits j are =
+workspace_changed name act ws place own new p is same same_number commits j are =
     let here : own ≡ p.own = is ∙ get_at ws p.before p.after p.own own place p.parts p.at in
     let names : new.name ≡ p.own.name = same ∙ ap (λ (w : Workspace). w.name) here in
     let named : is_of name new ≡ true = ap (λ n. bytes_eq n name) names ∙ p.named in
@@ -129,6 +157,7 @@ workspace_changed name act ws place own new p is same commits j are =
     let there : list_any (bytes_eq name) (names_of j) ≡ true =
     sym (are.names name) ∙ ap (λ t. is_some (find (is_of name) t)) p.parts ∙ found_there name p.before p.after p.own p.first p.named in
     let kept = names_kept j (record { name = name; act = act }) there in
+    let number : new.number ≡ p.own.number = same_number ∙ ap (λ (w : Workspace). w.number) here in
     let stands : own.standing ≡ standing_of (acts_of name j) =
     ap (λ (w : Workspace). w.standing) is ∙ sym (standing_at_place name ws place own p) ∙ are.standings name in
     let sames : names_at (p.before ++ new ∷ p.after) ≡ names_at ws =
@@ -152,6 +181,10 @@ workspace_changed name act ws place own new p is same commits j are =
       count = length-append p.before (new ∷ p.after) ∙ sym (length-append p.before (p.own ∷ p.after)) ∙ ap length (sym p.parts) ∙ are.count
           ∙ ap length (sym kept);
       rise = subst (IsStrictlySortedBy (slice_cmp nat_cmp)) (sym sames) are.rise;
+      numbers = subst (λ ns. All (IsNumbered ns) (p.before ++ new ∷ p.after)) (sym kept)
+          (all_swapped (IsNumbered (names_of j)) p.before p.after p.own new
+          (λ e. ap (slice_get (names_of j)) number ∙ e ∙ ap (λ n. Some n) (sym names)) (subst (All (IsNumbered (names_of j))) p.parts
+          are.numbers));
     })
 
 -- Each name of a list passes where both parts' names do.
@@ -192,10 +225,10 @@ found_apart other (first ∷ before) after new =
 
 -- A workspace is added for a name that has none.
 pub workspace_added : (name : List ℕ) (act : ActValue) (ws : List Workspace) (place : ℕ) (new : Workspace) → IsGapFor name ws place
-    → new.name ≡ name
+    → new.name ≡ name → new.number ≡ length ws
     → ((h : History) → standing_of [] ≡ standing_of h → new.standing ≡ standing_of (h ++ act ∷ []))
     → (j : Journal) → AreWorkspacesOf j ws → AreWorkspacesOf (with_entry j (record { name = name; act = act })) (insert ws place new)
-workspace_added name act ws place new p same commits j are =
+workspace_added name act ws place new p same number commits j are =
     let entry : EntryValue = record { name = name; act = act } in
     let named : is_of name new ≡ true = (bytes_eq-Decides new.name name).1 same in
     let none_before : find (is_of name) p.before ≡ None = before_none (find (is_of name) p.before) (find (is_of name) p.after)
@@ -225,6 +258,12 @@ workspace_added name act ws place new p same commits j are =
           (rise_with (names_at p.before) (names_at p.after) name
           (subst (IsStrictlySortedBy (slice_cmp nat_cmp)) (ap names_at p.parts ∙ map-append (λ
           (w : Workspace). w.name) p.before p.after) are.rise) p.below p.above));
+      numbers = subst (λ ns. All (IsNumbered ns) (p.before ++ new ∷ p.after)) (sym added)
+          (all_added (IsNumbered (names_of j ++ name ∷ [])) p.before p.after new
+          (ap (slice_get (names_of j ++ name ∷ [])) (number ∙ are.count) ∙ number_behind (names_of j) [] name ∙ ap (λ n. Some n) (sym same))
+          (All-weaker (IsNumbered (names_of j)) (IsNumbered (names_of j ++ name ∷ []))
+          (λ (w : Workspace) e. number_kept (names_of j) (name ∷ []) w.number w.name e) (p.before ++ p.after)
+          (subst (All (IsNumbered (names_of j))) p.parts are.numbers)));
     })
   where
     or_false : (b : Bool) → (b || false) ≡ b

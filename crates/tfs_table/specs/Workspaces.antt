@@ -1,5 +1,5 @@
 -- The workspaces of a table, and the journal that they stand for.
-use Rattle.std.specs.Prelude.{◌≡◌, ℕ, List, ◌∷◌, ◌++◌, [], length, map, Bool, true, None, is_some, option_map}
+use Rattle.std.specs.Prelude.{◌≡◌, ◌+◌, ℕ, List, ◌∷◌, ◌++◌, [], length, map, Bool, true, Some, None, is_some, option_map, slice_get, All}
 use Rattle.std.specs.Arc.{arc_value}
 use Rattle.std.specs.Cmp.Lexicographic.{slice_cmp}
 use Rattle.std.specs.List.{AllByRecursion, find, list_any}
@@ -30,12 +30,22 @@ row_of w = record { name = w.name; holder = w.standing.holder; state = w.standin
 abbrev pub Rise : List Workspace → Type 0
 Rise ws = IsStrictlySortedBy (slice_cmp nat_cmp) (map (λ (w : Workspace). w.name) ws)
 
--- The workspaces are those of the journal: they have its names, rising, and what they have is what it gives.
+-- The name of a workspace has the workspace's number among names, from 0.
+abbrev pub IsNumbered : List (List ℕ) → Workspace → Type 0
+IsNumbered names w = slice_get names w.number ≡ Some w.name
+
+-- The workspaces have these numbers, one after another.
+abbrev pub AreNumberedFrom : ℕ → List Workspace → Type 0
+AreNumberedFrom n [] = Unit {0}
+AreNumberedFrom n (w ∷ ws) = (w.number ≡ n) × AreNumberedFrom (n + 1) ws
+
+-- The workspaces are those of the journal: they have its names, rising, with their numbers, and what they have is what it gives.
 pub record AreWorkspacesOf (j : Journal) (ws : List Workspace) : Type 0 where
   pub standings : (name : List ℕ) → standing_at name ws ≡ standing_of (acts_of name j)
   pub names : (name : List ℕ) → is_some (find (is_of name) ws) ≡ list_any (bytes_eq name) (names_of j)
   pub count : length ws ≡ length (names_of j)
   pub rise : Rise ws
+  pub numbers : All (IsNumbered (names_of j)) ws
 
 -- A workspace has a version just where it has a state, and then the version of that state.
 abbrev pub HasVersion : Workspace → Type 0

@@ -1,21 +1,23 @@
 //! What a change needs before it is made.
 
-ghost use Rattle.std.specs.Prelude.{◌≡◌, ◌<◌, All, None, IfOk, OnOk, option_map, vec_len, vec_capacity};
+ghost use Rattle.std.specs.Prelude.{◌≡◌, ◌<◌, All, None, Some, IfOk, OnOk, option_map, slice_get, vec_len, vec_capacity};
 ghost use Rattle.std.specs.Arc.{arc_value};
-ghost use Rattle.tfs_rules.specs.Act.{act_value};
+ghost use Rattle.tfs_rules.specs.Act.{ActValue, act_value};
 ghost use Rattle.tfs_rules.specs.History.{state_after};
+ghost use Rattle.tfs_journal.specs.Journal.{Journal, names_of, with_entry};
 ghost use Rattle.tfs_calls.specs.Pushed.{pushed_by};
 ghost use Rattle.tfs_calls.specs.Transition.{act_refusal, open_model};
+ghost use Rattle.tfs_table.specs.Lawful.{IsLawful};
 ghost use Rattle.tfs_table.specs.Workspaces.{standing_at, IsFound, AreWorkspacesOf, HasVersion};
 
+use crate::prepared::Prepared;
 use crate::ready::Ready;
 use crate::workspace::Workspace;
-use std::alloc::{AllocError, Global};
+use std::alloc::AllocError;
 use std::snapshot::Snapshot;
 use std::sync::Arc;
-use tfs_calls::Draft;
 use tfs_index::Version;
-use tfs_journal::{Base, Entry, encode};
+use tfs_journal::{Base, Entry};
 use tfs_rules::{Act, Name};
 
 /// Makes room for one more entry and one more workspace.
@@ -33,38 +35,56 @@ pub(crate) fn make_room(
     Ok(())
 }
 
-/// The change, with its record and all that is to be entered, of an act that the journal accepts.
+/// The change, with all that is to be entered, of an entry that the journal accepts.
 pub(crate) fn prepare(
-    alloc: Global,
     base: &Base,
     entries: &Vec<Entry>,
     workspaces: &[Workspace],
     place: Result<usize, usize>,
-    name: Name,
-    draft: Draft,
+    prepared: Prepared,
 ) -> Result<Ready, AllocError>
-    requires found { IsFound name workspaces.now place }
+    requires found { IsFound prepared.name workspaces.now place }
     requires workspaces { AreWorkspacesOf (record { base = base.now; entries = entries.now.items }) workspaces.now }
     requires versions { All HasVersion workspaces.now }
-    requires accepted { act_refusal (open_model (record { base = base.now; entries = entries.now.items })) name draft ≡ None }
+    requires lawful { IsLawful (record { base = base.now; entries = entries.now.items }) }
+    requires accepted { act_refusal (open_model (record { base = base.now; entries = entries.now.items })) prepared.name prepared.act ≡ None }
     ensures value { IfOk result (λ ready. ready ≡ record {
       journal = record { base = base.now; entries = entries.now.items };
-      entry = record { name = name; act = draft };
+      entry = prepared;
     }) }
 {
-    let (act, pushed) = draft.into_parts();
+    let Prepared {
+        entry,
+        name,
+        act,
+        pushed,
+        text,
+    } = prepared;
+    let number = number_after(workspaces, &name, place);
     let version = version_after(workspaces, &name, place, &act, pushed)?;
-    let entry = Entry::new(name.copy()?, act.copy()?);
-    let text = encode(alloc, &entry)?;
     Ok(Ready {
         entry,
         name,
+        number,
         act,
         version,
         text,
         base: Snapshot::of(base),
         entries: Snapshot::of(entries),
     })
+}
+
+/// The number that a name has among the names once it has one entry more.
+fn number_after(workspaces: &[Workspace], name: &Name, place: Result<usize, usize>) -> usize
+    requires { IsFound name.now workspaces.now place }
+    ensures { (j : Journal) (act : ActValue) → AreWorkspacesOf j workspaces.now
+        → slice_get (names_of (with_entry j (record { name = name.now; act = act }))) result ≡ Some name.now }
+{
+    let _ = name;
+    match place {
+        Ok(place) => workspaces[place].number,
+        Err(_) => workspaces.len(),
+    }
 }
 
 /// The version that a name has after an act, where it has a state then.

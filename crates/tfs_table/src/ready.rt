@@ -1,9 +1,9 @@
 //! Changes that a table has accepted and that are yet to be made.
 
-ghost use Rattle.std.specs.Prelude.{◌≡◌, None, option_map};
+ghost use Rattle.std.specs.Prelude.{◌≡◌, ◌<◌, None, Some, option_map, slice_get};
 ghost use Rattle.std.specs.Arc.{arc_value};
 ghost use Rattle.tfs_rules.specs.History.{state_of};
-ghost use Rattle.tfs_journal.specs.Journal.{acts_of, with_entry};
+ghost use Rattle.tfs_journal.specs.Journal.{acts_of, names_of, with_entry};
 ghost use Rattle.tfs_calls.specs.Transition.{act_refusal, open_model};
 
 use std::marker::Model;
@@ -19,6 +19,7 @@ use tfs_rules::{Act, Name};
 pub struct Ready {
     pub(crate) entry: Entry,
     pub(crate) name: Name,
+    pub(crate) number: usize,
     pub(crate) act: Act,
     pub(crate) version: Option<Arc<Version>>,
     pub(crate) text: Vec<u8>,
@@ -37,7 +38,7 @@ impl Model for Ready {
     ghost view = { λ r. record { journal = record { base = r.base.value; entries = r.entries.value.items }; entry = r.entry } };
 
     ghost invariant = { λ r. IsReady (record { journal = record { base = r.base.value; entries = r.entries.value.items }; entry = r.entry })
-        r.name (act_value r.act) (option_map arc_value r.version) r.text.items };
+        r.name r.number (act_value r.act) (option_map arc_value r.version) r.text.items };
 }
 
 impl Ready {
@@ -46,6 +47,22 @@ impl Ready {
         ensures value { result.now ≡ self.now.entry.name }
     {
         self.entry.name()
+    }
+
+    /// The entry that is to come.
+    pub fn entry(&self) -> &Entry
+        ensures value { result.now ≡ self.now.entry }
+    {
+        &self.entry
+    }
+
+    /// The number of the name afterwards, among the names of the journal in the order in which they came, from 0. It stays while the
+    /// table lives.
+    pub fn number(&self) -> usize
+        ensures value { slice_get (names_of (with_entry self.now.journal self.now.entry)) result ≡ Some self.now.entry.name }
+        ensures most { result < 1024 }
+    {
+        self.number
     }
 
     /// The version that the name has afterwards, where it has a state.

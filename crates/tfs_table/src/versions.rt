@@ -16,6 +16,7 @@ pub(crate) fn with_versions(
     mut workspaces: Vec<Workspace>,
 ) -> Result<Vec<Workspace>, AllocError>
     ensures rows { IfOk result (λ all. map row_of all.items ≡ map row_of workspaces.items) }
+    ensures numbers { IfOk result (λ all. map (λ w. w.number) all.items ≡ map (λ w. w.number) workspaces.items) }
     ensures versions { IfOk result (λ all. All HasVersion all.items) }
 {
     for i in 0..workspaces.len() {
@@ -27,6 +28,7 @@ pub(crate) fn with_versions(
 /// Gives a workspace the version of its state.
 fn give_version(alloc: Global, workspace: &mut Workspace) -> Result<(), AllocError>
     ensures row { OnOk result (row_of workspace.new ≡ row_of workspace.old) }
+    ensures number { OnOk result (workspace.new.number ≡ workspace.old.number) }
     ensures version { OnOk result (HasVersion workspace.new) }
 {
     workspace.version = version_of(alloc, &workspace.standing)?;

@@ -1,16 +1,17 @@
 //! Workspaces by their names.
 
 ghost use Rattle.std.specs.Prelude.{◌≡◌, ◌∷◌, [], ◌++◌, ◌<◌, ◌⊎◌, All, length, None, Some, option_map, vec_len};
-ghost use Rattle.std.specs.Prelude.{IfOk, IfErr, OnOk, OnErr, vec_capacity, false};
+ghost use Rattle.std.specs.Prelude.{IfOk, IfErr, IfSome, is_some, OnOk, OnErr, slice_get, vec_capacity, false};
+ghost use Rattle.std.specs.List.{find};
 ghost use Rattle.std.specs.Arc.{arc_value};
 ghost use Rattle.std.specs.Result.{MatchResult};
 ghost use Rattle.tfs_rules.specs.Act.{act_value};
 ghost use Rattle.tfs_rules.specs.History.{state_of};
 ghost use Rattle.tfs_rules.specs.Verdict.{verdict_over};
 ghost use Rattle.tfs_rules.specs.declared.verdict.Verdict.TheVariants.{Accept};
-ghost use Rattle.tfs_journal.specs.Journal.{Journal, acts_of, with_entry};
+ghost use Rattle.tfs_journal.specs.Journal.{Journal, acts_of, names_of, with_entry};
 ghost use Rattle.tfs_calls.specs.Refusal.{refusal_value, out_of_memory, no_state};
-ghost use Rattle.tfs_table.specs.Workspaces.{standing_at, Rise, IsPlaceOf, IsGapFor, IsFound, AreWorkspacesOf, HasVersion};
+ghost use Rattle.tfs_table.specs.Workspaces.{is_of, standing_at, Rise, IsPlaceOf, IsGapFor, IsFound, AreWorkspacesOf, HasVersion};
 
 use crate::workspace::Workspace;
 use std::cmp::Ordering;
@@ -68,6 +69,7 @@ pub(crate) fn commit_at(
             standing.commit(act);
             let workspace = Workspace {
                 name,
+                number: workspaces.len(),
                 standing,
                 version,
             };
@@ -103,19 +105,30 @@ pub(crate) fn holder_at<'w>(workspaces: &'w [Workspace], name: &Name) -> Option<
     }
 }
 
-/// The version of a name.
-pub(crate) fn version_of(workspaces: &[Workspace], name: &Name) -> Result<Arc<Version>, Refusal>
+/// The version of the state of a name.
+pub(crate) fn version_of<'w>(workspaces: &'w [Workspace], name: &Name) -> Option<&'w Arc<Version>>
     requires rise { Rise workspaces.now }
     requires versions { All HasVersion workspaces.now }
-    ensures found { IfOk result (λ version. (standing_at name.now workspaces.now).state ≡ Some (arc_value version)) }
-    ensures absent { IfErr result (λ refusal. (refusal_value refusal ≡ out_of_memory)
-        ⊎ ((refusal_value refusal ≡ no_state) × ((standing_at name.now workspaces.now).state ≡ None))) }
+    ensures value { option_map (λ version. arc_value version.now) result ≡ (standing_at name.now workspaces.now).state }
 {
-    let Ok(place) = place_of(workspaces, name) else {
-        return Err(Refusal::NoState);
-    };
-    match &workspaces[place].version {
-        Some(version) => Ok(version.clone()?),
-        None => Err(Refusal::NoState),
+    match place_of(workspaces, name) {
+        Ok(place) => match &workspaces[place].version {
+            Some(version) => Some(version),
+            None => None,
+        },
+        Err(_) => None,
+    }
+}
+
+/// The number of a name.
+pub(crate) fn number_of(workspaces: &[Workspace], name: &Name) -> Option<usize>
+    requires { Rise workspaces.now }
+    ensures found { IfSome result (λ number. (j : Journal) → AreWorkspacesOf j workspaces.now
+        → slice_get (names_of j) number ≡ Some name.now) }
+    ensures known { is_some result ≡ is_some (find (is_of name.now) workspaces.now) }
+{
+    match place_of(workspaces, name) {
+        Ok(place) => Some(workspaces[place].number),
+        Err(_) => None,
     }
 }

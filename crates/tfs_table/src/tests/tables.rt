@@ -1,7 +1,7 @@
 //! Tables over sinks in memory.
 
 use super::{A, B, Change, S1, S2, draft_of, has_state, is_done, is_refused, name_of, numbered};
-use crate::{OpenFault, Table};
+use crate::{OpenFault, Prepared, Table};
 use std::alloc::Global;
 use std::process::Abort;
 use std::test::Fail;
@@ -109,10 +109,11 @@ fn the_version_is_of_the_new_state(rt: HostRuntime) -> Result<(), Fail> {
     is_done(&rt, &mut table, "a", Change::Delete, 2)?;
     is_done(&rt, &mut table, "a", Change::Push(None, S1), 3)?;
     let draft = draft_of(&rt, Change::Lock(B))?.ok().expect(&rt, "a draft");
-    let ready = table
-        .ready(name_of(&rt, "a")?, draft)
-        .ok()
-        .expect(&rt, "ready");
+    let prepared = Prepared::new(rt.alloc(), name_of(&rt, "a")?, draft)?;
+    let ready = table.ready(prepared).ok().expect(&rt, "ready");
+    assert!(rt; ready.entry().name().text() == "a" && ready.number() == 0);
+    assert!(rt; table.number(&name_of(&rt, "a")?) == Some(0));
+    assert!(rt; table.number(&name_of(&rt, "b")?).is_none());
     let version = ready.version().expect(&rt, "a version");
     assert!(rt; version.doc().bytes() == S1.as_bytes());
     assert!(rt; ready.name().text() == "a");

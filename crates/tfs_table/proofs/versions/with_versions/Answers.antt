@@ -4,6 +4,7 @@ use Rattle.std.proofs.Math.Seq.{map-set_same}
 use Rattle.std.proofs.lemmas.List.{take_more_set, take_all, length-map}
 use Rattle.std.proofs.lemmas.List.Elements.{All-append, All-cons, All-nil}
 use Rattle.tfs_table.specs.Workspaces.{row_of, HasVersion}
+use Rattle.tfs_table.specs.declared.workspace.Workspace.{Workspace}
 use Rattle.tfs_table.proofs.versions.with_versions.Goals as goal
 
 pub loop-i-preserved : goal.loop-i-preserved
@@ -14,6 +15,8 @@ loop-i-preserved c =
     record {
       rows = map-set_same row_of all c.loop-i.i new c.index_mut.result.now
           (c.in_ok-give_version.ensures.row ∙ ap row_of c.index_mut.ensures.value) ∙ c.loop-i.invariant.rows;
+      numbers = map-set_same (λ (w : Workspace). w.number) all c.loop-i.i new c.index_mut.result.now
+          (c.in_ok-give_version.ensures.number ∙ ap (λ (w : Workspace). w.number) c.index_mut.ensures.value) ∙ c.loop-i.invariant.numbers;
       versions = subst (All HasVersion) (sym (take_more_set all c.loop-i.i new
           (omega (arith, long, length-map all row_of, length-map c.args.workspaces.items row_of))))
           (All-append HasVersion (take c.loop-i.i all) (new ∷ []) c.loop-i.invariant.versions
