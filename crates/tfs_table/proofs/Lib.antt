@@ -6,3 +6,4 @@ pub mod FirstUnlawfulLemmas
 pub mod TableLemmas
 pub mod RebaseLemmas
 pub mod OpenLemmas
+pub mod NumberLemmas

@@ -1,5 +1,5 @@
 -- The workspaces of a table, and the journal that they stand for.
-use Rattle.std.specs.Prelude.{◌≡◌, ◌+◌, ℕ, List, ◌∷◌, ◌++◌, [], length, map, Bool, true, Some, None, is_some, option_map, slice_get, All}
+use Rattle.std.specs.Prelude.{◌≡◌, ◌+◌, ℕ, List, ◌∷◌, ◌++◌, [], length, map, Bool, true, Some, None, is_some, option_map, nat_eq, slice_get, All}
 use Rattle.std.specs.Arc.{arc_value}
 use Rattle.std.specs.Cmp.Lexicographic.{slice_cmp}
 use Rattle.std.specs.List.{AllByRecursion, find, list_any}
@@ -29,6 +29,10 @@ row_of w = record { name = w.name; holder = w.standing.holder; state = w.standin
 -- The names of workspaces rise by their bytes.
 abbrev pub Rise : List Workspace → Type 0
 Rise ws = IsStrictlySortedBy (slice_cmp nat_cmp) (map (λ (w : Workspace). w.name) ws)
+
+-- The workspace has a number.
+abbrev pub has_number : ℕ → Workspace → Bool
+has_number number w = nat_eq w.number number
 
 -- The name of a workspace has the workspace's number among names, from 0.
 abbrev pub IsNumbered : List (List ℕ) → Workspace → Type 0

@@ -11,7 +11,7 @@ ghost use Rattle.tfs_rules.specs.Verdict.{verdict_over};
 ghost use Rattle.tfs_rules.specs.declared.verdict.Verdict.TheVariants.{Accept};
 ghost use Rattle.tfs_journal.specs.Journal.{Journal, acts_of, names_of, with_entry};
 ghost use Rattle.tfs_calls.specs.Refusal.{refusal_value, out_of_memory, no_state};
-ghost use Rattle.tfs_table.specs.Workspaces.{is_of, standing_at, Rise, IsPlaceOf, IsGapFor, IsFound, AreWorkspacesOf, HasVersion};
+ghost use Rattle.tfs_table.specs.Workspaces.{is_of, has_number, standing_at, Rise, IsPlaceOf, IsGapFor, IsFound, AreWorkspacesOf, HasVersion};
 
 use crate::workspace::Workspace;
 use std::cmp::Ordering;
@@ -118,6 +118,25 @@ pub(crate) fn version_of<'w>(workspaces: &'w [Workspace], name: &Name) -> Option
         },
         Err(_) => None,
     }
+}
+
+/// The name of a number.
+pub(crate) fn name_at(workspaces: &[Workspace], number: usize) -> Option<&Name>
+    ensures { (j : Journal) → AreWorkspacesOf j workspaces.now → option_map (λ name. name.now) result ≡ slice_get (names_of j) number }
+{
+    match numbered(workspaces, number) {
+        Some(workspace) => Some(&workspace.name),
+        None => None,
+    }
+}
+
+/// The workspace of a number.
+fn numbered(workspaces: &[Workspace], number: usize) -> Option<&Workspace>
+    ensures { option_map (λ workspace. workspace.now) result ≡ find (has_number number) workspaces.now }
+{
+    workspaces
+        .iter()
+        .find(|workspace| workspace.number == number)
 }
 
 /// The number of a name.
