@@ -2,3 +2,5 @@ pub mod Desk
 pub mod Conversation
 pub mod Turns
 pub mod Output
+pub mod Check
+pub mod Rebase
