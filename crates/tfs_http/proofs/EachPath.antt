@@ -12,7 +12,7 @@ use Rattle.tfs_http.specs.declared.routes.Served.{Served}
 use Rattle.tfs_http.specs.declared.routes.Served.TheVariants as served
 use Rattle.tfs_http.specs.Routing.{slash, Route, IsPathOf, routes, state_path, impact_path, kind_part, route_of}
 use Rattle.tfs_http.proofs.PathLemmas.{IsSplit, no_slash, at_slash, split_at, split_once, slash_found, slash_tested, differ_at}
-use Rattle.tfs_http.proofs.RowLemmas.{front_split, front_joined}
+use Rattle.tfs_framing.proofs.PrefixLemmas.{front_split, front_joined}
 
 -- A text is this one or another.
 pub text_decided : (text other : List ℕ) → (text ≡ other) ⊎ ¬ (text ≡ other)

@@ -18,7 +18,7 @@ use Rattle.tfs_calls.specs.declared.refusal.Refusal.{Refusal}
 use Rattle.tfs_calls.specs.declared.refusal.Refusal.TheVariants.{NoRoute, MethodNotAllowed, BadName, BadDigest}
 use Rattle.tfs_http.specs.declared.routes.Served.{Served}
 use Rattle.tfs_http.specs.declared.routes.Served.TheVariants as served
-use Rattle.tfs_http.specs.Request.{RequestValue}
+use Rattle.tfs_framing.specs.Request.{RequestValue}
 use Rattle.tfs_http.specs.Query.{identifier_parameter, texts_parameter}
 use Rattle.tfs_http.specs.Routing.{path_of, Route, IsPathOf, IsOneOf, HasRoute, IsTaken, IsSound, HasChange, HasCall, routing_refusal}
 use Rattle.tfs_http.specs.Routing.{RoutesTo, methods_of, state_path, impact_path, route_of}

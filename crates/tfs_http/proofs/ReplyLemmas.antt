@@ -8,7 +8,7 @@ use Rattle.tfs_calls.specs.Refusal.{serial_reused, no_state, no_address, too_man
 use Rattle.tfs_calls.specs.Refusal.{table_full, journal_full, out_of_memory, journal_fault, no_copy, row_of}
 use Rattle.tfs_calls.specs.Reply.{ReplyValue, done, state, impact, refused}
 use Rattle.tfs_http.specs.ReplyText.{status_of, allow_line, close_line, type_line, phrase_of, name_body, head_text}
-use Rattle.tfs_http.specs.declared.form.Form.{Form}
+use Rattle.tfs_framing.specs.declared.form.Form.{Form}
 
 -- Eleven parts joined from the right, and as a first line, three lines, a fifth line and an end.
 joined : (a b c d e f g h i j k : List ℕ)

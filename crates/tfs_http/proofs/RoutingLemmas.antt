@@ -18,7 +18,8 @@ use Rattle.tfs_http.specs.declared.routes.Served.{Served}
 use Rattle.tfs_http.specs.Routing.{kind_part}
 use Rattle.tfs_http.specs.Rows.{state_row, impact_row, route_rows}
 use Rattle.tfs_http.proofs.PathLemmas.{IsSplit, no_slash, at_slash, split_at, segment_at, segment_all, ends_otherwise, ends_so, differ_at}
-use Rattle.tfs_http.proofs.RowLemmas.{fork, front_split, skips_all}
+use Rattle.tfs_framing.proofs.PrefixLemmas.{front_split}
+use Rattle.tfs_http.proofs.RowLemmas.{fork, skips_all}
 
 -- ---- what stands behind a name
 

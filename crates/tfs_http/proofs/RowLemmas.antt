@@ -1,16 +1,10 @@
 -- Walks of rows that begin with texts.
-use Rattle.std.proofs.Common.{◌≡◌, ◌≢◌, ◌⊎◌, ◌<◌, ◌-◌, ◌==◌, ℕ, List, [], ◌∷◌, ◌++◌, length, take, drop}
-use Rattle.std.proofs.Common.{nat_eq, Bool, true}
-use Rattle.std.proofs.Common.{false, refl, sym, ◌∙◌, ap, inl, inr, arith}
-use Rattle.std.proofs.Common.{append-nil, take-append-drop}
+use Rattle.std.proofs.Common.{◌≡◌, ◌≢◌, ◌⊎◌, ◌<◌, ◌-◌, ◌==◌, ℕ, List, [], ◌∷◌, ◌++◌, length, Bool, true}
+use Rattle.std.proofs.Common.{false, refl, sym, ◌∙◌, ap, inl, inr, arith, append-nil}
 use Rattle.std.proofs.lemmas.Bool.Decides.{nat_tests}
-use Rattle.std.proofs.Math.Seq.{take-append_seam}
-use Rattle.std.specs.Cmp.Lexicographic.{bytes_decides}
-use Rattle.std.specs.List.{starts_with}
 use Rattle.matchit.specs.Rows.{Rows, prepend, param_token, catch_all_token}
 use Rattle.matchit.specs.Seek.{seek, first, param_step, own, or_else, step}
 use Rattle.matchit.specs.Level.{IsText}
-use Rattle.matchit.proofs.ParamLemmas.{same_text-self}
 use Rattle.matchit.proofs.SeekLemmas.{own-append, step-append, step-hit, step-miss, seek-empty, seek-lit, or_else-none}
 use Rattle.matchit.proofs.SeekLemmas.{param_step-empty}
 
@@ -71,15 +65,6 @@ fork (x ∷ w) (y ∷ v) r t (b ∷ p) hw hv d =
     by false e j f d more =
         let xb : x ≢ b = λ q. grind (arith, nat_tests) in
         rw (step-miss b x w r xb, seek-empty 0 p) refl
-
--- A text that starts so is that and what is left.
-pub front_split : (front path : List ℕ) → starts_with nat_eq path front ≡ true → path ≡ front ++ drop (length front) path
-front_split front path e =
-    sym (take-append-drop (length front) path) ∙ ap (λ t. t ++ drop (length front) path) (sym ((bytes_decides front (take (length front) path)).0 e))
-
--- A text and a rest start with the text.
-pub front_joined : (front rest : List ℕ) → starts_with nat_eq (front ++ rest) front ≡ true
-front_joined front rest = rw (take-append_seam front rest) (same_text-self front)
 
 -- A walk that skips all that is left ends where it stands.
 pub skips_all : (r : Rows) (p : List ℕ) → seek (length p) r p ≡ own r

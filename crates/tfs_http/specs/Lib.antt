@@ -1,14 +1,3 @@
-pub mod Head
-pub mod Fields
-pub mod Chunks
-pub mod Parts
-pub mod Body
-pub mod Connection
-pub mod Lines
-pub mod Digest
-pub mod Request
-pub mod Framing
-pub mod Form
 pub mod Query
 pub mod Routing
 pub mod Rows

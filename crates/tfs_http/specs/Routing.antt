@@ -13,7 +13,7 @@ use Rattle.tfs_calls.specs.declared.query.Kind.{Kind}
 use Rattle.tfs_calls.specs.declared.query.Kind.TheVariants.{Any, All}
 use Rattle.tfs_calls.specs.declared.refusal.Refusal.{Refusal}
 use Rattle.tfs_calls.specs.declared.refusal.Refusal.TheVariants.{NoRoute, MethodNotAllowed, BadName, BadDigest}
-use Rattle.tfs_http.specs.Request.{RequestValue}
+use Rattle.tfs_framing.specs.Request.{RequestValue}
 use Rattle.tfs_http.specs.Query.{question_mark, identifier_parameter, texts_parameter}
 use Rattle.tfs_http.specs.declared.routes.Served.{Served}
 use Rattle.tfs_http.specs.declared.routes.Served.TheVariants as served

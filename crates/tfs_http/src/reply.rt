@@ -6,9 +6,9 @@ ghost use Rattle.tfs_calls.specs.Reply.{reply_value, refused};
 ghost use Rattle.tfs_http.specs.ReplyText.{phrase_of, status_of, allow_line, close_line, type_line, head_text, name_body, reply_text};
 
 use crate::answer::impact_body;
-use crate::form::Form;
 use std::alloc::{AllocError, Global};
 use tfs_calls::{Methods, Refusal, Reply};
+use tfs_framing::Form;
 
 /// The status of an answer that is no refusal (RFC 9110, section 15.3.1).
 const OK: u16 = 200;

@@ -10,12 +10,12 @@ ghost use Rattle.tfs_http.specs.Routing.{impact_path, route_of};
 ghost use Rattle.tfs_http.specs.Rows.{route_rows};
 
 use crate::query::{identifier_parameter, texts_parameter};
-use crate::request::Request;
 use matchit::{InsertError, Router};
 use std::alloc::{AllocError, Global};
 use std::marker::Model;
 use std::str;
 use tfs_calls::{Call, Kind, Methods, Query, Raw, Refusal, Text, Texts};
+use tfs_framing::Request;
 use tfs_rules::Name;
 
 /// What a route serves.

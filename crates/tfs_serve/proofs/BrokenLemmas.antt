@@ -7,9 +7,9 @@ use Rattle.tfs_calls.specs.declared.call.Call.{Call}
 use Rattle.tfs_calls.specs.declared.refusal.Refusal.{Refusal}
 use Rattle.tfs_calls.specs.Refusal.{refusal_value}
 use Rattle.tfs_calls.specs.Reply.{ReplyValue, refused}
-use Rattle.tfs_http.specs.Request.{RequestValue}
-use Rattle.tfs_http.specs.Form.{form_of}
-use Rattle.tfs_http.specs.Framing.{BeginsWith, AreWanted, framing_refusal}
+use Rattle.tfs_framing.specs.Request.{RequestValue}
+use Rattle.tfs_framing.specs.Form.{form_of}
+use Rattle.tfs_framing.specs.Framing.{BeginsWith, AreWanted, framing_refusal}
 use Rattle.tfs_http.specs.ReplyText.{reply_text}
 use Rattle.tfs_serve.specs.Conversation.{AnswersRequest, Exchange, ComesInReads, LeftOver, MayGoOn}
 use Rattle.tfs_serve.specs.Conversation.{closing_form}

@@ -7,11 +7,11 @@ use Rattle.tfs_calls.specs.declared.call.Call.{Call}
 use Rattle.tfs_calls.specs.declared.refusal.Refusal.{Refusal}
 use Rattle.tfs_calls.specs.Refusal.{refusal_value}
 use Rattle.tfs_calls.specs.Reply.{ReplyValue, refused}
-use Rattle.tfs_http.specs.Request.{RequestValue}
-use Rattle.tfs_http.specs.Form.{form_of}
-use Rattle.tfs_http.specs.Framing.{BeginsWith, AreWanted, IsUnfinished, framing_refusal}
+use Rattle.tfs_framing.specs.Request.{RequestValue}
+use Rattle.tfs_framing.specs.Form.{form_of}
+use Rattle.tfs_framing.specs.Framing.{BeginsWith, AreWanted, IsUnfinished, framing_refusal}
 use Rattle.tfs_http.specs.ReplyText.{reply_text}
-use Rattle.tfs_http.proofs.MessageLemmas.{rest_behind}
+use Rattle.tfs_framing.proofs.MessageLemmas.{rest_behind}
 use Rattle.tfs_serve.specs.Conversation.{AnswersRequest, Exchange, has_asked, Serves, Ends, IsReadThrough, ComesInReads}
 use Rattle.tfs_serve.specs.Conversation.{closing_form}
 use Rattle.tfs_serve.specs.Turns.{Moment, moment, Moved, Went, HasEnded, HasBroken}

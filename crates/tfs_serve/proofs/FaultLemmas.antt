@@ -1,7 +1,7 @@
 -- Laws of faults: where they come, and that they come there with exchanges before.
 use Rattle.std.proofs.Common.{◌≡◌, ◌≢◌, ◌≤◌, ◌⊎◌, ◌||◌, Bool, true, false, ℕ, List, [], ◌∷◌, ◌++◌, refl, sym, ◌∙◌, ap, subst, arith, inl, inr}
 use Rattle.std.proofs.Common.{append_assoc}
-use Rattle.tfs_http.specs.Framing.{IsUnfinished}
+use Rattle.tfs_framing.specs.Framing.{IsUnfinished}
 use Rattle.tfs_serve.specs.Conversation.{Exchange, has_asked, LeftOver, IsBetween, IsLastReply, ComesAt}
 use Rattle.tfs_serve.specs.Turns.{FailsReading}
 use Rattle.tfs_serve.specs.declared.fault.ServeFault.{ServeFault}

@@ -10,20 +10,20 @@ use Rattle.tfs_calls.specs.Refusal.{out_of_memory, journal_fault, refusal_value}
 use Rattle.tfs_calls.specs.Reply.{ReplyValue, refused}
 use Rattle.tfs_calls.specs.Transition.{TableModel, Answers, FaultsJournal}
 use Rattle.tfs_table.specs.Table.{TableValue, model_of}
-use Rattle.tfs_http.specs.Request.{RequestValue}
-use Rattle.tfs_http.specs.Form.{form_of}
-use Rattle.tfs_http.specs.Framing.{Frames, ReadsMessage, framing_refusal}
+use Rattle.tfs_framing.specs.Request.{RequestValue}
+use Rattle.tfs_framing.specs.Form.{form_of}
+use Rattle.tfs_framing.specs.Framing.{Frames, ReadsMessage, framing_refusal}
 use Rattle.tfs_http.specs.Routing.{RoutesTo}
 use Rattle.tfs_http.specs.ReplyText.{reply_text}
-use Rattle.tfs_http.specs.declared.taken.Take.{Take}
-use Rattle.tfs_http.specs.declared.taken.Take.TheVariants.{Got, Fault}
+use Rattle.tfs_framing.specs.declared.taken.Take.{Take}
+use Rattle.tfs_framing.specs.declared.taken.Take.TheVariants.{Got, Fault}
 use Rattle.tfs_serve.specs.Desk.{AnswersCall}
 use Rattle.tfs_serve.specs.Conversation.{AnswersRequest, Exchange, has_asked, Serves, Ends, closing_form}
 use Rattle.tfs_serve.specs.Output.{IsUndisturbed, HasOutput}
 use Rattle.tfs_serve.proofs.StepLemmas.{serves_over}
 use Rattle.tfs_serve.specs.declared.ended.Ended.{Ended}
 use Rattle.tfs_serve.specs.declared.ended.Ended.TheVariants.{Clean, Cut, Asked, Refused}
-use Rattle.tfs_http.proofs.MessageLemmas.{frame_is_no_empty_text, no_refusal_of_no_bytes, begins, first_message_once}
+use Rattle.tfs_framing.proofs.MessageLemmas.{frame_is_no_empty_text, no_refusal_of_no_bytes, begins, first_message_once}
 
 -- ---- the answer to a request
 

@@ -3,7 +3,7 @@ use Rattle.std.proofs.Common.{◌≡◌, List, ℕ, [], ◌∷◌, Option, Resul
 use Rattle.std.specs.Io.KnownBytes.{Appends, Consumes}
 use Rattle.tfs_calls.specs.declared.call.Call.{Call}
 use Rattle.tfs_calls.specs.Reply.{ReplyValue}
-use Rattle.tfs_http.specs.Request.{RequestValue}
+use Rattle.tfs_framing.specs.Request.{RequestValue}
 use Rattle.tfs_serve.specs.Conversation.{AnswersRequest, Exchange, Serves, Converses, BreaksOff, ComesInReads}
 use Rattle.tfs_serve.specs.declared.ended.Ended.{Ended}
 use Rattle.tfs_serve.specs.declared.fault.ServeFault.{ServeFault}

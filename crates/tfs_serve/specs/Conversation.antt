@@ -6,10 +6,10 @@ use Rattle.tfs_calls.specs.declared.call.Call.{Call}
 use Rattle.tfs_calls.specs.declared.refusal.Refusal.{Refusal}
 use Rattle.tfs_calls.specs.Refusal.{out_of_memory, refusal_value}
 use Rattle.tfs_calls.specs.Reply.{ReplyValue, refused}
-use Rattle.tfs_http.specs.declared.form.Form.{Form}
-use Rattle.tfs_http.specs.Request.{RequestValue}
-use Rattle.tfs_http.specs.Form.{form_of}
-use Rattle.tfs_http.specs.Framing.{ReadsMessage, BeginsWith, IsUnfinished, framing_refusal}
+use Rattle.tfs_framing.specs.declared.form.Form.{Form}
+use Rattle.tfs_framing.specs.Request.{RequestValue}
+use Rattle.tfs_framing.specs.Form.{form_of}
+use Rattle.tfs_framing.specs.Framing.{ReadsMessage, BeginsWith, IsUnfinished, framing_refusal}
 use Rattle.tfs_http.specs.Routing.{HasCall, routing_refusal}
 use Rattle.tfs_http.specs.ReplyText.{reply_text}
 use Rattle.tfs_serve.specs.declared.ended.Ended.{Ended}

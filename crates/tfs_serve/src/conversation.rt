@@ -3,7 +3,7 @@
 ghost use Rattle.std.specs.Prelude.{◌≡◌, ◌≤◌, ◌<◌, ◌⊎◌, ◌++◌, ℕ, List, [], length, Some, None, Ok, if◌then◌else◌, IfOk, IfErr, IfSome, OnOk};
 ghost use Rattle.std.specs.Io.KnownBytes.{Appends, Consumes};
 ghost use Rattle.tfs_calls.specs.Reply.{ReplyValue, reply_value};
-ghost use Rattle.tfs_http.specs.Form.{form_of};
+ghost use Rattle.tfs_framing.specs.Form.{form_of};
 ghost use Rattle.tfs_http.specs.ReplyText.{reply_text};
 ghost use Rattle.tfs_serve.specs.Conversation.{AnswersRequest, ComesInReads, Converses, BreaksOff, IsReadThrough};
 ghost use Rattle.tfs_serve.specs.Turns.{WritesPart, moment, Went, HasEnded, HasBroken, work_left};
@@ -18,7 +18,8 @@ use crate::reads::Reads;
 use std::alloc::{AllocError, Global};
 use std::io::{Read, Write};
 use tfs_calls::{Refusal, Reply};
-use tfs_http::{Form, Framed, Request, Routes, call_of, frame, write_reply};
+use tfs_framing::{Form, Framed, Request, frame};
+use tfs_http::{Routes, call_of, write_reply};
 
 /// The form of a reply after which the conversation ends.
 const CLOSING: Form = Form {

@@ -5,9 +5,8 @@ ghost use Rattle.tfs_table.specs.Table.{TableValue, model_of};
 ghost use Rattle.tfs_serve.specs.Output.{HasOutput};
 ghost use Rattle.tfs_serve.specs.declared.ended.Ended.{Ended};
 
-use tfs_http::{
-    what_becomes_of_a_request_is_one_thing, what_bytes_begin_with_is_one_thing_and_stays,
-};
+use tfs_framing::what_bytes_begin_with_is_one_thing_and_stays;
+use tfs_http::what_becomes_of_a_request_is_one_thing;
 
 /// Over a table, bytes have one output: the text, the journal that is left, whether the table is stopped then, and how the
 /// conversation ends are functions of the bytes, of the journal at the start and of whether the table was stopped, however the

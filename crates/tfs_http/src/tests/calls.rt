@@ -1,10 +1,11 @@
 //! Calls and refusals of requests, worked out by hand from the routes of the server.
 
-use crate::{Request, Routes, call_of};
+use crate::{Routes, call_of};
 use std::alloc::Global;
 use std::process::Abort;
 use std::test::Fail;
 use tfs_calls::{Call, Raw, Refusal, Text};
+use tfs_framing::Request;
 
 /// What becomes of a request with the body `abc`.
 fn call(

@@ -1,11 +1,12 @@
 //! Queries for the impact of changes: their calls, and the texts of their answers, worked out by hand.
 
-use crate::{Form, Request, Routes, call_of, write_reply};
+use crate::{Routes, call_of, write_reply};
 use std::alloc::Global;
 use std::process::Abort;
 use std::sync::Arc;
 use std::test::Fail;
 use tfs_calls::{Call, Chosen, Impact, Kind, Query, Refusal, Reply};
+use tfs_framing::{Form, Request};
 use tfs_index::Version;
 use tfs_state::{Doc, MAX_STATE_BYTES};
 

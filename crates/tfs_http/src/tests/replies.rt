@@ -1,12 +1,13 @@
 //! Texts of replies, worked out by hand from RFC 9112.
 
 use super::S1;
-use crate::{Form, write_reply};
+use crate::write_reply;
 use std::alloc::Global;
 use std::process::Abort;
 use std::sync::Arc;
 use std::test::Fail;
 use tfs_calls::{Methods, Refusal, Reply};
+use tfs_framing::Form;
 use tfs_lock::LockInfo;
 use tfs_state::{Doc, MAX_STATE_BYTES};
 

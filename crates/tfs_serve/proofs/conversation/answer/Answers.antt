@@ -1,5 +1,5 @@
 -- The call of a request whose body fits carries a body that fits.
-use Rattle.tfs_http.proofs.MessageLemmas.{call_fits}
+use Rattle.tfs_http.proofs.CallLemmas.{call_fits}
 use Rattle.tfs_serve.proofs.conversation.answer.Goals as goal
 
 pub answer-requires : goal.answer-requires

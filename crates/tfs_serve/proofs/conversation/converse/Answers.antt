@@ -1,6 +1,6 @@
 -- A conversation begins with no bytes read.
 use Rattle.std.proofs.Common.{[], inl}
-use Rattle.tfs_http.proofs.MessageLemmas.{no_bytes_are_unfinished}
+use Rattle.tfs_framing.proofs.MessageLemmas.{no_bytes_are_unfinished}
 use Rattle.tfs_serve.specs.Turns.{moment}
 use Rattle.tfs_serve.proofs.BrokenLemmas.{broken_at_once}
 use Rattle.tfs_serve.proofs.conversation.converse.Goals as goal

@@ -1,10 +1,10 @@
 -- Each end of a turn is a law of turns.
 use Rattle.std.proofs.Common.{◌≡◌, ◌⊎◌, ◌∙◌, [], sym, ap, subst, Ok, None, unwrap_or, ℕ, List, inr}
-use Rattle.tfs_http.specs.Framing.{AreWanted, BeginsWith, FramesOrWants, framing_refusal}
+use Rattle.tfs_framing.specs.Framing.{AreWanted, BeginsWith, FramesOrWants, framing_refusal}
 use Rattle.tfs_serve.specs.Conversation.{MayGoOn}
 use Rattle.tfs_serve.specs.Turns.{moment, HasEnded}
 use Rattle.tfs_serve.specs.declared.ended.Ended.TheVariants.{Clean, Cut}
-use Rattle.tfs_http.specs.declared.form.Form.{Form}
+use Rattle.tfs_framing.specs.declared.form.Form.{Form}
 use Rattle.std.specs.Result.{result_ok}
 use Rattle.tfs_serve.proofs.ConversationLemmas.{went_reading, ended_with_input, went_answering, ended_asked, ended_refusing, not_asked, asked_ends}
 use Rattle.tfs_serve.proofs.BrokenLemmas.{broken_at_once, broken_reading, broken_answering, broken_refusing}

@@ -1,0 +1,262 @@
+-- Each text begins with a piece of a head or doesn't, for each piece of the grammar.
+use Rattle.std.proofs.Common.{◌≡◌, ◌≤◌, ◌<◌, ◌+◌, ◌⊎◌, ◌==◌, ◌∙◌, ℕ, zero, suc, List, [], ◌∷◌, ◌++◌, length, drop, nat_eq, Bool, true, false}
+use Rattle.std.proofs.Common.{codes, refl, sym, ap, subst, inl, inr, arith, append_assoc}
+use Rattle.std.specs.List.{starts_with}
+use Rattle.std.specs.Str.{IsUtf8, is_utf8}
+use Rattle.std.proofs.lemmas.Bool.{eqb-true}
+use Rattle.std.proofs.lemmas.Bool.Decides.{nat_tests}
+use Rattle.std.proofs.lemmas.List.Elements.{All-nil, All-cons, All-head, All-tail}
+use Rattle.std.proofs.lemmas.Str.{IsUtf8-from_is_utf8, is_utf8-from_IsUtf8}
+use Rattle.httparse.specs.Grammar.{is_uri_byte, is_value_byte, AllPass, LineEnd, crlf, lf, print_end, print_blank}
+use Rattle.httparse.specs.Pieces.{Piece, Begins, Then, Stops, is_newline, Newline, Blank, Word, Target, Version, Text}
+use Rattle.httparse.proofs.PieceLemmas.{IsDeterministic, Newline_deterministic, Word_deterministic}
+use Rattle.httparse.proofs.PieceLemmas.{newline_not_stopped}
+use Rattle.tfs_framing.proofs.PrefixLemmas.{front_split, front_joined}
+
+-- Two numbers are the same or not.
+pub same_or_not : (a b : ℕ) → (a ≡ b) ⊎ ¬ (a ≡ b)
+same_or_not a b = by (a == b) refl
+  where
+    by : (v : Bool) → (a == b) ≡ v → (a ≡ b) ⊎ ¬ (a ≡ b)
+    by true e = inl (eqb-true a b e)
+    by false e = inr (λ same. grind (arith, nat_tests))
+
+-- Each text begins with the piece or doesn't.
+abbrev pub IsDecided : {A : Type 0} → Piece A → Type 0
+IsDecided G = (text : List ℕ) → Begins G text ⊎ ¬ (Begins G text)
+
+-- Two pieces that are decided, in a row.
+pub then_decided : {A B : Type 0} {G : Piece A} {H : Piece B} → IsDeterministic G → IsDecided G → IsDecided H → IsDecided (Then G H)
+then_decided {G} {H} det g h text = elim (g text) [
+  | inl x ↦ elim (h x.1) [
+    | inl y ↦ inl ((x.0, y.0), y.1, (x.1, x.2, y.2))
+    | inr none ↦ inr (λ w.
+        let same = det.unique w.0.0 x.0 text w.2.0 x.1 w.2.1 x.2 in
+        none (w.0.1, w.1, subst (λ (m : List ℕ). H w.0.1 m w.1) same.1 w.2.2))
+  ]
+  | inr none ↦ inr (λ w. none (w.0.0, w.2.0, w.2.1))
+]
+
+-- No bytes begin with no line end.
+pub nothing_begins : ¬ (Begins Newline [])
+nothing_begins w = by w.0 w.1 w.2
+  where
+    by : (end : LineEnd) (rest : List ℕ) → ¬ ([] ≡ print_end end ++ rest)
+    by crlf rest e = cc
+    by lf rest e = cc
+
+-- A line end comes first or doesn't.
+pub newline_decided : IsDecided Newline
+newline_decided [] = inr nothing_begins
+newline_decided (b ∷ text) = elim (same_or_not b 10) [
+  | inl is ↦ inl (lf, text, ap (λ c. c ∷ text) is)
+  | inr other ↦ elim (same_or_not b 13) [
+    | inl is ↦ behind text is
+    | inr not_cr ↦ inr (λ w. none w.0 w.1 other not_cr w.2)
+  ]
+]
+  where
+    none : (end : LineEnd) (rest : List ℕ) → ¬ (b ≡ 10) → ¬ (b ≡ 13) → ¬ (b ∷ text ≡ print_end end ++ rest)
+    none crlf rest not_lf not_cr e = not_cr (cc)
+    none lf rest not_lf not_cr e = not_lf (cc)
+
+    behind : (left : List ℕ) → b ≡ 13 → Begins Newline (b ∷ left) ⊎ ¬ (Begins Newline (b ∷ left))
+    behind [] is = inr (λ w. short w.0 w.1 w.2)
+      where
+        short : (end : LineEnd) (rest : List ℕ) → ¬ (b ∷ [] ≡ print_end end ++ rest)
+        short crlf rest e = cc
+        short lf rest e = let wrong : ◌≡◌ {A = ℕ} 13 10 = cc in omega arith
+    behind (c ∷ left) is = elim (same_or_not c 10) [
+      | inl end ↦ inl (crlf, left, ap (λ d. d ∷ c ∷ left) is ∙ ap (λ d. 13 ∷ d ∷ left) end)
+      | inr other ↦ inr (λ w. short w.0 w.1 w.2 other)
+    ]
+      where
+        short : (end : LineEnd) (rest : List ℕ) → b ∷ c ∷ left ≡ print_end end ++ rest → ¬ (¬ (c ≡ 10))
+        short crlf rest e other = other (cc)
+        short lf rest e other = let wrong : ◌≡◌ {A = ℕ} 13 10 = cc in omega arith
+
+-- A text has a first byte that fails the test, or not.
+stops_decided : (test : ℕ → Bool) (text : List ℕ) → Stops test text ⊎ ¬ (Stops test text)
+stops_decided test [] = inr (λ stops. stops)
+stops_decided test (b ∷ text) = by (test b) refl
+  where
+    by : (v : Bool) → test b ≡ v → (test b ≡ false) ⊎ ¬ (test b ≡ false)
+    by true e = inr (λ fails. cc)
+    by false e = inl e
+
+-- All empty lines come first, and then something else, or not.
+pub blank_decided : IsDecided Blank
+blank_decided text = within (length text) text (omega arith)
+  where
+    longer : (end : LineEnd) (rest left : List ℕ) → left ≡ print_end end ++ rest → length rest < length left
+    longer crlf rest left e = let same = ap (λ (t : List ℕ). length t) e in omega arith
+    longer lf rest left e = let same = ap (λ (t : List ℕ). length t) e in omega arith
+
+    at_once : (left : List ℕ) → ¬ (Begins Newline left) → Begins Blank left ⊎ ¬ (Begins Blank left)
+    at_once left none = elim (stops_decided is_newline left) [
+      | inl stops ↦ inl ([], left, (refl, stops))
+      | inr goes_on ↦ inr (λ w. by w.0 w.1 w.2.0 w.2.1 none goes_on)
+    ]
+      where
+        by : (ends : List LineEnd) (rest : List ℕ) → left ≡ print_blank ends ++ rest → Stops is_newline rest → ¬ (Begins Newline left)
+            → ¬ (¬ (Stops is_newline left))
+        by [] rest e stops none goes_on = goes_on (subst (Stops is_newline) (sym e) stops)
+        by (end ∷ ends) rest e stops none goes_on = none (end, print_blank ends ++ rest, e ∙ append_assoc (print_end end) (print_blank ends) rest)
+
+    within : (n : ℕ) (left : List ℕ) → length left ≤ n → Begins Blank left ⊎ ¬ (Begins Blank left)
+    within zero [] few = at_once [] nothing_begins
+    within zero (b ∷ left) few = absurd (omega arith)
+    within (suc n) left few = elim (newline_decided left) [
+      | inr none ↦ at_once left none
+      | inl x ↦ elim (within n x.1 (let more = longer x.0 x.1 left x.2 in omega arith)) [
+        | inl y ↦ inl (x.0 ∷ y.0, y.1, (x.2 ∙ ap (λ t. print_end x.0 ++ t) y.2.0 ∙ sym (append_assoc (print_end x.0) (print_blank y.0) y.1), y.2.1))
+        | inr none ↦ inr (λ w. by x.0 x.1 x.2 none w.0 w.1 w.2.0 w.2.1)
+      ]
+    ]
+      where
+        by : (end : LineEnd) (rest : List ℕ) → left ≡ print_end end ++ rest → ¬ (Begins Blank rest)
+            → (ends : List LineEnd) (last : List ℕ) → left ≡ print_blank ends ++ last → ¬ (Stops is_newline last)
+        by end rest e none [] last same stops = newline_not_stopped end rest left (sym e) (subst (Stops is_newline) (sym same) stops)
+        by end rest e none (first ∷ ends) last same stops =
+            let one = Newline_deterministic.unique end first left rest (print_blank ends ++ last) e
+            (same ∙ append_assoc (print_end first) (print_blank ends) last) in
+            none (ends, last, (one.1, stops))
+
+-- Bytes that pass a test come first, and then the byte that ends them, or not.
+pub span_decided : (test : ℕ → Bool) (stop : ℕ) → test stop ≡ false → (text : List ℕ)
+    → ((word : List ℕ) × (rest : List ℕ) × AllPass test word × (text ≡ word ++ stop ∷ rest))
+    ⊎ ¬ ((word : List ℕ) × (rest : List ℕ) × AllPass test word × (text ≡ word ++ stop ∷ rest))
+span_decided test stop fails [] = inr (λ w. none w.0 w.1 w.3)
+  where
+    none : (word rest : List ℕ) → ¬ ([] ≡ word ++ stop ∷ rest)
+    none [] rest e = cc
+    none (c ∷ word) rest e = cc
+span_decided test stop fails (b ∷ text) = by (test b) refl (span_decided test stop fails text)
+  where
+    by : (v : Bool) → test b ≡ v
+        → ((word : List ℕ) × (rest : List ℕ) × AllPass test word × (text ≡ word ++ stop ∷ rest))
+        ⊎ ¬ ((word : List ℕ) × (rest : List ℕ) × AllPass test word × (text ≡ word ++ stop ∷ rest))
+        → ((word : List ℕ) × (rest : List ℕ) × AllPass test word × (b ∷ text ≡ word ++ stop ∷ rest))
+        ⊎ ¬ ((word : List ℕ) × (rest : List ℕ) × AllPass test word × (b ∷ text ≡ word ++ stop ∷ rest))
+    by true e behind = elim behind [
+      | inl x ↦ inl (b ∷ x.0, x.1, All-cons (λ c. test c ≡ true) b x.0 e x.2, ap (λ t. b ∷ t) x.3)
+      | inr none ↦ inr (λ w. longer w.0 w.1 w.2 w.3 none)
+    ]
+      where
+        longer : (word rest : List ℕ) → AllPass test word → b ∷ text ≡ word ++ stop ∷ rest
+            → ¬ (¬ ((word : List ℕ) × (rest : List ℕ) × AllPass test word × (text ≡ word ++ stop ∷ rest)))
+        longer [] rest all same none = let is : b ≡ stop = cc in cc
+        longer (c ∷ word) rest all same none = none (word, rest, All-tail (λ d. test d ≡ true) c word all, cc)
+    by false e behind = elim (same_or_not b stop) [
+      | inl is ↦ inl ([], text, All-nil (λ c. test c ≡ true), ap (λ c. c ∷ text) is)
+      | inr other ↦ inr (λ w. none w.0 w.1 w.2 w.3 other)
+    ]
+      where
+        none : (word rest : List ℕ) → AllPass test word → b ∷ text ≡ word ++ stop ∷ rest → ¬ (¬ (b ≡ stop))
+        none [] rest all same other = other (cc)
+        none (c ∷ word) rest all same other =
+            let passes : test c ≡ true = All-head (λ d. test d ≡ true) c word all in
+            let is : b ≡ c = cc in
+            cc
+
+-- A word comes first, and then the byte that ends it, or not.
+pub word_decided : (test : ℕ → Bool) (stop : ℕ) → test stop ≡ false → IsDecided (Word test stop)
+word_decided test stop fails [] = inr (λ w. none w.0 w.1 w.2.2)
+  where
+    none : (word rest : List ℕ) → ¬ ([] ≡ word ++ stop ∷ rest)
+    none [] rest e = cc
+    none (c ∷ word) rest e = cc
+word_decided test stop fails (b ∷ text) = elim (span_decided test stop fails (b ∷ text)) [
+  | inl x ↦ by x.0 x.1 x.2 x.3
+  | inr none ↦ inr (λ w. none (w.0, w.1, w.2.1, w.2.2))
+]
+  where
+    by : (word rest : List ℕ) → AllPass test word → b ∷ text ≡ word ++ stop ∷ rest → Begins (Word test stop) (b ∷ text)
+        ⊎ ¬ (Begins (Word test stop) (b ∷ text))
+    by [] rest all e = inr (λ w. none w.0 w.1 w.2.0 w.2.1 w.2.2)
+      where
+        none : (word left : List ℕ) → 0 < length word → AllPass test word → ¬ (b ∷ text ≡ word ++ stop ∷ left)
+        none [] left some all same = omega arith
+        none (c ∷ word) left some all same =
+            let passes : test c ≡ true = All-head (λ d. test d ≡ true) c word all in
+            let is : stop ≡ c = cc in
+            cc
+    by (c ∷ word) rest all e = inl (c ∷ word, rest, (omega arith, all, e))
+
+-- A target in UTF-8 and a space come first, or not.
+pub target_decided : IsDecided Target
+target_decided text = elim (word_decided is_uri_byte 32 refl text) [
+  | inl x ↦ by x.0 x.1 x.2 (is_utf8 x.0) refl
+  | inr none ↦ inr (λ w. none (w.0, w.1, w.2.0))
+]
+  where
+    by : (target rest : List ℕ) → Word is_uri_byte 32 target text rest → (v : Bool) → is_utf8 target ≡ v → Begins Target text ⊎ ¬ (Begins Target text)
+    by target rest x true e = inl (target, rest, (x, IsUtf8-from_is_utf8 target e))
+    by target rest x false e = inr (λ w.
+        let same = (Word_deterministic is_uri_byte 32 refl).unique w.0 target text w.1 rest w.2.0 x in
+        let valid : is_utf8 target ≡ true = is_utf8-from_IsUtf8 target (subst IsUtf8 same.0 w.2.1) in
+        cc)
+
+-- A version comes first, or not.
+pub version_decided : IsDecided Version
+version_decided text = by (starts_with nat_eq text (codes "HTTP/1.")) refl
+  where
+    digit : (left : List ℕ) → text ≡ codes "HTTP/1." ++ left → Begins Version text ⊎ ¬ (Begins Version text)
+    digit [] e = inr (λ w. let same = e in let also = w.2.1 in cc)
+    digit (d ∷ left) e = elim (same_or_not d 48) [
+      | inl is ↦ inl (0, left, (omega arith, e ∙ ap (λ c. codes "HTTP/1." ++ c ∷ left) is))
+      | inr not_zero ↦ elim (same_or_not d 49) [
+        | inl is ↦ inl (1, left, (omega arith, e ∙ ap (λ c. codes "HTTP/1." ++ c ∷ left) is))
+        | inr not_one ↦ inr (λ w.
+            let small = w.2.0 in
+            let also = w.2.1 in
+            let is : d ≡ 48 + w.0 = cc in
+            omega arith)
+      ]
+    ]
+
+    by : (v : Bool) → starts_with nat_eq text (codes "HTTP/1.") ≡ v → Begins Version text ⊎ ¬ (Begins Version text)
+    by true e = digit (drop 7 text) (front_split (codes "HTTP/1.") text e)
+    by false e = inr (λ w.
+        let joined : starts_with nat_eq text (codes "HTTP/1.") ≡ true =
+        ap (λ t. starts_with nat_eq t (codes "HTTP/1.")) w.2.1 ∙ front_joined (codes "HTTP/1.") ((48 + w.0) ∷ w.1) in
+        cc)
+
+-- No byte of a value is the first of a line end.
+value_no_newline : (b : ℕ) (text rest : List ℕ) (end : LineEnd) → is_value_byte b ≡ true → ¬ (b ∷ text ≡ print_end end ++ rest)
+value_no_newline b text rest crlf v e = let is : b ≡ 13 = cc in let wrong : is_value_byte 13 ≡ true = subst (λ c. is_value_byte c ≡ true) is v in cc
+value_no_newline b text rest lf v e = let is : b ≡ 10 = cc in let wrong : is_value_byte 10 ≡ true = subst (λ c. is_value_byte c ≡ true) is v in cc
+
+-- The bytes of a value and a line end come first, or not.
+pub text_decided : IsDecided Text
+text_decided [] = inr (λ w. none w.0.0 w.0.1 w.1 w.2.1)
+  where
+    none : (word : List ℕ) (end : LineEnd) (rest : List ℕ) → ¬ ([] ≡ word ++ (print_end end ++ rest))
+    none [] crlf rest e = cc
+    none [] lf rest e = cc
+    none (c ∷ word) end rest e = cc
+text_decided (b ∷ text) = by (is_value_byte b) refl (text_decided text)
+  where
+    by : (v : Bool) → is_value_byte b ≡ v → Begins Text text ⊎ ¬ (Begins Text text) → Begins Text (b ∷ text) ⊎ ¬ (Begins Text (b ∷ text))
+    by true v behind = elim behind [
+      | inl x ↦ inl ((b ∷ x.0.0, x.0.1), x.1, (All-cons (λ c. is_value_byte c ≡ true) b x.0.0 v x.2.0, ap (λ t. b ∷ t) x.2.1))
+      | inr none ↦ inr (λ w. longer w.0.0 w.0.1 w.1 w.2.0 w.2.1 none)
+    ]
+      where
+        longer : (word : List ℕ) (end : LineEnd) (rest : List ℕ) → AllPass is_value_byte word → b ∷ text ≡ word ++ (print_end end ++ rest)
+            → ¬ (¬ (Begins Text text))
+        longer [] end rest all e none = value_no_newline b text rest end v e
+        longer (c ∷ word) end rest all e none = none ((word, end), rest, (All-tail (λ d. is_value_byte d ≡ true) c word all, cc))
+    by false v behind = elim (newline_decided (b ∷ text)) [
+      | inl x ↦ inl (([], x.0), x.1, (All-nil (λ c. is_value_byte c ≡ true), x.2))
+      | inr none ↦ inr (λ w. other w.0.0 w.0.1 w.1 w.2.0 w.2.1 none)
+    ]
+      where
+        other : (word : List ℕ) (end : LineEnd) (rest : List ℕ) → AllPass is_value_byte word → b ∷ text ≡ word ++ (print_end end ++ rest)
+            → ¬ (¬ (Begins Newline (b ∷ text)))
+        other [] end rest all e none = none (end, rest, e)
+        other (c ∷ word) end rest all e none =
+            let passes : is_value_byte c ≡ true = All-head (λ d. is_value_byte d ≡ true) c word all in
+            let is : b ≡ c = cc in
+            let same : is_value_byte b ≡ true = subst (λ d. is_value_byte d ≡ true) (sym is) passes in
+            cc

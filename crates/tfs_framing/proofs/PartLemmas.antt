@@ -1,0 +1,253 @@
+-- Laws of what comes next in a body in chunks.
+use Rattle.std.proofs.Common.{◌≡◌, ◌≤◌, ◌<◌, ◌+◌, ℕ, List, [], ◌∷◌, ◌++◌, length, refl, sym, ◌∙◌, ap, subst, arith, append_assoc}
+use Rattle.std.proofs.Common.{append-nil, length-append, inl, inr, take, drop, min, take-append-drop, length-take, nat_eq, Bool, true, false, ◌||◌}
+use Rattle.std.specs.List.{list_any}
+use Rattle.std.proofs.lemmas.Bool.{eqb-true}
+use Rattle.std.proofs.Math.Seq.{drop-append_seam}
+use Rattle.httparse.specs.Ascii.{line_feed}
+use Rattle.httparse.specs.Grammar.{crlf, print_end, ChunkLine, print_chunk_line, chunk_size, HasNoChunkLine}
+use Rattle.httparse.specs.Spans.{IsChunkLineAt}
+use Rattle.tfs_framing.specs.Chunks.{Chunk, IsShortLine, IsTrailer, HasBadLine, IsFlawBehind, IsFlawAt}
+use Rattle.tfs_framing.specs.Parts.{next_chunk, next_end, next_flaw, ComesNext, IsOpen, IsPart, IsLineAt, HasNoLine}
+use Rattle.tfs_framing.specs.declared.part.Flaw.{Flaw}
+use Rattle.tfs_framing.specs.declared.part.Flaw.TheVariants.{TooLarge, Unreadable}
+use Rattle.tfs_framing.specs.declared.part.Part.TheVariants.{Wanted}
+use Rattle.tfs_framing.proofs.HeadLemmas.{cuts, nothing_left}
+use Rattle.tfs_framing.proofs.ChunkLemmas.{line_parts, line_once, chunk_split}
+
+-- Where nothing comes next yet, one byte more is wanted.
+pub one_more_wanted : (count total : ℕ) (left : List ℕ) → IsOpen count total left → IsPart count total left (Wanted (length left + 1))
+one_more_wanted count total left none = (
+  omega arith,
+  omega arith,
+  λ others few.
+      let sizes = length-append left others in
+      let nothing : others ≡ [] = nothing_left others (omega arith) in
+      let same : left ++ others ≡ left = ap (λ t. left ++ t) nothing ∙ append-nil left in
+      subst (IsOpen count total) (sym same) none,
+)
+
+-- Without a line nothing comes next yet.
+pub open_without_line : (count total : ℕ) (left : List ℕ) → HasNoLine left → IsOpen count total left
+open_without_line count total left without (next_chunk c after) p =
+    without.none c.line (c.bytes ++ (print_end crlf ++ after)) p.0.line (p.1 ∙ chunk_split c after)
+open_without_line count total left without (next_end after) p = without.none p.0 (p.1 ++ after) p.2 p.5
+open_without_line count total left without (next_flaw flaw) p = elim p [ inl q ↦ without.not_bad q.1 | inr q ↦ without.none q.0 q.1 q.2 q.3 ]
+
+-- Behind a line nothing comes next yet, where it neither goes on nor ends nor fails.
+pub open_behind_line : (count total : ℕ) (left after : List ℕ) (line : ChunkLine) → IsShortLine line → left ≡ print_chunk_line line ++ after
+    → ((bytes rest : List ℕ) → length bytes ≡ chunk_size line → 0 < chunk_size line → ¬ (after ≡ bytes ++ (print_end crlf ++ rest)))
+    → ((trailer rest : List ℕ) → chunk_size line ≡ 0 → IsTrailer trailer → ¬ (after ≡ trailer ++ rest))
+    → ((flaw : Flaw) → ¬ (IsFlawBehind count total (chunk_size line) after flaw)) → IsOpen count total left
+open_behind_line count total left after line is e no_chunk no_end no_flaw (next_chunk c behind) p =
+    let same = line_once c.line line (c.bytes ++ (print_end crlf ++ behind)) after p.0.line is (sym (chunk_split c behind) ∙ sym p.1 ∙ e) in
+    let sizes = ap chunk_size same.0 in
+    let size = p.0.size in
+    let some = p.0.some in
+    no_chunk c.bytes behind (omega arith) (omega arith) (sym same.1)
+open_behind_line count total left after line is e no_chunk no_end no_flaw (next_end behind) p =
+    let same = line_once p.0 line (p.1 ++ behind) after p.2 is (sym p.5 ∙ e) in
+    no_end p.1 behind (sym (ap chunk_size same.0) ∙ p.3) p.4 (sym same.1)
+open_behind_line count total left after line is e no_chunk no_end no_flaw (next_flaw flaw) p = elim p [
+  | inl q ↦ q.1.none line after is e
+  | inr q ↦
+      let same = line_once q.0 line q.1 after q.2 is (sym q.3 ∙ e) in
+      no_flaw flaw (subst (λ (t : List ℕ). IsFlawBehind count total (chunk_size line) t flaw) same.1
+      (subst (λ (l : ChunkLine). IsFlawBehind count total (chunk_size l) q.1 flaw) same.0 q.4))
+]
+
+-- A chunk line has a byte at least.
+pub line_has_bytes : (line : ChunkLine) → IsShortLine line → 0 < length (print_chunk_line line)
+line_has_bytes line is =
+    let parts = line_parts line is.is_line in
+    let size = ap length parts.2 ∙ length-append parts.0 (line_feed ∷ []) in
+    omega arith
+
+-- Too few bytes for a chunk and its end.
+pub open_chunk : (count total : ℕ) (left after : List ℕ) (line : ChunkLine) → IsShortLine line → left ≡ print_chunk_line line ++ after
+    → 0 < chunk_size line → count < 65536 → total + chunk_size line ≤ 16777216 → length after < chunk_size line + 2 → IsOpen count total left
+open_chunk count total left after line is e some few small short = open_behind_line count total left after line is e
+    (λ bytes rest size more f.
+    let one = ap length f ∙ length-append bytes (print_end crlf ++ rest) in
+    let two = length-append (print_end crlf) rest in
+    omega arith)
+    (λ trailer rest none trails f. omega arith)
+    no_flaw
+  where
+    no_flaw : (flaw : Flaw) → ¬ (IsFlawBehind count total (chunk_size line) after flaw)
+    no_flaw TooLarge p = omega (arith, p)
+    no_flaw Unreadable p = elim p.1 [
+      | inl q ↦ let many = q.1 in omega arith
+      | inr r ↦ elim r [
+        | inl q ↦
+            let one = ap length q.2.parts ∙ length-append q.2.bytes (q.2.end ++ q.2.rest) in
+            let two = length-append q.2.end q.2.rest in
+            let size = q.2.size_is in
+            let both = q.2.two in
+            omega arith
+        | inr q ↦ let none = q.0 in omega arith
+      ]
+    ]
+
+-- The chunk and its end are wanted.
+pub chunk_wanted : (count total len size : ℕ) (left : List ℕ) (line : ChunkLine) → IsLineAt left len size line → 0 < size → count < 65536
+    → total + size ≤ 16777216 → length left < len + size + 2 → IsPart count total left (Wanted (len + size + 2))
+chunk_wanted count total len size left line at some few small short =
+    let is_len = at.len_is in
+    let is_size = at.size_is in
+    let whole = ap length at.parts ∙ length-append (print_chunk_line line) at.after in (
+      short,
+      omega arith,
+      λ others less.
+          let more = length-append left others in
+          let longer = length-append at.after others in
+          open_chunk count total (left ++ others) (at.after ++ others) line at.is_line
+          (ap (λ t. t ++ others) at.parts ∙ append_assoc (print_chunk_line line) at.after others)
+          (omega arith) few (omega arith) (omega arith),
+    )
+
+-- What is behind a line.
+pub behind_line : (left : List ℕ) (len size : ℕ) (line : ChunkLine) → (at : IsLineAt left len size line) → drop len left ≡ at.after
+behind_line left len size line at =
+    ap (λ (n : ℕ). drop n left) at.len_is ∙ ap (λ (t : List ℕ). drop (length (print_chunk_line line)) t) at.parts
+    ∙ drop-append_seam (print_chunk_line line) at.after
+
+-- A chunk whose bytes and end are there.
+pub chunk_there : (count total len size : ℕ) (left bytes behind : List ℕ) (line : ChunkLine) → IsLineAt left len size line → 0 < size → count < 65536
+    → total + size ≤ 16777216 → length bytes ≡ size → drop len left ≡ bytes ++ (print_end crlf ++ behind)
+    → (c : Chunk) × (c.bytes ≡ bytes) × ComesNext count total left (next_chunk c behind)
+chunk_there count total len size left bytes behind line at some few small is_size split =
+    let c : Chunk = record { line = line; bytes = bytes } in
+    let told = at.size_is in (
+      c,
+      refl,
+      (
+        record { line = at.is_line; size = sym told ∙ sym is_size; some = omega arith },
+        at.parts ∙ ap (λ t. print_chunk_line line ++ t) (sym (behind_line left len size line at) ∙ split) ∙ sym (chunk_split c behind),
+        few,
+        omega arith,
+      ),
+    )
+
+-- A chunk with another end.
+pub chunk_bad : (count total len size : ℕ) (left bytes end rest : List ℕ) (line : ChunkLine) → IsLineAt left len size line → 0 < size → count < 65536
+    → total + size ≤ 16777216 → length bytes ≡ size → length end ≡ 2 → ¬ (end ≡ print_end crlf) → drop len left ≡ bytes ++ (end ++ rest)
+    → IsFlawAt count total left Unreadable
+chunk_bad count total len size left bytes end rest line at some few small is_size two other split =
+    let told = at.size_is in
+    inr (
+      line,
+      at.after,
+      at.is_line,
+      at.parts,
+      (
+        omega arith,
+        inr (inl (
+          omega arith,
+          few,
+          record {
+            bytes = bytes;
+            end = end;
+            rest = rest;
+            parts = sym (behind_line left len size line at) ∙ split;
+            size_is = is_size ∙ told;
+            two = two;
+            other = other;
+          },
+        )),
+      ),
+    )
+
+-- The line that is found in the first bytes is the line of all.
+pub line_in_window : (left window : List ℕ) (k len size : ℕ) (line : ChunkLine) → k ≤ 1024 → window ≡ take k left → IsChunkLineAt window len size line
+    → IsLineAt left len size line
+line_in_window left window k len size line small is at =
+    let inside = ap length at.reads.1 ∙ length-append (print_chunk_line line) (drop len window) in
+    let few = length-take k left in
+    let size_of = ap length is in
+    record {
+      is_line = record { is_line = at.reads.0; short = omega arith };
+      after = drop len window ++ drop k left;
+      parts = sym (take-append-drop k left) ∙ ap (λ t. t ++ drop k left) (sym is ∙ at.reads.1)
+          ∙ append_assoc (print_chunk_line line) (drop len window) (drop k left);
+      len_is = at.len_is;
+      size_is = at.size_is;
+    }
+
+-- Where the first bytes have no line there is none.
+pub no_line_in_window : (left window : List ℕ) (k : ℕ) → k ≡ min (length left) 1024 → window ≡ take k left → HasNoChunkLine window
+    → (line : ChunkLine) (after : List ℕ) → IsShortLine line → ¬ (left ≡ print_chunk_line line ++ after)
+no_line_in_window left window k is_k is none line after is_line e =
+    let whole : take k left ++ drop k left ≡ print_chunk_line line ++ after = take-append-drop k left ∙ e in
+    let sizes = ap length e ∙ length-append (print_chunk_line line) after in
+    let short = is_line.short in
+    let few = length-take k left in
+    elim (cuts (take k left) (drop k left) (print_chunk_line line) after whole) [
+      | inl w ↦ none line w.0 (is_line.is_line, is ∙ w.1)
+      | inr w ↦
+          let long = ap length w.1 ∙ length-append (take k left) w.0 in
+          let nothing : w.0 ≡ [] = nothing_left w.0 (omega arith) in
+          let same : take k left ≡ print_chunk_line line =
+          sym (append-nil (take k left)) ∙ ap (λ t. take k left ++ t) (sym nothing) ∙ sym w.1 in
+          none line [] (is_line.is_line, is ∙ same ∙ sym (append-nil (print_chunk_line line)))
+    ]
+
+-- A list that has a line feed, cut at it.
+pub feed_found : (text : List ℕ) → list_any (λ b. nat_eq b 10) text ≡ true
+    → (before : List ℕ) × (after : List ℕ) × (text ≡ before ++ line_feed ∷ after)
+feed_found [] e = cc
+feed_found (b ∷ text) e = by (nat_eq b 10) refl e (λ f. feed_found text f)
+  where
+    by : (v : Bool) → nat_eq b 10 ≡ v → (v || list_any (λ c. nat_eq c 10) text) ≡ true
+        → (list_any (λ c. nat_eq c 10) text ≡ true → (before : List ℕ) × (after : List ℕ) × (text ≡ before ++ line_feed ∷ after))
+        → (before : List ℕ) × (after : List ℕ) × (b ∷ text ≡ before ++ line_feed ∷ after)
+    by true is f behind = ([], text, ap (λ c. c ∷ text) (eqb-true b 10 is))
+    by false is f behind = let rest = behind f in (b ∷ rest.0, rest.1, ap (λ t. b ∷ t) rest.2)
+
+-- A list that is cut at a line feed has one.
+pub has_feed : (before after : List ℕ) → list_any (λ b. nat_eq b 10) (before ++ line_feed ∷ after) ≡ true
+has_feed [] after = refl
+has_feed (b ∷ before) after = by (nat_eq b 10) (has_feed before after)
+  where
+    by : (v : Bool) → list_any (λ c. nat_eq c 10) (before ++ line_feed ∷ after) ≡ true
+        → (v || list_any (λ c. nat_eq c 10) (before ++ line_feed ∷ after)) ≡ true
+    by true behind = refl
+    by false behind = behind
+
+-- A line feed in the first bytes, where they have no line, is a bad line.
+pub bad_line_in_window : (left window : List ℕ) (k : ℕ) → k ≡ min (length left) 1024 → window ≡ take k left → HasNoChunkLine window
+    → list_any (λ b. nat_eq b 10) window ≡ true → HasBadLine left
+bad_line_in_window left window k is_k is none any =
+    let found = feed_found window any in
+    record {
+      there = inr (
+        found.0,
+        found.1 ++ drop k left,
+        sym (take-append-drop k left) ∙ ap (λ t. t ++ drop k left) (sym is ∙ found.2) ∙ append_assoc found.0 (line_feed ∷ found.1) (drop k left),
+      );
+      none = no_line_in_window left window k is_k is none;
+    }
+
+-- So are 1,024 bytes without a line.
+pub long_line_in_window : (left window : List ℕ) (k : ℕ) → k ≡ min (length left) 1024 → window ≡ take k left → HasNoChunkLine window
+    → 1024 ≤ length left → HasBadLine left
+long_line_in_window left window k is_k is none long = record { there = inl long; none = no_line_in_window left window k is_k is none }
+
+-- Fewer bytes without a line feed have no line yet.
+pub no_line_yet : (left window : List ℕ) (k : ℕ) → k ≡ min (length left) 1024 → window ≡ take k left → HasNoChunkLine window
+    → length left < 1024 → list_any (λ b. nat_eq b 10) window ≡ false → HasNoLine left
+no_line_yet left window k is_k is none short any = record {
+  none = no_line_in_window left window k is_k is none;
+  not_bad = λ bad. elim bad.there [
+    | inl long ↦ omega arith
+    | inr w ↦
+        let sizes = length-take k left in
+        let parts = ap length (take-append-drop k left) ∙ refl in
+        let both = length-append (take k left) (drop k left) in
+        let rest : drop k left ≡ [] = nothing_left (drop k left) (omega arith) in
+        let all : window ≡ left = is ∙ sym (append-nil (take k left)) ∙ ap (λ t. take k left ++ t) (sym rest) ∙ take-append-drop k left in
+        let found : list_any (λ b. nat_eq b 10) window ≡ true =
+        ap (λ (t : List ℕ). list_any (λ b. nat_eq b 10) t) (all ∙ w.2) ∙ has_feed w.0 w.1 in
+        cc
+  ];
+}

@@ -1,0 +1,16 @@
+-- The value that was found, if any, and the values still to come are all values.
+use Rattle.std.proofs.Common.{◌≡◌, ◌++◌, length, map, All}
+use Rattle.std.specs.Option.{option_to_list, option_copied}
+use Rattle.httparse.specs.Spans.{IsHeaderWithin, header_bytes}
+use Rattle.tfs_framing.specs.Fields.{values_named}
+use Rattle.tfs_framing.proofs.fields.values_named.Given as goal
+
+abbrev pub invariant-loop-field : goal.invariant-loop-field
+invariant-loop-field l = record {
+  within : All (IsHeaderWithin (length l.head)) l.rest;
+  values : values_named (l.name) (map (header_bytes l.head) l.fields)
+      ≡ option_to_list (option_copied l.found) ++ values_named (l.name) (map (header_bytes l.head) l.rest);
+}
+
+abbrev pub decreases-loop-field : goal.decreases-loop-field
+decreases-loop-field l = length l.rest

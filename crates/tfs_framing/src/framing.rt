@@ -1,0 +1,77 @@
+//! Where a message ends (RFC 9112, sections 2.2, 3, 5 and 6.2).
+
+ghost use Rattle.std.specs.Prelude.{◌≡◌, ℕ, List, IfOk, OnErr};
+ghost use Rattle.httparse.specs.Grammar.{RequestHead};
+ghost use Rattle.tfs_framing.specs.Body.{SpellsBody, refusal_of};
+ghost use Rattle.tfs_framing.specs.Lines.{IsToldBy};
+ghost use Rattle.tfs_framing.specs.Framing.{BeginsWith, Frames, FramesOrWants};
+ghost use Rattle.tfs_framing.specs.Request.{RequestValue, request_of};
+
+use crate::body::{Extent, body_end, read_body};
+use crate::digest::fits_digest;
+use crate::head::find_head;
+use crate::limits::MAX_HEAD_BYTES;
+use crate::lines::{Lines, read_head};
+use crate::part::Flaw;
+use crate::request::Request;
+use crate::taken::{Framed, Take};
+use std::alloc::{AllocError, Global};
+use tfs_calls::Refusal;
+
+/// What the bytes begin with: a message with its length, its refusal, or neither yet. The answer to a message's own bytes
+/// is that message, whatever comes behind it.
+pub fn take(alloc: Global, bytes: &[u8]) -> Result<Take, AllocError>
+    ensures ok { IfOk result (Frames bytes.now) }
+    ensures memory { OnErr result ((request : RequestValue) × (used : ℕ) × BeginsWith bytes.now request used) }
+{
+    match frame(alloc, bytes)? {
+        Framed::Want(_) => Ok(Take::Need),
+        Framed::Got(request, used) => Ok(Take::Got(request, used)),
+        Framed::Fault(refusal) => Ok(Take::Fault(refusal)),
+    }
+}
+
+/// What [`take`] tells, with how many bytes are wanted where more are needed.
+pub fn frame(alloc: Global, bytes: &[u8]) -> Result<Framed, AllocError>
+    ensures ok { IfOk result (FramesOrWants bytes.now) }
+    ensures memory { OnErr result ((request : RequestValue) × (used : ℕ) × BeginsWith bytes.now request used) }
+{
+    let Some((head, rest)) = find_head(bytes) else {
+        if bytes.len() < MAX_HEAD_BYTES {
+            return Ok(Framed::Want(bytes.len() + 1));
+        }
+        return Ok(Framed::Fault(Refusal::HeadTooLarge));
+    };
+    let lines = match read_head(head) {
+        Ok(lines) => lines,
+        Err(refusal) => return Ok(Framed::Fault(refusal)),
+    };
+    let used = match body_end(lines.size, rest) {
+        Extent::Wanted(wanted) => return Ok(Framed::Want(bytes.len() - rest.len() + wanted)),
+        Extent::Whole(used) => used,
+        Extent::Flawed(flaw) => return Ok(Framed::Fault(refusal_of(flaw))),
+    };
+    let (coded, after) = rest.split_at(used);
+    let request = read_request(alloc, lines, coded)?;
+    Ok(Framed::Got(request, bytes.len() - after.len()))
+}
+
+/// The refusal of bytes that begin with no body.
+fn refusal_of(flaw: Flaw) -> Refusal
+    ensures { result ≡ refusal_of flaw }
+{
+    match flaw {
+        Flaw::TooLarge => Refusal::BodyTooLarge,
+        Flaw::Unreadable => Refusal::BadChunk,
+    }
+}
+
+/// The request of a head and the coded bytes of its body.
+fn read_request(alloc: Global, lines: Lines<'_>, coded: &[u8]) -> Result<Request, AllocError>
+    ensures { (h : RequestHead) (body : List ℕ) → IsToldBy lines.entry h → SpellsBody lines.entry.size coded.now body
+        → IfOk result (λ request. request ≡ request_of h body) }
+{
+    let body = read_body(alloc, lines.size, coded)?;
+    let intact = fits_digest(lines.digest, body.as_slice());
+    Request::new(alloc, lines.method, lines.target, body, lines.close, intact)
+}

@@ -1,0 +1,66 @@
+//! Where the head of a message begins and ends.
+
+ghost use Rattle.std.specs.Prelude.{◌≡◌, ◌≤◌, ◌+◌, ℕ, List, ◌∷◌, ◌++◌, length, take, drop, IfSome, IfNone};
+ghost use Rattle.httparse.specs.Grammar.{LineEnd, print_end, print_blank};
+ghost use Rattle.tfs_framing.specs.Head.{StartsWithEmptyLine, EndsWithEmptyLine, IsMessageHead, HasHead, HasNoHead};
+
+use crate::limits::MAX_HEAD_BYTES;
+
+/// The head of the message, and the bytes behind it; none where no head ends in the first 16,384 bytes.
+pub(crate) fn find_head(bytes: &[u8]) -> Option<(&[u8], &[u8])>
+    ensures found { IfSome result (λ parts. (skipped : List LineEnd) × HasHead bytes.now skipped parts.0.now parts.1.now) }
+    ensures absent { IfNone result (HasNoHead bytes.now) }
+{
+    let (window, _) = bytes.split_at(bytes.len().min(MAX_HEAD_BYTES));
+    let text = skip_empty_lines(window);
+    match head_len(text) {
+        Some(len) => {
+            let (head, _) = text.split_at(len);
+            let (_, rest) = bytes.split_at(window.len() - text.len() + len);
+            Some((head, rest))
+        }
+        None => None,
+    }
+}
+
+/// The bytes behind the empty lines that come first.
+fn skip_empty_lines(bytes: &[u8]) -> &[u8]
+    ensures skipped { (skipped : List LineEnd) × (bytes.now ≡ print_blank skipped ++ result.now) }
+    ensures rest { ¬ (StartsWithEmptyLine result.now) }
+{
+    let mut rest = bytes;
+    while let Some(after) = strip_empty_line(rest) {
+        rest = after;
+    }
+    rest
+}
+
+/// The length of the shortest part that ends with an empty line.
+pub(crate) fn head_len(bytes: &[u8]) -> Option<usize>
+    ensures found { IfSome result (λ n. (head : List ℕ) × (rest : List ℕ) × (bytes.now ≡ head ++ rest)
+        × (length head ≡ n) × IsMessageHead head) }
+    ensures absent { IfNone result ((part rest : List ℕ) → bytes.now ≡ part ++ rest → ¬ (EndsWithEmptyLine part)) }
+{
+    let mut rest = bytes;
+    while let Some((byte, after)) = rest.split_first() {
+        if *byte == b'\n' {
+            if let Some(behind) = strip_empty_line(after) {
+                return Some(bytes.len() - behind.len());
+            }
+        }
+        rest = after;
+    }
+    None
+}
+
+/// The bytes behind the empty line that comes first, if one does.
+fn strip_empty_line(bytes: &[u8]) -> Option<&[u8]>
+    ensures found { IfSome result (λ rest. (end : LineEnd) × (bytes.now ≡ print_end end ++ rest.now)) }
+    ensures absent { IfNone result (¬ (StartsWithEmptyLine bytes.now)) }
+{
+    match bytes {
+        [b'\n', rest @ ..] => Some(rest),
+        [b'\r', b'\n', rest @ ..] => Some(rest),
+        _ => None,
+    }
+}

@@ -1,0 +1,25 @@
+//! Laws of framing, which hold of all bytes.
+
+ghost use Rattle.std.specs.Prelude.{◌≢◌, ◌≡◌, ◌≤◌, ℕ, List, ◌++◌, length, All};
+ghost use Rattle.http_header.specs.FieldName.{IsFieldName};
+ghost use Rattle.http_header.specs.FieldValue.{IsFieldValue};
+ghost use Rattle.httparse.specs.Grammar.{RequestHead, field_value};
+ghost use Rattle.tfs_framing.specs.Head.{IsHeadOf};
+ghost use Rattle.tfs_framing.specs.Framing.{Frames};
+ghost use Rattle.tfs_framing.specs.declared.taken.Take.{Take};
+ghost use Rattle.tfs_framing.specs.declared.taken.Take.TheVariants.{Need};
+
+/// Bytes begin with a message, or are refused, or neither yet; with one of these alone; and a message or a refusal stays
+/// whatever bytes follow.
+pub fn what_bytes_begin_with_is_one_thing_and_stays()
+    ensures each { (bytes : List ℕ) → (t : Take) × Frames bytes t }
+    ensures once { (bytes : List ℕ) (t u : Take) → Frames bytes t → Frames bytes u → t ≡ u }
+    ensures stays { (bytes more : List ℕ) (t : Take) → t ≢ Need → Frames bytes t
+        → Frames (bytes ++ more) t }
+{}
+
+/// The crate `http_header` takes each field of a head of the grammar, so that none is refused for it.
+pub fn each_field_is_one_of_http_header()
+    ensures fields { (head : List ℕ) (h : RequestHead) → length head ≤ 16384 → IsHeadOf head h
+        → All (λ f. IsFieldName f.name × IsFieldValue (field_value f)) h.fields }
+{}

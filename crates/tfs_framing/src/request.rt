@@ -1,0 +1,97 @@
+//! A request of a client.
+
+ghost use Rattle.std.specs.Prelude.{◌≡◌, IfOk};
+ghost use Rattle.tfs_framing.specs.Request.{RequestValue};
+
+use crate::form::Form;
+use std::alloc::{AllocError, Global};
+use std::marker::Model;
+use tfs_calls::Bytes;
+
+/// A request: its method, its target and its body, as they came; whether the conversation is to end after the reply; and
+/// whether the body has the digest that the head tells, if it tells one.
+#[derive(Drop)]
+pub struct Request {
+    method: Vec<u8>,
+    target: Vec<u8>,
+    body: Vec<u8>,
+    close: bool,
+    intact: bool,
+}
+
+impl Model for Request {
+    ghost use Rattle.tfs_framing.specs.Request.{RequestValue};
+
+    ghost Value = { RequestValue };
+
+    ghost view = { λ r. record { method = r.method.items; target = r.target.items; body = r.body.items; close = r.close; intact = r.intact } };
+}
+
+impl Request {
+    ghost use Rattle.tfs_framing.specs.Form.{form_of};
+
+    /// A request of these parts.
+    pub fn new(
+        alloc: Global,
+        method: &[u8],
+        target: &[u8],
+        body: Vec<u8>,
+        close: bool,
+        intact: bool,
+    ) -> Result<Request, AllocError>
+        ensures value { IfOk result (λ r. r ≡ record { method = method.now; target = target.now; body = body.items; close = close; intact = intact }) }
+    {
+        Ok(Request {
+            method: Vec::from_slice(alloc, method)?,
+            target: Vec::from_slice(alloc, target)?,
+            body,
+            close,
+            intact,
+        })
+    }
+
+    /// The method, byte for byte as it came (RFC 9110, section 9.1).
+    pub fn method(&self) -> &[u8]
+        ensures value { result.now ≡ self.now.method }
+    {
+        self.method.as_slice()
+    }
+
+    /// The target, byte for byte as it came (RFC 9112, section 3.2).
+    pub fn target(&self) -> &[u8]
+        ensures value { result.now ≡ self.now.target }
+    {
+        self.target.as_slice()
+    }
+
+    /// The body; empty where the request has none.
+    pub fn body(&self) -> &[u8]
+        ensures value { result.now ≡ self.now.body }
+    {
+        self.body.as_slice()
+    }
+
+    /// The body, given out without taking memory.
+    pub fn into_body(self) -> Bytes
+        ensures value { result ≡ self.body }
+    {
+        Bytes::new(self.body)
+    }
+
+    /// Whether the body has the digest that the head tells; also where it tells none.
+    pub fn is_intact(&self) -> bool
+        ensures value { result ≡ self.now.intact }
+    {
+        self.intact
+    }
+
+    /// The form that the request gives its reply.
+    pub fn form(&self) -> Form
+        ensures value { result ≡ form_of self.now }
+    {
+        Form {
+            close: self.close,
+            bare: self.method() == b"HEAD".as_slice(),
+        }
+    }
+}

@@ -1,6 +1,0 @@
--- Field by field.
-use Rattle.tfs_http.proofs.FieldLemmas.{fields_taken}
-use Rattle.tfs_http.proofs.laws.each_field_is_one_of_http_header.Goals as goal
-
-pub returns : goal.returns
-returns c = record { fields = fields_taken }

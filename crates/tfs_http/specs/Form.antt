@@ -1,9 +1,0 @@
--- The form that a request gives its reply.
-use Rattle.std.specs.Prelude.{codes}
-use Rattle.std.specs.Str.{bytes_eq}
-use Rattle.tfs_http.specs.Request.{RequestValue}
-use Rattle.tfs_http.specs.declared.form.Form.{Form}
-
--- The reply to HEAD has no body (RFC 9110, section 9.3.2).
-abbrev pub form_of : RequestValue → Form
-form_of r = record { close = r.close; bare = bytes_eq r.method (codes "HEAD") }
