@@ -1,6 +1,7 @@
 //! Conversations over a table, with replies worked out by hand.
 
 mod closing;
+mod commands;
 mod cuts;
 mod desks;
 mod faults;

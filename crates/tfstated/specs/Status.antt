@@ -1,7 +1,11 @@
--- The exit status of a conversation.
+-- The exit statuses of the program.
 use Rattle.std.specs.Prelude.{ℕ}
 use Rattle.tfs_serve.specs.declared.ended.Ended.{Ended}
 use Rattle.tfs_serve.specs.declared.ended.Ended.TheVariants.{Clean, Cut, Asked, Refused}
+use Rattle.tfs_serve.specs.declared.run_fault.RunFault.{RunFault}
+use Rattle.tfs_serve.specs.declared.run_fault.RunFault.TheVariants.{Write, NoMemory, Opening}
+use Rattle.tfs_table.specs.declared.fault.OpenFault.{OpenFault}
+use Rattle.tfs_table.specs.declared.fault.OpenFault.TheVariants as open_fault
 
 -- The status by how the conversation ended, where no fault ended it.
 abbrev pub status_of : Ended → ℕ
@@ -9,3 +13,18 @@ status_of Clean = 0
 status_of Asked = 0
 status_of Cut = 3
 status_of Refused = 4
+
+-- The status by why no table is made.
+abbrev pub opening_status : OpenFault → ℕ
+opening_status open_fault.TornBase = 3
+opening_status (open_fault.Damaged at) = 4
+opening_status (open_fault.Unlawful number) = 5
+opening_status open_fault.SinkFault = 1
+opening_status open_fault.NoMemory = 1
+opening_status open_fault.TooFar = 1
+
+-- The status by the fault of a command that reads a journal.
+abbrev pub fault_status : RunFault → ℕ
+fault_status Write = 1
+fault_status NoMemory = 1
+fault_status (Opening why) = opening_status why

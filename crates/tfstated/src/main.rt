@@ -1,16 +1,21 @@
-//! The program `tfstated`: a server for the state of Terraform. So far it has the command `stdio`, a conversation over
-//! standard input and output.
+//! The program `tfstated`: a server for the state of Terraform. So far it has the commands `stdio`, a conversation over standard
+//! input and output, `check` and `rebase`, which read a journal's file.
 #![tactic(auto)]
 
 use crate::command::Command;
 use std::process::ExitCode;
 
+mod check;
 mod command;
+mod fault;
+mod rebase;
 mod stdio;
 
 fn main(rt: HostRuntime) -> ExitCode {
     match command::read(&rt) {
         Some(Command::Stdio) => stdio::run(&rt),
+        Some(Command::Check(file)) => check::run(&rt, file.as_str()),
+        Some(Command::Rebase(old, new)) => rebase::run(&rt, old.as_str(), new.as_str()),
         None => {
             command::print_usage(&rt);
             ExitCode::from(2)

@@ -1,0 +1,19 @@
+//! The command `check`: the records of the journal in a file, and its end.
+
+use crate::fault::{end_with, end_without_file};
+use std::process::ExitCode;
+use std::{fs, io};
+use tfs_serve::run_check;
+
+/// Prints what the journal in a file lists, and how it ends. Gives the program's status.
+pub(crate) fn run(rt: &HostRuntime, file: &str) -> ExitCode {
+    let bytes = match fs::read(rt, file) {
+        Ok(bytes) => bytes,
+        Err(error) => return end_without_file(rt, "CannotRead", &error),
+    };
+    let mut writer = io::writer(rt);
+    match run_check(rt.alloc(), bytes.as_slice(), &mut writer) {
+        Ok(status) => ExitCode::from(status),
+        Err(fault) => end_with(rt, fault),
+    }
+}

@@ -1,0 +1,24 @@
+//! The command `rebase`: a journal that goes on where that of a file ends, in a new file.
+
+use crate::fault::{end_with, end_without_file};
+use std::process::ExitCode;
+use std::{fs, io};
+use tfs_journal::FileSink;
+use tfs_serve::run_rebase;
+
+/// Reads the old file, makes the new one, and writes the journal that goes on from the old one's. Gives the program's status.
+pub(crate) fn run(rt: &HostRuntime, old: &str, new: &str) -> ExitCode {
+    let bytes = match fs::read(rt, old) {
+        Ok(bytes) => bytes,
+        Err(error) => return end_without_file(rt, "CannotRead", &error),
+    };
+    let sink = match FileSink::create_new(rt, new) {
+        Ok(sink) => sink,
+        Err(error) => return end_without_file(rt, "CannotCreate", &error),
+    };
+    let mut writer = io::writer(rt);
+    match run_rebase(rt.alloc(), bytes.as_slice(), sink, &mut writer) {
+        Ok(()) => ExitCode::SUCCESS,
+        Err(fault) => end_with(rt, fault),
+    }
+}
