@@ -10,6 +10,12 @@ pub(crate) enum Kind {
     Push,
     /// GETs of a name with no state.
     Get,
+    /// Pushes of a state in chunks of one byte.
+    Chunks,
+    /// GETs with one long field.
+    Head,
+    /// Pushes of a state in one chunk, whose line is long.
+    Line,
 }
 
 impl Kind {
@@ -17,14 +23,20 @@ impl Kind {
         match self {
             Kind::Push => "push",
             Kind::Get => "get",
+            Kind::Chunks => "chunks",
+            Kind::Head => "head",
+            Kind::Line => "line",
         }
     }
 
-    /// How many requests, and the bytes of the state of each, where the time plays no part.
+    /// How many requests, and the bytes of what is long in each, where the time plays no part.
     pub(crate) fn few(self) -> (usize, usize) {
         match self {
             Kind::Push => (2, 65_536),
             Kind::Get => (100, 0),
+            Kind::Chunks => (2, 256),
+            Kind::Head => (2, 256),
+            Kind::Line => (2, 256),
         }
     }
 
@@ -33,6 +45,9 @@ impl Kind {
         match self {
             Kind::Push => [1, 2, 4].map(|count| (count, MAX_STATE_BYTES)),
             Kind::Get => [10_000, 20_000, 40_000].map(|count| (count, 0)),
+            Kind::Chunks => [16_384, 32_768, 65_536].map(|size| (1, size)),
+            Kind::Head => [4_000, 8_000, 16_000].map(|size| (1, size)),
+            Kind::Line => [250, 500, 1_000].map(|size| (1, size)),
         }
     }
 }
@@ -40,6 +55,8 @@ impl Kind {
 const START: &str = "{\"version\":4,\"serial\":1,\"lineage\":\"L1\",\"filler\":\"";
 
 const END: &str = "\"}";
+
+const CHUNKED: &str = "POST /state/a HTTP/1.1\r\nHost: h\r\nTransfer-Encoding: chunked\r\n\r\n";
 
 /// A state of so many bytes, or of its shortest.
 fn push_state(text: &mut String, size: usize) -> Result<(), AllocError> {
@@ -50,7 +67,32 @@ fn push_state(text: &mut String, size: usize) -> Result<(), AllocError> {
     text.push_str(END)
 }
 
-fn push_request(text: &mut String, kind: Kind, size: usize) -> Result<(), AllocError> {
+/// A state of so many bytes, in chunks of one byte.
+fn push_chunks(alloc: Global, text: &mut String, size: usize) -> Result<(), AllocError> {
+    let mut state = String::new(alloc);
+    push_state(&mut state, size)?;
+    for char in state.chars() {
+        text.push_str("1\r\n")?;
+        text.push(char)?;
+        text.push_str("\r\n")?;
+    }
+    text.push_str("0\r\n\r\n")
+}
+
+/// So many bytes.
+fn push_filler(text: &mut String, size: usize) -> Result<(), AllocError> {
+    for _ in 0..size {
+        text.push('x')?;
+    }
+    Ok(())
+}
+
+fn push_request(
+    alloc: Global,
+    text: &mut String,
+    kind: Kind,
+    size: usize,
+) -> Result<(), AllocError> {
     match kind {
         Kind::Push => {
             write!(
@@ -60,6 +102,21 @@ fn push_request(text: &mut String, kind: Kind, size: usize) -> Result<(), AllocE
             push_state(text, size)
         }
         Kind::Get => text.push_str("GET /state/a HTTP/1.1\r\nHost: h\r\n\r\n"),
+        Kind::Chunks => {
+            text.push_str(CHUNKED)?;
+            push_chunks(alloc, text, size)
+        }
+        Kind::Head => {
+            text.push_str("GET /state/a HTTP/1.1\r\nHost: h\r\nX: ")?;
+            push_filler(text, size)?;
+            text.push_str("\r\n\r\n")
+        }
+        Kind::Line => {
+            text.push_str(CHUNKED)?;
+            text.push_str("2;")?;
+            push_filler(text, size)?;
+            text.push_str("\r\n{}\r\n0\r\n\r\n")
+        }
     }
 }
 
@@ -71,7 +128,7 @@ pub(crate) fn requests(
 ) -> Result<Vec<u8>, AllocError> {
     let mut text = String::new(alloc);
     for _ in 0..count {
-        push_request(&mut text, kind, size)?;
+        push_request(alloc, &mut text, kind, size)?;
     }
     Ok(text.into_bytes())
 }

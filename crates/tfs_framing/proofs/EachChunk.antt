@@ -10,7 +10,7 @@ use Rattle.httparse.specs.Grammar.{crlf, print_end, print_extension, ChunkLine, 
 use Rattle.httparse.specs.Pieces.{Begins, Stops, Run, HexDigits, Extension}
 use Rattle.httparse.proofs.RunLemmas.{run_unique}
 use Rattle.httparse.proofs.ChunkLemmas.{Run_deterministic, HexDigits_deterministic, chunk_line, chunk_pieces, chunk_from_pieces}
-use Rattle.tfs_framing.specs.Chunks.{Chunk, print_chunk, joined, IsShortLine, IsFlawAt, HasFlaw}
+use Rattle.tfs_framing.specs.Chunks.{Chunk, IsShortLine}
 use Rattle.tfs_framing.specs.Parts.{Next, next_chunk, next_end, next_flaw, ComesNext, IsOpen, IsLineAt}
 use Rattle.tfs_framing.specs.Body.{HasNoBody, HasBadBody, Reaches}
 use Rattle.tfs_framing.specs.declared.body.Extent.TheVariants.{Whole}

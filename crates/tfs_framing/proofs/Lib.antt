@@ -1,4 +1,5 @@
 pub mod HeadLemmas
+pub mod SoughtLemmas
 pub mod ChunkLemmas
 pub mod ChunksLemmas
 pub mod FlawLemmas
@@ -6,6 +7,7 @@ pub mod BadBodyLemmas
 pub mod PartLemmas
 pub mod TrailerLemmas
 pub mod WalkLemmas
+pub mod KnownLemmas
 pub mod LengthLemmas
 pub mod FramingLemmas
 pub mod WantedLemmas

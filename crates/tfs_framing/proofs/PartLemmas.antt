@@ -1,5 +1,5 @@
 -- Laws of what comes next in a body in chunks.
-use Rattle.std.proofs.Common.{◌≡◌, ◌≤◌, ◌<◌, ◌+◌, ℕ, List, [], ◌∷◌, ◌++◌, length, refl, sym, ◌∙◌, ap, subst, arith, append_assoc}
+use Rattle.std.proofs.Common.{◌≡◌, ◌≤◌, ◌<◌, ◌+◌, ◌⊎◌, ℕ, List, [], ◌∷◌, ◌++◌, length, refl, sym, ◌∙◌, ap, subst, arith, append_assoc}
 use Rattle.std.proofs.Common.{append-nil, length-append, inl, inr, take, drop, min, take-append-drop, length-take, nat_eq, Bool, true, false, ◌||◌}
 use Rattle.std.specs.List.{list_any}
 use Rattle.std.proofs.lemmas.Bool.{eqb-true}
@@ -8,16 +8,26 @@ use Rattle.httparse.specs.Ascii.{line_feed}
 use Rattle.httparse.specs.Grammar.{crlf, print_end, ChunkLine, print_chunk_line, chunk_size, HasNoChunkLine}
 use Rattle.httparse.specs.Spans.{IsChunkLineAt}
 use Rattle.tfs_framing.specs.Chunks.{Chunk, IsShortLine, IsTrailer, HasBadLine, IsFlawBehind, IsFlawAt}
-use Rattle.tfs_framing.specs.Parts.{next_chunk, next_end, next_flaw, ComesNext, IsOpen, IsPart, IsLineAt, HasNoLine}
+use Rattle.tfs_framing.specs.Parts.{next_chunk, next_end, next_flaw, ComesNext, IsOpen, IsPart, IsLineAt, HasNoLine, HasNoFeedIn, IsAhead}
+use Rattle.tfs_framing.specs.declared.part.Ahead.{Ahead}
 use Rattle.tfs_framing.specs.declared.part.Flaw.{Flaw}
 use Rattle.tfs_framing.specs.declared.part.Flaw.TheVariants.{TooLarge, Unreadable}
 use Rattle.tfs_framing.specs.declared.part.Part.TheVariants.{Wanted}
 use Rattle.tfs_framing.proofs.HeadLemmas.{cuts, nothing_left}
 use Rattle.tfs_framing.proofs.ChunkLemmas.{line_parts, line_once, chunk_split}
 
+-- Of a line nothing was seen.
+pub nothing_seen : (left : List ℕ) → HasNoFeedIn 0 left
+nothing_seen left = record { front = []; rest = left; parts = refl; seen_is = refl; none = λ before after. no_feed_in_nothing before after }
+  where
+    no_feed_in_nothing : (before after : List ℕ) → ¬ ([] ≡ before ++ line_feed ∷ after)
+    no_feed_in_nothing [] after e = cc
+    no_feed_in_nothing (b ∷ before) after e = cc
+
 -- Where nothing comes next yet, one byte more is wanted.
-pub one_more_wanted : (count total : ℕ) (left : List ℕ) → IsOpen count total left → IsPart count total left (Wanted (length left + 1))
-one_more_wanted count total left none = (
+pub one_more_wanted : (count total : ℕ) (left : List ℕ) (ahead : Ahead) → IsOpen count total left → IsAhead left ahead
+    → IsPart count total left (Wanted (length left + 1) ahead)
+one_more_wanted count total left ahead none known = (
   omega arith,
   omega arith,
   λ others few.
@@ -25,6 +35,7 @@ one_more_wanted count total left none = (
       let nothing : others ≡ [] = nothing_left others (omega arith) in
       let same : left ++ others ≡ left = ap (λ t. left ++ t) nothing ∙ append-nil left in
       subst (IsOpen count total) (sym same) none,
+  known,
 )
 
 -- Without a line nothing comes next yet.
@@ -91,7 +102,7 @@ open_chunk count total left after line is e some few small short = open_behind_l
 
 -- The chunk and its end are wanted.
 pub chunk_wanted : (count total len size : ℕ) (left : List ℕ) (line : ChunkLine) → IsLineAt left len size line → 0 < size → count < 65536
-    → total + size ≤ 16777216 → length left < len + size + 2 → IsPart count total left (Wanted (len + size + 2))
+    → total + size ≤ 16777216 → length left < len + size + 2 → IsPart count total left (Wanted (len + size + 2) (Ahead.Line 0))
 chunk_wanted count total len size left line at some few small short =
     let is_len = at.len_is in
     let is_size = at.size_is in
@@ -104,6 +115,7 @@ chunk_wanted count total len size left line at some few small short =
           open_chunk count total (left ++ others) (at.after ++ others) line at.is_line
           (ap (λ t. t ++ others) at.parts ∙ append_assoc (print_chunk_line line) at.after others)
           (omega arith) few (omega arith) (omega arith),
+      nothing_seen left,
     )
 
 -- What is behind a line.
@@ -215,18 +227,63 @@ has_feed (b ∷ before) after = by (nat_eq b 10) (has_feed before after)
     by false behind = behind
 
 -- A line feed in the first bytes, where they have no line, is a bad line.
-pub bad_line_in_window : (left window : List ℕ) (k : ℕ) → k ≡ min (length left) 1024 → window ≡ take k left → HasNoChunkLine window
-    → list_any (λ b. nat_eq b 10) window ≡ true → HasBadLine left
-bad_line_in_window left window k is_k is none any =
-    let found = feed_found window any in
+pub bad_line_in_window : (left window new : List ℕ) (k m : ℕ) → k ≡ min (length left) 1024 → window ≡ take k left → HasNoChunkLine window
+    → new ≡ drop m window → list_any (λ b. nat_eq b 10) new ≡ true → HasBadLine left
+bad_line_in_window left window new k m is_k is none is_new any =
+    let found = feed_found new any in
+    let old : List ℕ = take m window in
+    let whole : window ≡ old ++ (found.0 ++ line_feed ∷ found.1) =
+    sym (take-append-drop m window) ∙ ap (λ t. old ++ t) (sym is_new ∙ found.2) in
     record {
       there = inr (
-        found.0,
+        old ++ found.0,
         found.1 ++ drop k left,
-        sym (take-append-drop k left) ∙ ap (λ t. t ++ drop k left) (sym is ∙ found.2) ∙ append_assoc found.0 (line_feed ∷ found.1) (drop k left),
+        sym (take-append-drop k left) ∙ ap (λ t. t ++ drop k left) (sym is ∙ whole ∙ sym (append_assoc old found.0 (line_feed ∷ found.1)))
+            ∙ append_assoc (old ++ found.0) (line_feed ∷ found.1) (drop k left),
       );
       none = no_line_in_window left window k is_k is none;
     }
+
+-- A text that is cut at a line feed, before or behind a place.
+feed_before_or_behind : (old new before after : List ℕ) → old ++ new ≡ before ++ line_feed ∷ after
+    → ((rest : List ℕ) × (old ≡ before ++ line_feed ∷ rest)) ⊎ (list_any (λ b. nat_eq b 10) new ≡ true)
+feed_before_or_behind old new before after e = elim (cuts old new before (line_feed ∷ after) e) [
+  | inl w ↦ by w.0 w.1 w.2
+  | inr w ↦ inr (ap (λ (t : List ℕ). list_any (λ b. nat_eq b 10) t) w.2 ∙ has_feed w.0 after)
+]
+  where
+    by : (z : List ℕ) → old ≡ before ++ z → line_feed ∷ after ≡ z ++ new
+        → ((rest : List ℕ) × (old ≡ before ++ line_feed ∷ rest)) ⊎ (list_any (λ b. nat_eq b 10) new ≡ true)
+    by [] f g = inr (ap (λ (t : List ℕ). list_any (λ b. nat_eq b 10) t) (sym g) ∙ has_feed [] after)
+    by (b ∷ z) f g = let same : line_feed ≡ b = cc in inl (z, f ∙ ap (λ (c : ℕ). before ++ c ∷ z) (sym same))
+
+-- Where no line feed was seen before, and none is in the new bytes, the first bytes have none.
+pub no_feed_in_window : (left window new : List ℕ) (seen k m : ℕ) → HasNoFeedIn seen left → window ≡ take k left → m ≡ min seen (length window)
+    → new ≡ drop m window → list_any (λ b. nat_eq b 10) new ≡ false → (before after : List ℕ) → ¬ (window ≡ before ++ line_feed ∷ after)
+no_feed_in_window left window new seen k m s is is_m is_new none before after e =
+    let old : List ℕ = take m window in
+    let halves : old ++ new ≡ window = ap (λ t. old ++ t) is_new ∙ take-append-drop m window in
+    elim (feed_before_or_behind old new before after (halves ∙ e)) [
+      | inl w ↦
+          let whole : s.front ++ s.rest ≡ old ++ (new ++ drop k left) =
+          sym s.parts ∙ sym (take-append-drop k left) ∙ ap (λ t. t ++ drop k left) (sym is ∙ sym halves) ∙ append_assoc old new (drop k left) in
+          let size = length-take m window in
+          let seen_is = s.seen_is in
+          elim (cuts s.front s.rest old (new ++ drop k left) whole) [
+            | inl v ↦ s.none before (w.0 ++ v.0) (v.1 ∙ ap (λ t. t ++ v.0) w.1 ∙ append_assoc before (line_feed ∷ w.0) v.0)
+            | inr v ↦
+                let sizes = ap length v.1 ∙ length-append s.front v.0 in
+                let nothing : v.0 ≡ [] = nothing_left v.0 (omega arith) in
+                s.none before w.0 (sym (append-nil s.front) ∙ ap (λ t. s.front ++ t) (sym nothing) ∙ sym v.1 ∙ w.1)
+          ]
+      | inr any ↦ let wrong : true ≡ false = sym any ∙ none in cc
+    ]
+
+-- Bytes without a line feed have no chunk line.
+pub no_line_without_feed : (window : List ℕ) → ((before after : List ℕ) → ¬ (window ≡ before ++ line_feed ∷ after)) → HasNoChunkLine window
+no_line_without_feed window none line rest reads =
+    let parts = line_parts line reads.0 in
+    none parts.0 rest (reads.1 ∙ ap (λ t. t ++ rest) parts.2 ∙ append_assoc parts.0 (line_feed ∷ []) rest)
 
 -- So are 1,024 bytes without a line.
 pub long_line_in_window : (left window : List ℕ) (k : ℕ) → k ≡ min (length left) 1024 → window ≡ take k left → HasNoChunkLine window
@@ -234,20 +291,23 @@ pub long_line_in_window : (left window : List ℕ) (k : ℕ) → k ≡ min (leng
 long_line_in_window left window k is_k is none long = record { there = inl long; none = no_line_in_window left window k is_k is none }
 
 -- Fewer bytes without a line feed have no line yet.
-pub no_line_yet : (left window : List ℕ) (k : ℕ) → k ≡ min (length left) 1024 → window ≡ take k left → HasNoChunkLine window
-    → length left < 1024 → list_any (λ b. nat_eq b 10) window ≡ false → HasNoLine left
-no_line_yet left window k is_k is none short any = record {
-  none = no_line_in_window left window k is_k is none;
+pub no_line_yet : (left window : List ℕ) (k : ℕ) → k ≡ min (length left) 1024 → window ≡ take k left → window ≡ left → length left < 1024
+    → ((before after : List ℕ) → ¬ (window ≡ before ++ line_feed ∷ after)) → HasNoLine left
+no_line_yet left window k is_k is all short none = record {
+  none = no_line_in_window left window k is_k is (no_line_without_feed window none);
   not_bad = λ bad. elim bad.there [
     | inl long ↦ omega arith
-    | inr w ↦
-        let sizes = length-take k left in
-        let parts = ap length (take-append-drop k left) ∙ refl in
-        let both = length-append (take k left) (drop k left) in
-        let rest : drop k left ≡ [] = nothing_left (drop k left) (omega arith) in
-        let all : window ≡ left = is ∙ sym (append-nil (take k left)) ∙ ap (λ t. take k left ++ t) (sym rest) ∙ take-append-drop k left in
-        let found : list_any (λ b. nat_eq b 10) window ≡ true =
-        ap (λ (t : List ℕ). list_any (λ b. nat_eq b 10) t) (all ∙ w.2) ∙ has_feed w.0 w.1 in
-        cc
+    | inr w ↦ none w.0 w.1 (all ∙ w.2)
   ];
+}
+
+-- Then all of them were seen.
+pub all_seen : (left window : List ℕ) → window ≡ left → ((before after : List ℕ) → ¬ (window ≡ before ++ line_feed ∷ after))
+    → HasNoFeedIn (length left) left
+all_seen left window all none = record {
+  front = left;
+  rest = [];
+  parts = sym (append-nil left);
+  seen_is = refl;
+  none = λ before after e. none before after (all ∙ e);
 }

@@ -5,12 +5,14 @@ use Rattle.std.proofs.Math.Seq.{drop-append_seam}
 use Rattle.httparse.specs.Ascii.{line_feed}
 use Rattle.httparse.specs.Grammar.{ChunkLine, print_chunk_line, chunk_size}
 use Rattle.tfs_framing.specs.Head.{IsMessageHead, EndsWithEmptyLine}
+use Rattle.tfs_framing.specs.Sought.{HasNoEndIn, HasNoEndYet}
 use Rattle.tfs_framing.specs.Chunks.{IsTrailer, IsFlawBehind, IsFlawAt}
 use Rattle.tfs_framing.specs.Parts.{next_end, ComesNext, IsOpen, IsLineAt}
 use Rattle.tfs_framing.specs.declared.part.Flaw.{Flaw}
 use Rattle.tfs_framing.specs.declared.part.Flaw.TheVariants.{TooLarge, Unreadable}
 use Rattle.tfs_framing.proofs.HeadLemmas.{cuts, nothing_left}
 use Rattle.tfs_framing.proofs.ChunkLemmas.{line_parts}
+use Rattle.tfs_framing.proofs.SoughtLemmas.{none_in_window, none_yet, all_in_window}
 use Rattle.tfs_framing.proofs.PartLemmas.{open_behind_line}
 
 -- The line feed of the line and what is behind it.
@@ -100,3 +102,19 @@ pub trailer_bad : (count total len : ℕ) (left : List ℕ) (line : ChunkLine) �
 trailer_bad count total len left line at small long none =
     let told = at.size_is in
     inr (line, at.after, at.is_line, at.parts, (omega arith, inr (inr (sym told, record { long = long; none = none }))))
+
+-- What was passed over from the line feed on is so in the first bytes.
+pub trailer_passed : (from window : List ℕ) (passed : ℕ) (after : List ℕ) (k : ℕ) → window ≡ take k from → from ≡ line_feed ∷ after
+    → HasNoEndYet passed (line_feed ∷ after) → HasNoEndIn passed window
+trailer_passed from window passed after k is starts yet =
+    none_in_window passed window (drop k from)
+    (subst (HasNoEndYet passed) (sym starts ∙ sym (take-append-drop k from) ∙ ap (λ t. t ++ drop k from) (sym is)) yet)
+
+-- Where few bytes from the line feed on have no end of a trailer, it was sought up to the last two.
+pub trailer_sought : (from window after : List ℕ) (k n : ℕ) → k ≡ min (length from) 16385 → window ≡ take k from → from ≡ line_feed ∷ after
+    → length from ≤ 16384 → ((part rest : List ℕ) → window ≡ part ++ rest → ¬ (EndsWithEmptyLine part)) → n ≡ length from - 2
+    → HasNoEndYet n (line_feed ∷ after)
+trailer_sought from window after k n is_k is starts few none is_n =
+    let all = all_in_window from window k 16385 is_k is (omega arith) in
+    let yet : HasNoEndYet (length from - 2) from = none_yet from (λ part rest e. none part rest (all ∙ e)) in
+    subst (λ (m : ℕ). HasNoEndYet m (line_feed ∷ after)) (sym is_n) (subst (HasNoEndYet (length from - 2)) starts yet)

@@ -1,11 +1,13 @@
 -- Laws of the walk over a body in chunks.
 use Rattle.std.proofs.Common.{◌≡◌, ◌≤◌, ◌<◌, ◌+◌, ◌-◌, ℕ, List, [], ◌∷◌, ◌++◌, length, All, refl, sym, ◌∙◌, ap, subst, arith, append_assoc}
-use Rattle.std.proofs.Common.{append-nil, length-append, take, Bor}
-use Rattle.std.proofs.Math.Seq.{take-append_seam}
+use Rattle.std.proofs.Common.{append-nil, length-append, take, drop, Bor}
+use Rattle.std.proofs.Math.Seq.{take-append_seam, drop-append_seam}
 use Rattle.std.proofs.lemmas.List.Elements.{All-nil, All-cons, All-head, All-tail}
 use Rattle.httparse.specs.Grammar.{print_chunk_line}
 use Rattle.tfs_framing.specs.Chunks.{Chunk, print_chunk, print_chunks, joined, IsChunk, AreChunks, SpellsChunks, IsFlawAt, HasFlaw}
-use Rattle.tfs_framing.specs.Parts.{Next, next_chunk, next_end, next_flaw, ComesNext, IsPart}
+use Rattle.tfs_framing.specs.Parts.{Next, next_chunk, next_end, next_flaw, ComesNext, IsAhead, IsPart}
+use Rattle.tfs_framing.specs.Walked.{IsWalked}
+use Rattle.tfs_framing.specs.declared.chunks.Walk.{Walk}
 use Rattle.tfs_framing.specs.Body.{Reaches}
 use Rattle.tfs_framing.specs.declared.body.Extent.TheVariants.{Wanted, Whole}
 use Rattle.tfs_framing.specs.declared.length.BodyLength.TheVariants.{Chunked}
@@ -99,10 +101,44 @@ walk_whole rest left after count total chunks w next =
       },
     )
 
+-- What was walked of the bytes before is walked.
+pub walk_again : (rest left : List ℕ) (walk : Walk) → (w : IsWalked rest walk) → left ≡ drop walk.end rest
+    → Walked rest left walk.count walk.total w.chunks × IsAhead left walk.ahead
+walk_again rest left walk w is_left =
+    let end_is = w.end_is in
+    let same : left ≡ w.left =
+    is_left ∙ ap (λ (n : ℕ). drop n rest) w.end_is ∙ ap (λ (t : List ℕ). drop (length (print_chunks w.chunks)) t) w.parts
+    ∙ drop-append_seam (print_chunks w.chunks) w.left in (
+      record {
+        are = w.are;
+        parts = w.parts ∙ ap (λ t. print_chunks w.chunks ++ t) (sym same);
+        count_is = w.count_is;
+        total_is = w.total_is;
+      },
+      subst (λ (t : List ℕ). IsAhead t walk.ahead) (sym same) w.ahead,
+    )
+
+-- So many bytes were walked as are not left.
+pub walked_so_far : (rest left : List ℕ) (walk : Walk) (chunks : List Chunk) → Walked rest left walk.count walk.total chunks
+    → walk.end ≡ length rest - length left → IsAhead left walk.ahead → IsWalked rest walk
+walked_so_far rest left walk chunks w is_end ahead =
+    let sizes = ap length w.parts ∙ length-append (print_chunks chunks) left in
+    record {
+      chunks = chunks;
+      are = w.are;
+      left = left;
+      parts = w.parts;
+      count_is = w.count_is;
+      total_is = w.total_is;
+      end_is = omega arith;
+      ahead = ahead;
+    }
+
 -- Where more is wanted the body isn't whole.
-pub walk_wanted : (rest left : List ℕ) (count total wanted : ℕ) (chunks : List Chunk) → Walked rest left count total chunks
-    → IsPart count total left (Part.Wanted wanted) → Reaches Chunked rest (Wanted (length rest - length left + wanted))
-walk_wanted rest left count total wanted chunks w part =
+pub walk_wanted : (rest left : List ℕ) (walk : Walk) (wanted : ℕ) (chunks : List Chunk) → Walked rest left walk.count walk.total chunks
+    → walk.end ≡ length rest - length left → IsPart walk.count walk.total left (Part.Wanted wanted walk.ahead)
+    → Reaches Chunked rest (Wanted (walk.end + wanted) walk)
+walk_wanted rest left walk wanted chunks w is_end part =
     let sizes = ap length w.parts ∙ length-append (print_chunks chunks) left in
     let more = part.0 in
     let few = part.1 in (
@@ -114,11 +150,13 @@ walk_wanted rest left count total wanted chunks w part =
           open_no_body (rest ++ others) (left ++ others) chunks w.are
           (ap (λ t. t ++ others) w.parts ∙ append_assoc (print_chunks chunks) left others)
           (λ next comes. part.2 others (omega arith) next (back next (left ++ others) comes)),
+      walked_so_far rest left walk chunks w is_end part.3,
     )
   where
-    back : (next : Next) (text : List ℕ) → ComesNext (length chunks) (length (joined chunks)) text next → ComesNext count total text next
+    back : (next : Next) (text : List ℕ) → ComesNext (length chunks) (length (joined chunks)) text next
+        → ComesNext walk.count walk.total text next
     back next text comes =
-        subst (λ (n : ℕ). ComesNext count n text next) (sym w.total_is)
+        subst (λ (n : ℕ). ComesNext walk.count n text next) (sym w.total_is)
         (subst (λ (n : ℕ). ComesNext n (length (joined chunks)) text next) (sym w.count_is) comes)
 
 -- Where something comes next that can't be there the bytes begin with no body.
@@ -156,7 +194,7 @@ walk_joined coded left after bytes old new count total told newer chunks c w is 
 -- Where what comes next is no chunk, no chunk comes next.
 pub part_no_chunk : (count total : ℕ) (left : List ℕ) (part : Part) → total ≤ 16777216 → ((bytes after : Bor (List ℕ)) → ¬ (part ≡ Part.Chunk bytes after))
     → IsPart count total left part → HasNoChunk count total left
-part_no_chunk count total left (Part.Wanted wanted) small other p =
+part_no_chunk count total left (Part.Wanted wanted ahead) small other p =
     λ c after comes. p.2 [] (subst (λ (t : List ℕ). length t < wanted) (sym (append-nil left)) p.0) (next_chunk c after)
     (subst (λ (t : List ℕ). ComesNext count total t (next_chunk c after)) (sym (append-nil left)) comes)
 part_no_chunk count total left (Part.Chunk bytes after) small other p = absurd (other bytes after refl)

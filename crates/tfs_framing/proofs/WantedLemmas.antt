@@ -9,6 +9,7 @@ use Rattle.tfs_framing.specs.Body.{SpellsBody, HasBadBody, HasNoBody, Reaches, r
 use Rattle.tfs_framing.specs.Framing.{ReadsHead, IsHeadRefused, IsUnfinished, BeginsWith, AreWanted, framing_refusal}
 use Rattle.tfs_framing.specs.declared.part.Flaw.{Flaw}
 use Rattle.tfs_framing.specs.declared.body.Extent.TheVariants.{Wanted, Whole}
+use Rattle.tfs_framing.specs.declared.chunks.Walk.{Walk}
 use Rattle.tfs_framing.specs.declared.length.BodyLength.{BodyLength}
 use Rattle.tfs_framing.specs.declared.length.BodyLength.TheVariants.{Sized}
 use Rattle.tfs_framing.proofs.FramingLemmas.{head_more, head_unique, reads_once, reads_not_refused, head_of_message}
@@ -73,8 +74,9 @@ unfinished_without_body bytes skipped head rest h n has reads none = record {
 
 -- And so many more bytes are wanted as its body wants.
 pub wanted_without_body : (bytes : List ℕ) (skipped : List LineEnd) (head rest : List ℕ) (h : RequestHead) (size : BodyLength) (wanted : ℕ)
-    → HasHead bytes skipped head rest → ReadsHead head h size → Reaches size rest (Wanted wanted) → AreWanted bytes (length bytes - length rest + wanted)
-wanted_without_body bytes skipped head rest h size wanted has reads r =
+    (walk : Walk) → HasHead bytes skipped head rest → ReadsHead head h size → Reaches size rest (Wanted wanted walk)
+    → AreWanted bytes (length bytes - length rest + wanted)
+wanted_without_body bytes skipped head rest h size wanted walk has reads r =
     let sizes = ap length has.parts ∙ length-append (print_blank skipped) (head ++ rest) in
     let parts = length-append head rest in
     let short = r.0 in

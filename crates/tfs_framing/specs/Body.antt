@@ -10,6 +10,7 @@ use Rattle.tfs_calls.specs.declared.refusal.Refusal.{Refusal}
 use Rattle.tfs_calls.specs.declared.refusal.Refusal.TheVariants.{NoHost, BadLength, TransferCoding, BodyTooLarge, BadChunk}
 use Rattle.tfs_framing.specs.Fields.{fields_of, lower, values_named}
 use Rattle.tfs_framing.specs.Chunks.{SpellsChunks, HasFlaw}
+use Rattle.tfs_framing.specs.Walked.{IsWalked}
 use Rattle.tfs_framing.specs.declared.length.BodyLength.{BodyLength}
 use Rattle.tfs_framing.specs.declared.length.BodyLength.TheVariants.{Absent, Sized, Chunked}
 use Rattle.tfs_framing.specs.declared.part.Flaw.{Flaw}
@@ -83,9 +84,10 @@ pub record HasNoBody (size : BodyLength) (rest : List ℕ) : Type 0 where
   pub none : (coded body after : List ℕ) → rest ≡ coded ++ after → ¬ (SpellsBody size coded body)
   pub no_flaw : (flaw : Flaw) → ¬ (HasBadBody size rest flaw)
 
--- So many bytes are wanted before the rest can begin with a body, or so many spell one, or it can't begin with one.
+-- So many bytes are wanted before the rest can begin with a body, of which so much was walked; or so many spell one; or it can't
+-- begin with one.
 abbrev pub Reaches : BodyLength → List ℕ → Extent → Type 0
 Reaches size rest (Flawed flaw) = HasBadBody size rest flaw
-Reaches size rest (Wanted wanted) = (length rest < wanted) × (wanted ≤ length rest + 16777218)
-    × ((others : List ℕ) → length (rest ++ others) < wanted → HasNoBody size (rest ++ others))
+Reaches size rest (Wanted wanted walk) = (length rest < wanted) × (wanted ≤ length rest + 16777218)
+    × ((others : List ℕ) → length (rest ++ others) < wanted → HasNoBody size (rest ++ others)) × IsWalked rest walk
 Reaches size rest (Whole used) = (used ≤ length rest) × (body : List ℕ) × SpellsBody size (take used rest) body

@@ -1,12 +1,16 @@
 -- Message framing (RFC 9112, sections 2.2, 3, 5 and 6): with which message a list of bytes begins, why it is refused, or
 -- that more bytes are needed.
 use Rattle.std.specs.Prelude.{◌≡◌, ℕ, ◌≤◌, ◌<◌, ◌⊎◌, List, ◌++◌, length, Ok, Err}
-use Rattle.httparse.specs.Grammar.{LineEnd, RequestHead}
+use Rattle.httparse.specs.Grammar.{LineEnd, RequestHead, print_blank}
 use Rattle.tfs_calls.specs.declared.refusal.Refusal.{Refusal}
 use Rattle.tfs_calls.specs.declared.refusal.Refusal.TheVariants.{HeadTooLarge, BadHead}
 use Rattle.tfs_framing.specs.Head.{HasHead, HasNoHead, IsHeadOf, line_feeds}
 use Rattle.tfs_framing.specs.Body.{body_length, SpellsBody, HasBadBody, refusal_of}
+use Rattle.tfs_framing.specs.Sought.{IsSought}
+use Rattle.tfs_framing.specs.Walked.{IsWalked}
 use Rattle.tfs_framing.specs.Request.{RequestValue, request_of}
+use Rattle.tfs_framing.specs.declared.known.Known.{Known}
+use Rattle.tfs_framing.specs.declared.known.Headed.{Headed}
 use Rattle.tfs_framing.specs.declared.length.BodyLength.{BodyLength}
 use Rattle.tfs_framing.specs.declared.part.Flaw.{Flaw}
 use Rattle.tfs_framing.specs.declared.taken.Take.{Take}
@@ -88,8 +92,26 @@ pub record AreWanted (bytes : List ℕ) (wanted : ℕ) : Type 0 where
   pub more : length bytes < wanted
   pub until : (others : List ℕ) → length (bytes ++ others) < wanted → IsUnfinished (bytes ++ others)
 
--- The same where `Need` tells how many bytes are wanted.
+-- The head that the bytes have is read, and of the body that it says so much was walked.
+pub record IsHeaded (bytes : List ℕ) (headed : Headed) : Type 0 where
+  pub skipped : List LineEnd
+  pub head : List ℕ
+  pub rest : List ℕ
+  pub has_head : HasHead bytes skipped head rest
+  pub skipped_is : headed.skipped ≡ length (print_blank skipped)
+  pub len_is : headed.len ≡ length head
+  pub h : RequestHead
+  pub reads : ReadsHead head h headed.size
+  pub walked : IsWalked rest headed.walk
+
+-- What is known of the message that the bytes begin with: how far the end of its head was sought, or its head and how far its
+-- body was walked.
+abbrev pub IsKnown : List ℕ → Known → Type 0
+IsKnown bytes (Known.Sought search) = IsSought bytes search
+IsKnown bytes (Known.Headed headed) = IsHeaded bytes headed
+
+-- The same where `Need` tells how many bytes are wanted, and what is known.
 abbrev pub FramesOrWants : List ℕ → Framed → Type 0
-FramesOrWants bytes (Framed.Want wanted) = AreWanted bytes wanted
+FramesOrWants bytes (Framed.Want wanted known) = AreWanted bytes wanted × IsKnown bytes known
 FramesOrWants bytes (Framed.Got r used) = BeginsWith bytes r used
 FramesOrWants bytes (Framed.Fault refusal) = framing_refusal bytes refusal

@@ -1,7 +1,9 @@
 pub mod Head
+pub mod Sought
 pub mod Fields
 pub mod Chunks
 pub mod Parts
+pub mod Walked
 pub mod Body
 pub mod Connection
 pub mod Lines

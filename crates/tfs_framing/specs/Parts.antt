@@ -1,7 +1,10 @@
 -- What comes next in a body in chunks.
-use Rattle.std.specs.Prelude.{◌≡◌, ◌≤◌, ◌<◌, ◌+◌, ℕ, List, ◌++◌, length}
+use Rattle.std.specs.Prelude.{◌≡◌, ◌≤◌, ◌<◌, ◌+◌, ℕ, List, ◌∷◌, ◌++◌, length}
+use Rattle.httparse.specs.Ascii.{line_feed}
 use Rattle.httparse.specs.Grammar.{ChunkLine, print_chunk_line, chunk_size}
 use Rattle.tfs_framing.specs.Chunks.{Chunk, print_chunk, IsShortLine, IsChunk, IsTrailer, HasBadLine, IsFlawAt}
+use Rattle.tfs_framing.specs.Sought.{HasNoEndYet}
+use Rattle.tfs_framing.specs.declared.part.Ahead.{Ahead}
 use Rattle.tfs_framing.specs.declared.part.Flaw.{Flaw}
 use Rattle.tfs_framing.specs.declared.part.Line.{Line}
 use Rattle.tfs_framing.specs.declared.part.Part.{Part}
@@ -25,6 +28,20 @@ TellsLine left (Line.Wanted) = HasNoLine left
 TellsLine left (Line.Bad) = HasBadLine left
 TellsLine left (Line.Whole len size) = (line : ChunkLine) × IsLineAt left len size line
 
+-- The first so many bytes have no line feed.
+pub record HasNoFeedIn (seen : ℕ) (left : List ℕ) : Type 0 where
+  pub front : List ℕ
+  pub rest : List ℕ
+  pub parts : left ≡ front ++ rest
+  pub seen_is : seen ≡ length front
+  pub none : (before after : List ℕ) → ¬ (front ≡ before ++ line_feed ∷ after)
+
+-- What is known of what comes next: how much of a line was seen; or that the last line comes, so long, and how far the end of the
+-- trailer was sought, from its line feed on.
+abbrev pub IsAhead : List ℕ → Ahead → Type 0
+IsAhead left (Ahead.Line seen) = HasNoFeedIn seen left
+IsAhead left (Ahead.Trailer len passed) = (line : ChunkLine) × (at : IsLineAt left len 0 line) × HasNoEndYet passed (line_feed ∷ at.after)
+
 -- What may come next: a chunk with what is behind it, the end of the body with what is behind it, or something that can't be there.
 pub data Next : Type 0 where
   next_chunk : Chunk → List ℕ → Next
@@ -44,8 +61,8 @@ IsOpen count total left = (next : Next) → ¬ (ComesNext count total left next)
 
 -- What is told of it.
 abbrev pub IsPart : ℕ → ℕ → List ℕ → Part → Type 0
-IsPart count total left (Part.Wanted wanted) = (length left < wanted) × (wanted ≤ length left + 16777218)
-    × ((others : List ℕ) → length (left ++ others) < wanted → IsOpen count total (left ++ others))
+IsPart count total left (Part.Wanted wanted ahead) = (length left < wanted) × (wanted ≤ length left + 16777218)
+    × ((others : List ℕ) → length (left ++ others) < wanted → IsOpen count total (left ++ others)) × IsAhead left ahead
 IsPart count total left (Part.Chunk bytes after) = (c : Chunk) × (c.bytes ≡ bytes.now) × ComesNext count total left (next_chunk c after.now)
 IsPart count total left (Part.Last after) = ComesNext count total left (next_end after.now)
 IsPart count total left (Part.Flawed flaw) = ComesNext count total left (next_flaw flaw)

@@ -2,8 +2,9 @@
 
 ghost use Rattle.std.specs.Prelude.{◌≡◌, ℕ, List, IfOk};
 ghost use Rattle.tfs_framing.specs.Body.{Fits, Reaches, SpellsBody};
+ghost use Rattle.tfs_framing.specs.Walked.{IsWalked};
 
-use crate::chunks::{chunks_end, join_chunks};
+use crate::chunks::{Walk, chunks_end, join_chunks};
 use crate::length::BodyLength;
 use crate::part::Flaw;
 use std::alloc::{AllocError, Global};
@@ -11,29 +12,30 @@ use std::alloc::{AllocError, Global};
 /// How far a body reaches.
 #[derive(Clone, Copy)]
 pub(crate) enum Extent {
-    /// Fewer bytes than this aren't enough.
-    Wanted(usize),
+    /// Fewer bytes than this aren't enough; and how far they were walked.
+    Wanted(usize, Walk),
     /// It takes so many bytes.
     Whole(usize),
     /// The bytes don't begin with a body.
     Flawed(Flaw),
 }
 
-/// How far the body reaches in the bytes behind a head.
-pub(crate) fn body_end(size: BodyLength, rest: &[u8]) -> Extent
-    requires { Fits size }
+/// How far the body reaches in the bytes behind a head, of which so much was walked as chunks.
+pub(crate) fn body_end(size: BodyLength, rest: &[u8], walk: Walk) -> Extent
+    requires fits { Fits size }
+    requires walked { IsWalked rest.now walk }
     ensures { Reaches size rest.now result }
 {
     match size {
         BodyLength::Absent => Extent::Whole(0),
         BodyLength::Sized(size) => {
             if rest.len() < size {
-                Extent::Wanted(size)
+                Extent::Wanted(size, walk)
             } else {
                 Extent::Whole(size)
             }
         }
-        BodyLength::Chunked => chunks_end(rest),
+        BodyLength::Chunked => chunks_end(rest, walk),
     }
 }
 

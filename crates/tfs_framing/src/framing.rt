@@ -4,12 +4,15 @@ ghost use Rattle.std.specs.Prelude.{◌≡◌, ℕ, List, IfOk, OnErr};
 ghost use Rattle.httparse.specs.Grammar.{RequestHead};
 ghost use Rattle.tfs_framing.specs.Body.{SpellsBody, refusal_of};
 ghost use Rattle.tfs_framing.specs.Lines.{IsToldBy};
-ghost use Rattle.tfs_framing.specs.Framing.{BeginsWith, Frames, FramesOrWants};
+ghost use Rattle.tfs_framing.specs.Sought.{IsSought};
+ghost use Rattle.tfs_framing.specs.Framing.{BeginsWith, Frames, IsHeaded, IsKnown, FramesOrWants};
 ghost use Rattle.tfs_framing.specs.Request.{RequestValue, request_of};
 
 use crate::body::{Extent, body_end, read_body};
+use crate::chunks::Walk;
 use crate::digest::fits_digest;
-use crate::head::find_head;
+use crate::head::{Search, find_head};
+use crate::known::{Headed, Known};
 use crate::limits::MAX_HEAD_BYTES;
 use crate::lines::{Lines, read_head};
 use crate::part::Flaw;
@@ -24,32 +27,83 @@ pub fn take(alloc: Global, bytes: &[u8]) -> Result<Take, AllocError>
     ensures ok { IfOk result (Frames bytes.now) }
     ensures memory { OnErr result ((request : RequestValue) × (used : ℕ) × BeginsWith bytes.now request used) }
 {
-    match frame(alloc, bytes)? {
-        Framed::Want(_) => Ok(Take::Need),
+    match frame(alloc, bytes, Known::nothing())? {
+        Framed::Want(_, _) => Ok(Take::Need),
         Framed::Got(request, used) => Ok(Take::Got(request, used)),
         Framed::Fault(refusal) => Ok(Take::Fault(refusal)),
     }
 }
 
-/// What [`take`] tells, with how many bytes are wanted where more are needed.
-pub fn frame(alloc: Global, bytes: &[u8]) -> Result<Framed, AllocError>
+/// What [`take`] tells; where more bytes are needed, how many are wanted, and what is known then. It goes on from what is known.
+pub fn frame(alloc: Global, bytes: &[u8], known: Known) -> Result<Framed, AllocError>
+    requires known { IsKnown bytes.now known }
     ensures ok { IfOk result (FramesOrWants bytes.now) }
     ensures memory { OnErr result ((request : RequestValue) × (used : ℕ) × BeginsWith bytes.now request used) }
 {
-    let Some((head, rest)) = find_head(bytes) else {
-        if bytes.len() < MAX_HEAD_BYTES {
-            return Ok(Framed::Want(bytes.len() + 1));
+    match known {
+        Known::Sought(search) => frame_from(alloc, bytes, search),
+        Known::Headed(headed) => frame_behind(alloc, bytes, headed),
+    }
+}
+
+/// The same where a head is sought.
+fn frame_from(alloc: Global, bytes: &[u8], search: Search) -> Result<Framed, AllocError>
+    requires { IsSought bytes.now search }
+    ensures ok { IfOk result (FramesOrWants bytes.now) }
+    ensures memory { OnErr result ((request : RequestValue) × (used : ℕ) × BeginsWith bytes.now request used) }
+{
+    let (head, rest) = match find_head(bytes, search) {
+        Ok(parts) => parts,
+        Err(search) => {
+            if bytes.len() < MAX_HEAD_BYTES {
+                return Ok(Framed::Want(bytes.len() + 1, Known::Sought(search)));
+            }
+            return Ok(Framed::Fault(Refusal::HeadTooLarge));
         }
-        return Ok(Framed::Fault(Refusal::HeadTooLarge));
     };
     let lines = match read_head(head) {
         Ok(lines) => lines,
         Err(refusal) => return Ok(Framed::Fault(refusal)),
     };
-    let used = match body_end(lines.size, rest) {
-        Extent::Wanted(wanted) => return Ok(Framed::Want(bytes.len() - rest.len() + wanted)),
+    let used = match body_end(lines.size, rest, Walk::start()) {
+        Extent::Wanted(wanted, walk) => {
+            let headed = Headed {
+                skipped: bytes.len() - rest.len() - head.len(),
+                len: head.len(),
+                size: lines.size,
+                walk,
+            };
+            return Ok(Framed::Want(bytes.len() - rest.len() + wanted, Known::Headed(headed)));
+        }
         Extent::Whole(used) => used,
         Extent::Flawed(flaw) => return Ok(Framed::Fault(refusal_of(flaw))),
+    };
+    let (coded, after) = rest.split_at(used);
+    let request = read_request(alloc, lines, coded)?;
+    Ok(Framed::Got(request, bytes.len() - after.len()))
+}
+
+/// The same where the head is there. It is read once more where its body is whole.
+fn frame_behind(alloc: Global, bytes: &[u8], headed: Headed) -> Result<Framed, AllocError>
+    requires { IsHeaded bytes.now headed }
+    ensures ok { IfOk result (FramesOrWants bytes.now) }
+    ensures memory { OnErr result ((request : RequestValue) × (used : ℕ) × BeginsWith bytes.now request used) }
+{
+    let (_, text) = bytes.split_at(headed.skipped);
+    let (head, rest) = text.split_at(headed.len);
+    let used = match body_end(headed.size, rest, headed.walk) {
+        Extent::Wanted(wanted, walk) => {
+            return Ok(Framed::Want(
+                bytes.len() - rest.len() + wanted,
+                Known::Headed(Headed { walk, ..headed }),
+            ));
+        }
+        Extent::Whole(used) => used,
+        Extent::Flawed(flaw) => return Ok(Framed::Fault(refusal_of(flaw))),
+    };
+    let lines = match read_head(head) {
+        Ok(lines) => lines,
+        Err(refusal) => return Ok(Framed::Fault(refusal)),
     };
     let (coded, after) = rest.split_at(used);
     let request = read_request(alloc, lines, coded)?;

@@ -10,6 +10,7 @@ mod fields;
 mod form;
 mod framing;
 mod head;
+mod known;
 mod laws;
 mod length;
 mod limits;
@@ -22,7 +23,12 @@ mod tests;
 
 pub use form::Form;
 pub use framing::{frame, take};
-pub use laws::{each_field_is_one_of_http_header, what_bytes_begin_with_is_one_thing_and_stays};
+pub use head::Search;
+pub use known::{Headed, Known};
+pub use laws::{
+    each_field_is_one_of_http_header, what_bytes_begin_with_is_one_thing_and_stays,
+    what_is_known_stays_whatever_bytes_follow,
+};
 pub use limits::{
     MAX_BODY_BYTES, MAX_CHUNK_LINE_BYTES, MAX_CHUNKS, MAX_FIELDS, MAX_HEAD_BYTES, MAX_HEAD_LINES,
     MAX_TRAILER_BYTES,

@@ -3,7 +3,9 @@
 ghost use Rattle.std.specs.Prelude.{◌≡◌, ◌≤◌, ◌<◌, ◌+◌, ◌++◌, ℕ, List, length, IfSome, IfNone};
 ghost use Rattle.httparse.specs.Grammar.{crlf, print_end, ChunkLine, HasNoChunkLine};
 ghost use Rattle.httparse.specs.Spans.{IsChunkLineAt};
-ghost use Rattle.tfs_framing.specs.Parts.{IsLineAt, TellsLine, IsPart};
+ghost use Rattle.tfs_framing.specs.Parts.{IsLineAt, TellsLine, HasNoFeedIn, IsAhead, IsPart};
+ghost use Rattle.tfs_framing.specs.declared.part.Line.TheVariants.{Wanted};
+ghost use Rattle.tfs_framing.specs.declared.part.Ahead.TheVariants.{Trailer};
 
 use crate::head::head_len;
 use crate::limits::{MAX_BODY_BYTES, MAX_CHUNK_LINE_BYTES, MAX_CHUNKS, MAX_TRAILER_BYTES};
@@ -29,11 +31,20 @@ pub(crate) enum Line {
     Whole(usize, u64),
 }
 
+/// What is known of what comes next in a body in chunks.
+#[derive(Clone, Copy)]
+pub(crate) enum Ahead {
+    /// So many first bytes have no line feed.
+    Line(usize),
+    /// The last line comes, so long; from its line feed on, so many bytes have no line feed with an empty line behind it.
+    Trailer(usize, usize),
+}
+
 /// What comes next in a body in chunks.
 #[derive(Clone, Copy)]
 pub(crate) enum Part<'b> {
-    /// Fewer bytes than this aren't enough.
-    Wanted(usize),
+    /// Fewer bytes than this aren't enough; and what is known of what comes.
+    Wanted(usize, Ahead),
     /// A chunk of these bytes, and what is behind it.
     Chunk(&'b [u8], &'b [u8]),
     /// The end of the body, and what is behind it.
@@ -43,13 +54,18 @@ pub(crate) enum Part<'b> {
 }
 
 /// What comes next, behind so many chunks with so many bytes.
-pub(crate) fn part_at(count: usize, total: usize, left: &[u8]) -> Part<'_>
+pub(crate) fn part_at(count: usize, total: usize, left: &[u8], ahead: Ahead) -> Part<'_>
     requires few { count ≤ 65536 }
     requires small { total ≤ 16777216 }
+    requires known { IsAhead left.now ahead }
     ensures { IsPart count total left.now result }
 {
-    let (len, size) = match chunk_line_at(left) {
-        Line::Wanted => return Part::Wanted(left.len() + 1),
+    let seen = match ahead {
+        Ahead::Line(seen) => seen,
+        Ahead::Trailer(len, passed) => return last_behind(left, len, passed),
+    };
+    let (len, size) = match chunk_line_at(left, seen) {
+        Line::Wanted => return Part::Wanted(left.len() + 1, Ahead::Line(left.len())),
         Line::Bad => return Part::Flawed(Flaw::Unreadable),
         Line::Whole(len, size) => (len, size),
     };
@@ -57,7 +73,7 @@ pub(crate) fn part_at(count: usize, total: usize, left: &[u8]) -> Part<'_>
         return Part::Flawed(Flaw::TooLarge);
     }
     if size == 0 {
-        return last_behind(left, len);
+        return last_behind(left, len, 0);
     }
     if count == MAX_CHUNKS {
         return Part::Flawed(Flaw::Unreadable);
@@ -65,22 +81,23 @@ pub(crate) fn part_at(count: usize, total: usize, left: &[u8]) -> Part<'_>
     chunk_behind(left, len, size as usize)
 }
 
-/// The chunk line that comes first, in the first 1,024 bytes.
-fn chunk_line_at(left: &[u8]) -> Line
-    ensures { TellsLine left.now result }
+/// The chunk line that comes first, in the first 1,024 bytes; so many of them have no line feed.
+fn chunk_line_at(left: &[u8], seen: usize) -> Line
+    requires { HasNoFeedIn seen left.now }
+    ensures line { TellsLine left.now result }
+    ensures seen { result ≡ Wanted → HasNoFeedIn (length left.now) left.now }
 {
     let (window, _) = left.split_at(left.len().min(MAX_CHUNK_LINE_BYTES));
-    match parse_line(window) {
-        Some((len, size)) => Line::Whole(len, size),
-        None => {
-            if left.len() >= MAX_CHUNK_LINE_BYTES {
-                return Line::Bad;
-            }
-            if window.contains(&b'\n') {
-                return Line::Bad;
-            }
-            Line::Wanted
+    let (_, new) = window.split_at(seen.min(window.len()));
+    if new.contains(&b'\n') {
+        match parse_line(window) {
+            Some((len, size)) => Line::Whole(len, size),
+            None => Line::Bad,
         }
+    } else if left.len() >= MAX_CHUNK_LINE_BYTES {
+        Line::Bad
+    } else {
+        Line::Wanted
     }
 }
 
@@ -104,7 +121,7 @@ fn chunk_behind(left: &[u8], len: usize, size: usize) -> Part<'_>
 {
     let (_, after) = left.split_at(len);
     if after.len() < size + 2 {
-        return Part::Wanted(len + size + 2);
+        return Part::Wanted(len + size + 2, Ahead::Line(0));
     }
     let (bytes, rest) = after.split_at(size);
     match strip_line_end(rest) {
@@ -124,22 +141,27 @@ fn strip_line_end(bytes: &[u8]) -> Option<&[u8]>
     }
 }
 
-/// The trailer behind the last line, which is so long; the line feed of this line is looked at as the trailer's first byte.
-fn last_behind(left: &[u8], len: usize) -> Part<'_>
+/// The trailer behind the last line, which is so long; the line feed of this line is looked at as the trailer's first byte. So
+/// many bytes from it on were passed over.
+fn last_behind(left: &[u8], len: usize, passed: usize) -> Part<'_>
     requires some { 0 < len }
     requires inside { len ≤ length left.now }
-    ensures { (count total : ℕ) (line : ChunkLine) → IsLineAt left.now len 0 line → total ≤ 16777216 → IsPart count total left.now result }
+    requires last { IsAhead left.now (Trailer len passed) }
+    ensures { (count total : ℕ) → total ≤ 16777216 → IsPart count total left.now result }
 {
     let (_, from) = left.split_at(len - 1);
     let (window, _) = from.split_at(from.len().min(MAX_TRAILER_BYTES + 1));
-    match head_len(window) {
-        Some(len) => {
-            let (_, behind) = from.split_at(len);
+    match head_len(window, passed) {
+        Some(end) => {
+            let (_, behind) = from.split_at(end);
             Part::Last(behind)
         }
         None => {
             if from.len() <= MAX_TRAILER_BYTES {
-                Part::Wanted(left.len() + 1)
+                Part::Wanted(
+                    left.len() + 1,
+                    Ahead::Trailer(len, from.len().saturating_sub(2)),
+                )
             } else {
                 Part::Flawed(Flaw::Unreadable)
             }

@@ -1,5 +1,6 @@
 //! What is taken from the bytes of a connection.
 
+use crate::known::Known;
 use crate::request::Request;
 use tfs_calls::Refusal;
 
@@ -17,8 +18,8 @@ pub enum Take {
 /// What bytes begin with, and how many are wanted where more are needed.
 #[derive(Drop)]
 pub enum Framed {
-    /// Fewer bytes than this are neither a message nor have a refusal.
-    Want(usize),
+    /// Fewer bytes than this are neither a message nor have a refusal; and what is known of the message.
+    Want(usize, Known),
     /// A message, and its length in bytes.
     Got(Request, usize),
     /// No message, for this reason; where it ends isn't known.

@@ -4,4 +4,12 @@ mod chunks;
 mod fields;
 mod messages;
 
+use crate::{Framed, Known, frame};
+use std::alloc::{AllocError, Global};
+
 const S1: &str = "{\"version\":4, \"serial\":1 ,\"lineage\":\"L1\"}";
+
+/// What bytes begin with of which nothing is known.
+fn frame_at_once(alloc: Global, bytes: &[u8]) -> Result<Framed, AllocError> {
+    frame(alloc, bytes, Known::nothing())
+}

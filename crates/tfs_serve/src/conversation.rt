@@ -18,7 +18,7 @@ use crate::reads::Reads;
 use std::alloc::{AllocError, Global};
 use std::io::{Read, Write};
 use tfs_calls::{Refusal, Reply};
-use tfs_framing::{Form, Framed, Request, frame};
+use tfs_framing::{Form, Framed, Request};
 use tfs_http::{Routes, call_of, write_reply};
 
 /// The form of a reply after which the conversation ends.
@@ -117,20 +117,23 @@ fn turn<R: Read, W: Write, D: Desk>(
     ensures fault { IfErr result (HasBroken D.step (moment desk.old (R.remaining reader.old) (W.contents writer.old) reads.old line.old.input)
         (moment desk.new (R.remaining reader.new) (W.contents writer.new) reads.new line.new.input)) }
 {
-    let framed = match frame(alloc, line.input.unused()) {
+    let framed = match line.input.frame(alloc) {
         Ok(framed) => framed,
         Err(_) => return Err(ServeFault::NoMemory),
     };
     match framed {
-        Framed::Want(wanted) => match fill(&mut line.input, reader, reads, wanted) {
-            Ok(more) => {
-                if more {
-                    return Ok(None);
+        Framed::Want(wanted, known) => {
+            line.input.keep(known);
+            match fill(&mut line.input, reader, reads, wanted) {
+                Ok(more) => {
+                    if more {
+                        return Ok(None);
+                    }
+                    Ok(Some(end_of(line.input.unused())))
                 }
-                Ok(Some(end_of(line.input.unused())))
+                Err(fault) => Err(fault),
             }
-            Err(fault) => Err(fault),
-        },
+        }
         Framed::Got(request, used) => {
             line.input.consume(used);
             let asks_to_close = request.form().close;

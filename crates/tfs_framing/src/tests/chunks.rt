@@ -1,7 +1,7 @@
 //! Bodies in chunks, worked out by hand from RFC 9112, section 7.1.
 
-use super::S1;
-use crate::{Framed, Take, frame, take};
+use super::{S1, frame_at_once};
+use crate::{Framed, Take, take};
 use std::alloc::Global;
 use std::process::Abort;
 use std::test::Fail;
@@ -43,8 +43,8 @@ fn expect_refusal(
 }
 
 fn expect_need(rt: &(impl Alloc<A = Global> + Abort), bytes: &[u8]) -> Result<(), Fail> {
-    match frame(rt.alloc(), bytes)? {
-        Framed::Want(wanted) => assert!(rt; wanted > bytes.len()),
+    match frame_at_once(rt.alloc(), bytes)? {
+        Framed::Want(wanted, _) => assert!(rt; wanted > bytes.len()),
         _ => panic!(rt; "{} bytes are no message yet", bytes.len()),
     }
     Ok(())
@@ -108,8 +108,8 @@ fn the_end_of_a_chunk_is_wanted(rt: HostRuntime) -> Result<(), Fail> {
         (110, 111),
         (113, 114),
     ] {
-        match frame(rt.alloc(), &bytes[..n])? {
-            Framed::Want(found) => assert_eq!(rt; found, wanted),
+        match frame_at_once(rt.alloc(), &bytes[..n])? {
+            Framed::Want(found, _) => assert_eq!(rt; found, wanted),
             _ => panic!(rt; "{n} bytes are no message yet"),
         }
     }

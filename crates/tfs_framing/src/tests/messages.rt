@@ -1,7 +1,7 @@
 //! Messages, worked out by hand from RFC 9112.
 
-use super::S1;
-use crate::{Framed, Take, frame, take};
+use super::{S1, frame_at_once};
+use crate::{Framed, Take, take};
 use std::alloc::Global;
 use std::process::Abort;
 use std::test::Fail;
@@ -66,8 +66,8 @@ fn the_wanted_length_is_told(rt: HostRuntime) -> Result<(), Fail> {
     let bytes = POST_AND_GET.as_bytes();
     assert_eq!(rt; bytes.len(), 130);
     for (n, wanted) in [(0, 1), (1, 2), (54, 55), (55, 96), (95, 96)] {
-        match frame(rt.alloc(), &bytes[..n])? {
-            Framed::Want(found) => assert_eq!(rt; found, wanted),
+        match frame_at_once(rt.alloc(), &bytes[..n])? {
+            Framed::Want(found, _) => assert_eq!(rt; found, wanted),
             _ => panic!(rt; "{n} bytes are no message yet"),
         }
     }

@@ -29,6 +29,33 @@ fn a_push_and_a_read_are_answered_however_they_are_cut(rt: HostRuntime) -> Resul
     Ok(())
 }
 
+/// The same push in chunks, behind empty lines and with a trailer, and the same read.
+const CHUNKS_AND_READ: &str =
+    "\r\n\n\r\nPOST /state/a HTTP/1.1\r\nHost: h\r\nTransfer-Encoding: chunked\r\n\r\n\
+     0B;x=y\r\n{\"version\":\r\n1e\r\n4, \"serial\":1 ,\"lineage\":\"L1\"}\r\n000\r\nA: b\nB:\r\n\r\nGET /state/a HTTP/1.1\r\nHost: h\r\n\r\n";
+
+#[test]
+fn a_push_in_chunks_is_answered_however_it_is_cut(rt: HostRuntime) -> Result<(), Fail> {
+    for cut in 0..CHUNKS_AND_READ.len() {
+        let mut table = table_of(&rt);
+        let mut reader = Pieces::new(CHUNKS_AND_READ, usize::MAX);
+        reader.before_cut = cut;
+        let mut writer = Vec::new(rt.alloc());
+        let ended = talk(rt.alloc(), &mut reader, &mut writer, &mut table);
+        assert!(rt; ended == Ok(Ended::Clean), "{cut}");
+        assert!(rt; writer.as_slice() == BOTH_REPLIES.as_bytes(), "{cut}");
+    }
+    for most in [1, 2, 3, 7, 64] {
+        let mut table = table_of(&rt);
+        let mut reader = Pieces::new(CHUNKS_AND_READ, most);
+        let mut writer = Vec::new(rt.alloc());
+        let ended = talk(rt.alloc(), &mut reader, &mut writer, &mut table);
+        assert!(rt; ended == Ok(Ended::Clean), "{most}");
+        assert!(rt; writer.as_slice() == BOTH_REPLIES.as_bytes(), "{most}");
+    }
+    Ok(())
+}
+
 #[test]
 fn the_input_is_read_to_its_end(rt: HostRuntime) -> Result<(), Fail> {
     for cut in [0, 1, 53, 95, 96, 129] {

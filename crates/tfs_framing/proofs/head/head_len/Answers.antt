@@ -1,6 +1,10 @@
 -- The first line feed with an empty line behind it ends the head; until then each byte is passed over.
 use Rattle.tfs_framing.proofs.HeadLemmas.{head_found, byte_passed}
+use Rattle.tfs_framing.proofs.SoughtLemmas.{passed_start}
 use Rattle.tfs_framing.proofs.head.head_len.Goals as goal
+
+pub loop-byte-init : goal.loop-byte-init
+loop-byte-init c = (_, passed_start _ _ _ _ c.requires c.min.ensures c.split_at.ensures.back)
 
 pub returns-in-Some-strip_empty_line-clause-found :
     goal.returns-in-Some-strip_empty_line-clause-found

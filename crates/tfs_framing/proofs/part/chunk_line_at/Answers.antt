@@ -1,23 +1,38 @@
--- The line of the first bytes is the line, and where they have none there is none.
+-- Without a line feed in the first bytes there is no line; else their line is the line, and where they have none it is bad.
 use Rattle.std.proofs.Common.{sym, arith, ◌∙◌}
+use Rattle.tfs_framing.proofs.SoughtLemmas.{all_in_window}
 use Rattle.tfs_framing.proofs.PartLemmas.{line_in_window, bad_line_in_window, long_line_in_window, no_line_yet}
+use Rattle.tfs_framing.proofs.PartLemmas.{no_feed_in_window, no_line_without_feed, all_seen}
 use Rattle.tfs_framing.proofs.part.chunk_line_at.Goals as goal
 
-pub returns-in-Some : goal.returns-in-Some
-returns-in-Some c =
+pub returns-in-Some-clause-line : goal.returns-in-Some-clause-line
+returns-in-Some-clause-line c =
     let found = c.in-Some.ensures.found in
     let k = c.min.ensures in
     (found.0, line_in_window _ _ _ _ _ found.0 (omega arith) c.split_at.ensures.front found.1)
 
-pub returns-then-left-ge-MAX_CHUNK_LINE_BYTES : goal.returns-then-left-ge-MAX_CHUNK_LINE_BYTES
-returns-then-left-ge-MAX_CHUNK_LINE_BYTES c =
-    long_line_in_window _ _ _ c.min.ensures c.split_at.ensures.front c.in-None.ensures.absent c.if-left-ge-MAX_CHUNK_LINE_BYTES.true
+pub returns-in-None-clause-line : goal.returns-in-None-clause-line
+returns-in-None-clause-line c =
+    bad_line_in_window _ _ _ _ _ c.min.ensures c.split_at.ensures.front c.in-None.ensures.absent c.split_at-2.ensures.back
+    (sym c.contains.ensures.value ∙ c.if-contains.true)
 
-pub returns-then-contains : goal.returns-then-contains
-returns-then-contains c =
-    bad_line_in_window _ _ _ c.min.ensures c.split_at.ensures.front c.in-None.ensures.absent (sym c.contains.ensures.value ∙ c.if-contains.true)
+pub returns-then-left-ge-MAX_CHUNK_LINE_BYTES-clause-line : goal.returns-then-left-ge-MAX_CHUNK_LINE_BYTES-clause-line
+returns-then-left-ge-MAX_CHUNK_LINE_BYTES-clause-line c =
+    let none = no_feed_in_window _ _ _ _ _ _ c.requires c.split_at.ensures.front c.min-2.ensures c.split_at-2.ensures.back
+    (sym c.contains.ensures.value ∙ c.if-contains.false) in
+    long_line_in_window _ _ _ c.min.ensures c.split_at.ensures.front (no_line_without_feed _ none) c.if-left-ge-MAX_CHUNK_LINE_BYTES.true
 
-pub returns-else-contains : goal.returns-else-contains
-returns-else-contains c =
-    no_line_yet _ _ _ c.min.ensures c.split_at.ensures.front c.in-None.ensures.absent c.if-left-ge-MAX_CHUNK_LINE_BYTES.false
-    (sym c.contains.ensures.value ∙ c.if-contains.false)
+pub returns-else-left-ge-MAX_CHUNK_LINE_BYTES-clause-line : goal.returns-else-left-ge-MAX_CHUNK_LINE_BYTES-clause-line
+returns-else-left-ge-MAX_CHUNK_LINE_BYTES-clause-line c =
+    let few = c.if-left-ge-MAX_CHUNK_LINE_BYTES.false in
+    let none = no_feed_in_window _ _ _ _ _ _ c.requires c.split_at.ensures.front c.min-2.ensures c.split_at-2.ensures.back
+    (sym c.contains.ensures.value ∙ c.if-contains.false) in
+    let all = all_in_window _ _ _ 1024 c.min.ensures c.split_at.ensures.front (omega arith) in
+    no_line_yet _ _ _ c.min.ensures c.split_at.ensures.front all few none
+
+pub returns-else-left-ge-MAX_CHUNK_LINE_BYTES-clause-seen : goal.returns-else-left-ge-MAX_CHUNK_LINE_BYTES-clause-seen
+returns-else-left-ge-MAX_CHUNK_LINE_BYTES-clause-seen c = λ _.
+    let few = c.if-left-ge-MAX_CHUNK_LINE_BYTES.false in
+    let none = no_feed_in_window _ _ _ _ _ _ c.requires c.split_at.ensures.front c.min-2.ensures c.split_at-2.ensures.back
+    (sym c.contains.ensures.value ∙ c.if-contains.false) in
+    all_seen _ _ (all_in_window _ _ _ 1024 c.min.ensures c.split_at.ensures.front (omega arith)) none
