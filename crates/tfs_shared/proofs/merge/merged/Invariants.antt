@@ -1,0 +1,10 @@
+-- The share so far has the parts and the amounts of the sessions so far.
+use Rattle.std.proofs.Common.{◌≡◌, ◌+◌, ◌≤◌, length, sum_by}
+use Rattle.tfs_shared.proofs.merge.merged.Given as goal
+
+abbrev pub invariant-loop-session : goal.invariant-loop-session
+invariant-loop-session g l = record {
+  parts : l.all.parts ≡ 1 + length l.yielded;
+  amount : l.all.amount ≡ l.initial.all.amount + sum_by (λ session. session.accepted) l.yielded;
+  apart : l.all.parts ≤ g.J.Ledger.parts;
+}

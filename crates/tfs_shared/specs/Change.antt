@@ -1,0 +1,27 @@
+-- What the history of a shared table lists.
+use Rattle.std.specs.Prelude.{List, ◌++◌, map, fold, Option, None}
+use Rattle.tfs_state.specs.Document.{Document}
+use Rattle.tfs_rules.specs.History.{state_of}
+use Rattle.tfs_journal.specs.Journal.{EntryValue, Journal, with_entry, acts_of}
+use Rattle.tfs_table.specs.Ready.{ReadyValue}
+
+-- An accepted change: its entry, and the state that its name has afterwards.
+pub record ChangeValue : Type 0 where
+  pub entry : EntryValue
+  pub state : Option Document
+
+-- The change that is ready.
+abbrev pub change_of : ReadyValue → ChangeValue
+change_of ready = record { entry = ready.entry; state = state_of (acts_of ready.entry.name (with_entry ready.journal ready.entry)) }
+
+-- The entries of changes.
+abbrev pub entries_of : List ChangeValue → List EntryValue
+entries_of = map (λ change. change.entry)
+
+-- The journal after these changes.
+abbrev pub journal_after : Journal → List ChangeValue → Journal
+journal_after j changes = record { base = j.base; entries = j.entries ++ entries_of changes }
+
+-- The state that the last of these changes tells.
+abbrev pub state_told : List ChangeValue → Option Document
+state_told = fold (λ before change. change.state) None

@@ -1,0 +1,22 @@
+-- The answers to impact queries over published copies.
+use Rattle.std.specs.Prelude.{◌≡◌, ◌⊎◌, ℕ, List, IsSome}
+use Rattle.std.specs.Option.{option_map_or}
+use Rattle.tfs_state.specs.Document.{Document}
+use Rattle.tfs_rules.specs.History.{state_of}
+use Rattle.tfs_journal.specs.Journal.{Journal, acts_of}
+use Rattle.tfs_calls.specs.Impact.{chosen_by, query_refusal}
+use Rattle.tfs_calls.specs.Refusal.{out_of_memory}
+use Rattle.tfs_calls.specs.Reply.{ReplyValue, impact, refused}
+use Rattle.tfs_calls.specs.Transition.{answer_of, open_model}
+use Rattle.tfs_calls.specs.declared.call.Call.TheVariants.{Impact as CallImpact}
+use Rattle.tfs_calls.specs.declared.query.Query.{Query}
+
+-- The reply over a journal: the model's answer or, where the name has a state, want of memory.
+abbrev pub AnswersImpact : Journal → List ℕ → Query → ReplyValue → Type 0
+AnswersImpact j name query reply = (reply ≡ answer_of (open_model j) (CallImpact name query))
+    ⊎ ((reply ≡ refused out_of_memory) × IsSome (state_of (acts_of name j)))
+
+-- The same over a state, at a position.
+abbrev pub AnswersQuery : Document → Query → ℕ → ReplyValue → Type 0
+AnswersQuery d query position reply = (reply ≡ option_map_or refused (query_refusal d query) (impact d (chosen_by d query) position))
+    ⊎ (reply ≡ refused out_of_memory)

@@ -1,0 +1,29 @@
+-- The answers of locked calls.
+use Rattle.std.specs.Prelude.{◌≡◌, ◌⊎◌, ℕ, List}
+use Rattle.tfs_rules.specs.Act.{ActValue}
+use Rattle.tfs_journal.specs.Journal.{Journal}
+use Rattle.tfs_calls.specs.Refusal.{out_of_memory}
+use Rattle.tfs_calls.specs.Reply.{ReplyValue, refused}
+use Rattle.tfs_calls.specs.Transition.{TableModel, AnswersAct, answer_of, open_model}
+use Rattle.tfs_calls.specs.declared.call.Call.TheVariants.{Read}
+use Rattle.tfs_table.specs.Lawful.{IsLawful}
+use Rattle.tfs_shared.specs.View.{SessionView, BeginsWith}
+
+-- The reply to a change: the transition of a table whose lawful journal begins with all that the session had seen, and whose
+-- journal afterwards the session has then seen.
+pub record AnswersChange (name : List ℕ) (act : ActValue) (old new : SessionView) (reply : ReplyValue) : Type 0 where
+  pub before : TableModel
+  pub after : TableModel
+  pub lawful : IsLawful before.journal
+  pub fresh : BeginsWith before.journal old.journal
+  pub answer : AnswersAct before name act reply after
+  pub seen : new.journal ≡ after.journal
+
+-- The reply to a read: the model's answer over a lawful journal that begins with all that the session had seen, and that it has
+-- then seen; or want of memory.
+pub record AnswersRead (name : List ℕ) (old new : SessionView) (reply : ReplyValue) : Type 0 where
+  pub journal : Journal
+  pub lawful : IsLawful journal
+  pub fresh : BeginsWith journal old.journal
+  pub answer : (reply ≡ answer_of (open_model journal) (Read name)) ⊎ (reply ≡ refused out_of_memory)
+  pub seen : new.journal ≡ journal

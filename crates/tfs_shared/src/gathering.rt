@@ -1,0 +1,77 @@
+//! The end of sharing.
+
+ghost use Rattle.std.specs.Prelude.{◌≡◌, ◌+◌, ◌<◌, ◌≤◌, ◌↔◌, All, length, sum_by, IfOk, IfErr};
+ghost use Rattle.tfs_shared.specs.View.{BeginsWith};
+ghost use Rattle.tfs_shared.specs.declared.gathering.Lack.TheVariants.{Missing};
+
+use crate::naming::Naming;
+use crate::session::Session;
+use crate::shared::Shared;
+use std::sync::{Mutex, Wait};
+use tfs_journal::Sink;
+use tfs_table::Table;
+
+/// Why a table isn't gathered.
+#[derive(Clone, Copy, Debug, PartialEq, Eq)]
+pub enum Lack {
+    /// Not all sessions are there.
+    Missing,
+    /// No copy was handed out that begins with what each session has seen.
+    NoCopy,
+}
+
+/// A shared table and sessions that weren't gathered, as they were.
+pub struct Strangers<J: Naming, K: Sink> {
+    pub shared: Shared<J, K>,
+    pub sessions: Vec<Session<J>>,
+    pub why: Lack,
+}
+
+/// The table that was shared, from all of its sessions. It waits for readers.
+pub fn gather<J: Naming, K: Sink, R: Wait>(
+    rt: &R,
+    shared: Shared<J, K>,
+    sessions: Vec<Session<J>>,
+) -> Result<Table<K>, Strangers<J, K>>
+    requires parts { J.parts ≡ J.sessions }
+    requires some { 1 ≤ J.sessions }
+    ensures whole { IfOk result (λ table. length sessions.items ≡ J.sessions) }
+    ensures opening { IfOk result (λ table. BeginsWith table.journal J.opening) }
+    ensures seen { IfOk result (λ table. All (λ session. BeginsWith table.journal session.journal) sessions.items) }
+    ensures counted { IfOk result (λ table. length table.journal.entries
+        ≡ length J.opening.entries + sum_by (λ session. session.accepted) sessions.items) }
+    ensures missing { IfErr result (λ strangers. (strangers.why ≡ Missing) ↔ (length sessions.items < J.sessions)) }
+    ensures back { IfErr result (λ strangers. (strangers.shared ≡ shared) × (strangers.sessions ≡ sessions)) }
+{
+    if sessions.len() < shared.number {
+        let why = Lack::Missing;
+        return Err(Strangers {
+            shared,
+            sessions,
+            why,
+        });
+    }
+    let Shared {
+        alloc,
+        held,
+        number,
+        opened,
+    } = shared;
+    let held = held.into_inner();
+    held.is_kept();
+    if held.covers_all(sessions.as_slice()) {
+        return Ok(held.end(rt, sessions));
+    }
+    let shared = Shared {
+        alloc,
+        held: Mutex::new(held),
+        number,
+        opened,
+    };
+    let why = Lack::NoCopy;
+    Err(Strangers {
+        shared,
+        sessions,
+        why,
+    })
+}

@@ -1,0 +1,153 @@
+//! What lies under the lock.
+
+ghost use Rattle.std.specs.Prelude.{◌≡◌, ◌⊎◌, ◌+◌, ◌≤◌, true, All, length, sum_by, OnOk, OnErr, MatchResult};
+ghost use Rattle.std.specs.Arc.{arc_value};
+ghost use Rattle.tfs_calls.specs.Refusal.{refusal_value, no_copy};
+ghost use Rattle.tfs_calls.specs.Reply.{state, refused};
+ghost use Rattle.tfs_table.specs.Table.{IsTable, change_reply};
+ghost use Rattle.tfs_shared.specs.Board.{Shows};
+ghost use Rattle.tfs_shared.specs.Held.{IsHeld};
+ghost use Rattle.tfs_shared.specs.Locked.{AnswersChange, AnswersRead};
+ghost use Rattle.tfs_shared.specs.View.{BeginsWith};
+
+use crate::board::Board;
+use crate::locked::change;
+use crate::merge::merged;
+use crate::naming::Naming;
+use crate::session::Session;
+use std::marker::Model;
+use std::sync::ledger::Book;
+use std::sync::{Arc, Wait};
+use tfs_calls::{Draft, Refusal};
+use tfs_journal::Sink;
+use tfs_rules::Name;
+use tfs_state::Doc;
+use tfs_table::Table;
+
+/// The table, what is published of it, and the book of the accepted changes.
+pub struct Held<J: Naming, K: Sink> {
+    table: Table<K>,
+    board: Board<J>,
+    book: Book<J>,
+}
+
+impl<J: Naming, K: Sink> Model for Held<J, K> {
+    ghost use Rattle.tfs_shared.specs.Held.{HeldView, IsHeld};
+
+    ghost Value = { HeldView };
+
+    ghost view = { λ h. record { table = h.table; board = h.board; accepted = h.book.total } };
+
+    ghost invariant = { λ h. IsHeld J.opening (record { table = h.table; board = h.board; accepted = h.book.total }) };
+}
+
+impl<J: Naming, K: Sink> Held<J, K> {
+    /// What is kept whenever the lock is free: the table's invariant, with a lawful journal; what readers are shown stands for that
+    /// journal; and it has as many entries beyond the opening ones as changes were accepted.
+    pub fn is_kept(&self)
+        ensures table { IsTable self.now.table }
+        ensures shown { Shows self.now.board }
+        ensures held { IsHeld J.opening self.now }
+        ensures begins { BeginsWith self.now.table.journal J.opening }
+    {
+        self.table.len();
+        self.board.shows();
+    }
+
+    /// A change by a session.
+    pub(crate) fn submit<R: Wait>(
+        &mut self,
+        rt: &R,
+        session: &mut Session<J>,
+        name: Name,
+        draft: Draft,
+    ) -> Result<u64, Refusal>
+        ensures answered { ((change_reply result ≡ refused no_copy) × (session.new ≡ session.old))
+            ⊎ AnswersChange name draft session.old session.new (change_reply result) }
+        ensures accepted { OnOk result (session.new.accepted ≡ session.old.accepted + 1) }
+        ensures refused { OnErr result (session.new.accepted ≡ session.old.accepted) }
+    {
+        self.table.len();
+        if !self.board.covers(session.token()) {
+            return Err(Refusal::NoCopy);
+        }
+        let answer = change(rt, &mut self.table, &mut self.board, name, draft);
+        let (token, position) = self.board.reached();
+        session.see(token, position);
+        if answer.is_ok() {
+            self.table.len();
+            session.count(&mut self.book);
+        }
+        answer
+    }
+
+    /// The state of a name, for a session.
+    pub(crate) fn state(&self, session: &mut Session<J>, name: &Name) -> Result<Arc<Doc>, Refusal>
+        ensures answered { MatchResult result
+            (λ doc. AnswersRead name.now session.old session.new (state (arc_value doc)))
+            (λ refusal. ((refusal_value refusal ≡ no_copy) × (session.new ≡ session.old))
+            ⊎ AnswersRead name.now session.old session.new (refused (refusal_value refusal))) }
+        ensures accepted { session.new.accepted ≡ session.old.accepted }
+    {
+        self.table.len();
+        if !self.board.covers(session.token()) {
+            return Err(Refusal::NoCopy);
+        }
+        let (token, position) = self.board.reached();
+        session.see(token, position);
+        self.table.state(name)
+    }
+
+    /// The table. The writer ends, which waits for readers.
+    pub(crate) fn close<R: Wait>(self, rt: &R) -> Table<K>
+        ensures table { result ≡ self.table }
+    {
+        let Held {
+            table,
+            board,
+            book: _book,
+        } = self;
+        board.close(rt);
+        table
+    }
+
+    /// Whether the table's journal begins with what each session has seen.
+    pub(crate) fn covers_all(&self, sessions: &[Session<J>]) -> bool
+        ensures yes { result ≡ true → All (λ session. BeginsWith self.now.table.journal session.journal) sessions.now }
+    {
+        for session in sessions {
+            if !self.covers(session) {
+                return false;
+            }
+        }
+        true
+    }
+
+    /// Whether the table's journal begins with what a session has seen.
+    fn covers(&self, session: &Session<J>) -> bool
+        ensures yes { result ≡ true → BeginsWith self.now.table.journal session.now.journal }
+    {
+        self.board.covers(session.token())
+    }
+
+    /// The table. At least as many sessions as there are in all end their readers, and then the writer ends.
+    pub(crate) fn end<R: Wait>(self, rt: &R, sessions: Vec<Session<J>>) -> Table<K>
+        requires some { 1 ≤ J.parts }
+        requires all { J.parts ≤ length sessions.items }
+        ensures table { result ≡ self.table }
+        ensures whole { length sessions.items ≡ J.parts }
+        ensures counted { length result.journal.entries
+            ≡ length J.opening.entries + sum_by (λ session. session.accepted) sessions.items }
+    {
+        let Held {
+            table,
+            board,
+            mut book,
+        } = self;
+        if let Some(mut all) = merged(sessions) {
+            book.audit(&mut all);
+        }
+        board.close(rt);
+        table
+    }
+}

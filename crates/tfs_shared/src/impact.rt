@@ -1,0 +1,61 @@
+//! Impact queries, which wait for nobody.
+
+ghost use Rattle.std.specs.Prelude.{◌≡◌, ◌⊎◌, Some};
+ghost use Rattle.std.specs.Arc.{arc_value};
+ghost use Rattle.tfs_calls.specs.Refusal.{no_copy};
+ghost use Rattle.tfs_calls.specs.Reply.{refused};
+ghost use Rattle.tfs_table.specs.Table.{impact_reply};
+ghost use Rattle.tfs_shared.specs.Impact.{AnswersImpact, AnswersQuery};
+ghost use Rattle.tfs_shared.specs.View.{BeginsWith};
+
+use crate::found::Found;
+use crate::naming::Naming;
+use crate::session::Session;
+use crate::shared::Shared;
+use std::alloc::Global;
+use std::sync::Arc;
+use tfs_calls::{Impact, Query, Refusal};
+use tfs_index::Version;
+use tfs_journal::Sink;
+use tfs_rules::Name;
+
+impl<J: Naming> Session<J> {
+    /// What a query chooses in the state of a name, by a published copy that begins with all that the session has seen. The
+    /// answer, also a refusal, is over the journal that the session has seen afterwards. `NoCopy` where no such copy is handed
+    /// out, and then nothing changes; `OutOfMemory` also where the copy has lost the version of the name.
+    pub fn impact<K: Sink>(
+        &mut self,
+        shared: &Shared<J, K>,
+        name: &Name,
+        query: &Query,
+    ) -> Result<Impact, Refusal>
+        ensures answer { ((impact_reply result ≡ refused no_copy) × (self.new ≡ self.old))
+            ⊎ AnswersImpact self.new.journal name.now query.now (impact_reply result) }
+        ensures later { BeginsWith self.new.journal self.old.journal }
+        ensures accepted { self.new.accepted ≡ self.old.accepted }
+    {
+        match self.look(name) {
+            None => Err(Refusal::NoCopy),
+            Some(Found::NoState) => Err(Refusal::NoState),
+            Some(Found::Lost) => Err(Refusal::OutOfMemory),
+            Some(Found::Kept(version)) => ask(shared.alloc(), version, query, self.seen()),
+        }
+    }
+}
+
+/// What a version answers to a query.
+fn ask(
+    alloc: Global,
+    version: Arc<Version>,
+    query: &Query,
+    position: u64,
+) -> Result<Impact, Refusal>
+    ensures { AnswersQuery (arc_value version) query.now position (impact_reply result) }
+{
+    let chosen = query.choose(alloc, &version)?;
+    Ok(Impact {
+        version,
+        chosen,
+        position,
+    })
+}

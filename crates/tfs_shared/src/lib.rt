@@ -1,0 +1,37 @@
+//! The shared table: sessions over one lock, and impact queries over published copies, which never wait for the lock.
+#![tactic(auto)]
+
+mod board;
+mod change;
+mod found;
+mod gathering;
+mod held;
+mod history;
+mod impact;
+mod laws;
+mod locked;
+mod lost;
+mod merge;
+mod naming;
+mod place;
+mod place_name;
+mod published;
+mod rule;
+mod search;
+mod session;
+mod shared;
+mod sight;
+mod threads;
+mod token;
+mod view;
+
+pub use change::Change;
+pub use gathering::{Lack, Strangers, gather};
+pub use held::Held;
+pub use history::Opened;
+pub use laws::a_view_is_one_journal;
+pub use naming::Naming;
+pub use session::Session;
+pub use shared::Shared;
+pub use threads::a_session_is_send;
+pub use token::Token;

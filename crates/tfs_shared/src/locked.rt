@@ -1,0 +1,37 @@
+//! A change of a table under its lock.
+
+ghost use Rattle.std.specs.Prelude.{◌≡◌, ◌+◌, length, OnOk, OnErr};
+ghost use Rattle.tfs_calls.specs.Transition.{AnswersAct};
+ghost use Rattle.tfs_table.specs.Table.{model_of, change_reply};
+ghost use Rattle.tfs_shared.specs.Held.{ArePublished};
+
+use crate::board::Board;
+use crate::naming::Naming;
+use std::sync::Wait;
+use tfs_calls::{Draft, Refusal};
+use tfs_journal::Sink;
+use tfs_rules::Name;
+use tfs_table::Table;
+
+/// Makes a change and publishes it, or says why not. Whatever takes memory comes before the sink, so that what is written is
+/// published too; what was prepared when the sink fails is never published, since the table is stopped then.
+pub(crate) fn change<J: Naming, K: Sink, R: Wait>(
+    rt: &R,
+    table: &mut Table<K>,
+    board: &mut Board<J>,
+    name: Name,
+    draft: Draft,
+) -> Result<u64, Refusal>
+    requires published { ArePublished table.old board.old }
+    ensures answered { AnswersAct (model_of table.old) name draft (change_reply result) (model_of table.new) }
+    ensures published { ArePublished table.new board.new }
+    ensures more { OnOk result (length table.new.journal.entries ≡ length table.old.journal.entries + 1) }
+    ensures kept { OnErr result (table.new.journal ≡ table.old.journal) }
+{
+    table.len();
+    let ready = table.ready(name, draft)?;
+    board.prepare(&ready)?;
+    let position = table.finish(ready)?;
+    board.publish(rt);
+    Ok(position)
+}

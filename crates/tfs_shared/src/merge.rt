@@ -1,0 +1,25 @@
+//! The shares of all sessions.
+
+ghost use Rattle.std.specs.Prelude.{◌≡◌, ◌≤◌, [], length, sum_by, IfSome, IfNone};
+
+use crate::naming::Naming;
+use crate::session::Session;
+use std::sync::ledger::Share;
+
+/// The shares of sessions, as one.
+#[tactic(auto, using(crate::proofs::Shares::accepted_more))]
+pub(crate) fn merged<J: Naming>(sessions: Vec<Session<J>>) -> Option<Share<J>>
+    requires some { 1 ≤ J.parts }
+    ensures parts { IfSome result (λ share. share.parts ≡ length sessions.items) }
+    ensures amount { IfSome result (λ share. share.amount ≡ sum_by (λ session. session.accepted) sessions.items) }
+    ensures apart { IfSome result (λ share. share.parts ≤ J.parts) }
+    ensures none { IfNone result (sessions.items ≡ []) }
+{
+    let mut sessions = sessions;
+    let last = sessions.pop()?;
+    let mut all = last.into_share();
+    for session in sessions {
+        all.merge(session.into_share());
+    }
+    Some(all)
+}

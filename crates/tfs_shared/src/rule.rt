@@ -1,0 +1,72 @@
+//! The rule of published copies, and the steps under it.
+
+ghost use Rattle.std.specs.Prelude.{◌≡◌, [], drop, IfSome};
+ghost use Rattle.left_right.specs.Sides.{view};
+ghost use Rattle.tfs_shared.specs.Published.{updated, Queues};
+ghost use Rattle.tfs_shared.specs.Sight.{IsSeen};
+
+use crate::naming::Naming;
+use crate::published::{Published, Update};
+use crate::sight::Sight;
+use crate::token::Token;
+use crossbeam_utils::rule::{Outcome, Protocol};
+use left_right::reader::Reader;
+use left_right::writer::Writer;
+use std::marker::PhantomData;
+use std::sync::Wait;
+use tfs_rules::Name;
+
+/// A published copy stands for the journal of its token.
+pub struct Follows<J: Naming>(PhantomData<J>);
+
+impl<J: Naming> Protocol<Published, ()> for Follows<J> {
+    ghost use Rattle.tfs_shared.specs.Published.{StandsFor};
+
+    ghost holds = { λ copy views. StandsFor J.book J.opening copy };
+
+    ghost first = { tt };
+}
+
+/// What an entered copy tells.
+pub struct Sees<J: Naming>(PhantomData<J>);
+
+impl<J: Naming> Outcome<Published, ()> for Sees<J> {
+    ghost use Rattle.tfs_shared.specs.Published.{StandsFor};
+
+    ghost then = { λ before x y after. StandsFor J.book J.opening y };
+}
+
+pub type CopyReader<J> = Reader<Published, (), Follows<J>>;
+
+pub type CopyWriter<J> = Writer<Published, Update, (), Follows<J>>;
+
+/// What a session that has seen as much as a token sees of a name. There is nothing where no copy is handed out that begins
+/// with that. It waits for nobody.
+pub(crate) fn enter<J: Naming>(
+    reader: CopyReader<J>,
+    token: &Token,
+    name: &Name,
+) -> (CopyReader<J>, Option<Sight>)
+    requires book { token.now.book ≡ J.book }
+    ensures value { IfSome result.1 (λ sight. IsSeen J.opening token.now name.now sight) }
+{
+    match reader.enter_as::<Sees<J>>() {
+        Ok(reading) => {
+            let sight = reading.get().sight(token, name);
+            (reading.leave(), sight)
+        }
+        Err(reader) => (reader, None),
+    }
+}
+
+/// Shows readers the copy that has the queued update, which tells one more change.
+pub(crate) fn publish<J: Naming, R: Wait>(rt: &R, writer: CopyWriter<J>) -> CopyWriter<J>
+    requires queued { Queues J.opening writer.desk.shown.value (drop writer.behind writer.log.items) }
+    ensures value { (queued : Queues J.opening writer.desk.shown.value (drop writer.behind writer.log.items))
+        → result.desk.shown.value ≡ updated writer.desk.shown.value queued.update }
+    ensures pending { drop result.behind result.log.items ≡ [] }
+{
+    let (writer, outcome) = writer.publish_as::<Sees<J>, R>(rt);
+    let _ = outcome;
+    writer
+}

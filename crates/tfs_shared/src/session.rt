@@ -1,0 +1,174 @@
+//! The sessions of a shared table.
+
+ghost use Rattle.std.specs.Prelude.{◌≡◌, ◌⊎◌, ◌+◌, ◌<◌, IfSome, IfNone, OnOk, OnErr, MatchResult};
+ghost use Rattle.std.specs.Arc.{arc_value};
+ghost use Rattle.tfs_rules.specs.History.{state_of};
+ghost use Rattle.tfs_journal.specs.Journal.{position_of, acts_of};
+ghost use Rattle.tfs_calls.specs.Refusal.{refusal_value, no_copy};
+ghost use Rattle.tfs_calls.specs.Reply.{state, refused};
+ghost use Rattle.tfs_table.specs.Table.{change_reply};
+ghost use Rattle.tfs_shared.specs.Change.{journal_after};
+ghost use Rattle.tfs_shared.specs.Found.{IsFound};
+ghost use Rattle.tfs_shared.specs.Locked.{AnswersChange, AnswersRead};
+ghost use Rattle.tfs_shared.specs.View.{BeginsWith};
+
+use crate::found::Found;
+use crate::naming::Naming;
+use crate::rule::{CopyReader, enter};
+use crate::shared::Shared;
+use crate::token::Token;
+use std::marker::Model;
+use std::sync::ledger::{Book, Share};
+use std::sync::{Arc, MutexGuard, Wait};
+use tfs_calls::{Draft, Refusal};
+use tfs_journal::Sink;
+use tfs_rules::Name;
+use tfs_state::Doc;
+
+/// A caller's own side of a shared table. Contracts see the journal that it has seen, and how many of its changes were accepted.
+#[derive(Drop)]
+pub struct Session<J: Naming> {
+    reader: Option<CopyReader<J>>,
+    token: Token,
+    position: u64,
+    share: Share<J>,
+    accepted: u64,
+}
+
+impl<J: Naming> Model for Session<J> {
+    ghost use Rattle.std.specs.Prelude.{◌≡◌};
+    ghost use Rattle.tfs_journal.specs.Journal.{position_of};
+    ghost use Rattle.tfs_shared.specs.Change.{journal_after};
+    ghost use Rattle.tfs_shared.specs.View.{SessionView};
+
+    ghost Value = { SessionView };
+
+    ghost view = { λ s. record { journal = journal_after J.opening s.token.changes; accepted = s.accepted } };
+
+    ghost invariant = { λ s. (s.token.book ≡ J.book)
+        × (s.position ≡ position_of (journal_after J.opening s.token.changes))
+        × (s.share.parts ≡ 1) × (s.share.amount ≡ s.accepted) };
+}
+
+impl<J: Naming> Session<J> {
+    /// How many of its changes were accepted.
+    pub fn accepted(&self) -> u64
+        ensures value { result ≡ self.now.accepted }
+    {
+        self.accepted
+    }
+
+    /// The position of the journal that it has seen.
+    pub fn seen(&self) -> u64
+        ensures value { result ≡ position_of self.now.journal }
+    {
+        self.position
+    }
+
+    /// Makes a change, or says why not, over a journal that begins with all that the session had seen. Afterwards it has seen the
+    /// journal that was answered over, with its own change where that was accepted. `NoCopy` where no such journal is there, and
+    /// then nothing changes. It waits for the lock.
+    pub fn submit<K: Sink, R: Wait>(
+        &mut self,
+        rt: &R,
+        shared: &Shared<J, K>,
+        name: Name,
+        draft: Draft,
+    ) -> Result<u64, Refusal>
+        ensures answered { ((change_reply result ≡ refused no_copy) × (self.new ≡ self.old))
+            ⊎ AnswersChange name draft self.old self.new (change_reply result) }
+        ensures accepted { OnOk result (self.new.accepted ≡ self.old.accepted + 1) }
+        ensures refused { OnErr result (self.new.accepted ≡ self.old.accepted) }
+    {
+        let mut held = shared.lock(rt);
+        let answer = held.submit(rt, self, name, draft);
+        MutexGuard::unlock(held);
+        answer
+    }
+
+    /// The state of a name, over a journal that begins with all that the session had seen, and that it has seen afterwards. `NoCopy`
+    /// where no such journal is there, and then nothing changes. It waits for the lock.
+    pub fn state<K: Sink, R: Wait>(
+        &mut self,
+        rt: &R,
+        shared: &Shared<J, K>,
+        name: &Name,
+    ) -> Result<Arc<Doc>, Refusal>
+        ensures answered { MatchResult result
+            (λ doc. AnswersRead name.now self.old self.new (state (arc_value doc)))
+            (λ refusal. ((refusal_value refusal ≡ no_copy) × (self.new ≡ self.old))
+            ⊎ AnswersRead name.now self.old self.new (refused (refusal_value refusal))) }
+        ensures accepted { self.new.accepted ≡ self.old.accepted }
+    {
+        let held = shared.lock(rt);
+        let answer = held.state(self, name);
+        MutexGuard::unlock(held);
+        answer
+    }
+
+    /// The token of the journal that it has seen.
+    pub(crate) fn token(&self) -> &Token
+        ensures book { result.now.book ≡ J.book }
+        ensures journal { journal_after J.opening result.now.changes ≡ self.now.journal }
+    {
+        &self.token
+    }
+
+    /// Has it see the journal of a token, by its position.
+    pub(crate) fn see(&mut self, token: Token, position: u64)
+        requires book { token.book ≡ J.book }
+        requires position { position ≡ position_of (journal_after J.opening token.changes) }
+        ensures journal { self.new.journal ≡ journal_after J.opening token.changes }
+        ensures accepted { self.new.accepted ≡ self.old.accepted }
+    {
+        self.token = token;
+        self.position = position;
+    }
+
+    /// Its share of the ledger. Its reader is given back.
+    pub(crate) fn into_share(self) -> Share<J>
+        ensures parts { result.parts ≡ 1 }
+        ensures amount { result.amount ≡ self.accepted }
+    {
+        let Session {
+            reader: _reader,
+            token: _token,
+            position: _,
+            share,
+            accepted: _,
+        } = self;
+        share
+    }
+
+    /// Counts a change of its own, here and in the book of all.
+    pub(crate) fn count(&mut self, book: &mut Book<J>)
+        requires room { book.old.total < 65536 }
+        ensures journal { self.new.journal ≡ self.old.journal }
+        ensures accepted { self.new.accepted ≡ self.old.accepted + 1 }
+        ensures total { book.new.total ≡ book.old.total + 1 }
+    {
+        book.audit(&mut self.share);
+        book.add(&mut self.share, 1);
+        self.accepted += 1;
+    }
+
+    /// Looks a name up in a published copy that begins with all that the session has seen. Afterwards it has seen the journal
+    /// that the copy stands for. There is nothing, and nothing changes, where no such copy is handed out. It waits for nobody.
+    #[tactic(auto, using(crate::proofs::Views::begins_with_itself, crate::proofs::Views::later_begins))]
+    pub(crate) fn look(&mut self, name: &Name) -> Option<Found>
+        ensures found { IfSome result (λ found. IsFound found (state_of (acts_of name.now self.new.journal))) }
+        ensures later { BeginsWith self.new.journal self.old.journal }
+        ensures kept { IfNone result (self.new ≡ self.old) }
+        ensures accepted { self.new.accepted ≡ self.old.accepted }
+    {
+        let reader = self.reader.take()?;
+        let (reader, sight) = enter(reader, &self.token, name);
+        self.reader = Some(reader);
+        let Some(sight) = sight else {
+            return None;
+        };
+        self.token = sight.token;
+        self.position = sight.position;
+        Some(sight.found)
+    }
+}

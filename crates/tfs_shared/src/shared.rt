@@ -1,0 +1,66 @@
+//! Shared tables.
+
+ghost use Rattle.std.specs.Prelude.{◌≡◌};
+ghost use Rattle.tfs_journal.specs.Journal.{position_of};
+ghost use Rattle.tfs_shared.specs.View.{BeginsWith};
+
+use crate::held::Held;
+use crate::naming::Naming;
+use std::alloc::Global;
+use std::marker::Model;
+use std::sync::{Mutex, MutexGuard, Wait};
+use tfs_journal::Sink;
+use tfs_table::Table;
+
+/// A table behind one lock, and the position that it was opened at. Contracts see the number of its sessions.
+pub struct Shared<J: Naming, K: Sink> {
+    pub(crate) alloc: Global,
+    pub(crate) held: Mutex<Held<J, K>>,
+    pub(crate) number: usize,
+    pub(crate) opened: u64,
+}
+
+impl<J: Naming, K: Sink> Model for Shared<J, K> {
+    ghost use Rattle.std.specs.Prelude.{◌≡◌, ℕ};
+    ghost use Rattle.tfs_journal.specs.Journal.{position_of};
+
+    ghost Value = { ℕ };
+
+    ghost view = { λ s. s.number };
+
+    ghost invariant = { λ s. (s.number ≡ J.sessions) × (s.opened ≡ position_of J.opening) };
+}
+
+impl<J: Naming, K: Sink> Shared<J, K> {
+    /// The position of the journal that it was opened with.
+    pub fn opened(&self) -> u64
+        ensures value { result ≡ position_of J.opening }
+    {
+        self.opened
+    }
+
+    /// The table, whatever its sessions are. It waits for readers; sessions that are left are handed no copies any more.
+    pub fn close<R: Wait>(self, rt: &R) -> Table<K>
+        ensures opening { BeginsWith result.journal J.opening }
+    {
+        let Shared {
+            alloc: _,
+            held,
+            number: _,
+            opened: _,
+        } = self;
+        let held = held.into_inner();
+        held.is_kept();
+        held.close(rt)
+    }
+
+    /// Where its memory comes from.
+    pub(crate) fn alloc(&self) -> Global {
+        self.alloc
+    }
+
+    /// Its lock, taken.
+    pub(crate) fn lock<R: Wait>(&self, rt: &R) -> MutexGuard<'_, Held<J, K>> {
+        self.held.lock(rt)
+    }
+}

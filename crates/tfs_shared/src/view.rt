@@ -1,0 +1,25 @@
+//! What contracts see of published copies. No value of these types is made.
+
+use crate::token::Token;
+use tfs_state::Doc;
+
+/// What a place has in it: a name, and the state of that name.
+pub struct PlaceView {
+    pub name: [u8; 0],
+    pub state: Option<Doc>,
+}
+
+/// What a copy has. A clause reads an array as a list of any length.
+pub struct CopyView {
+    pub places: [Option<PlaceView>; 0],
+    pub position: u64,
+    pub token: Token,
+}
+
+/// What an update says: what is put into the place of a number, the position and the token afterwards.
+pub struct UpdateView {
+    pub number: usize,
+    pub place: PlaceView,
+    pub position: u64,
+    pub token: Token,
+}
