@@ -1,8 +1,12 @@
 pub mod Adding
 pub mod Boards
+pub mod Crossing
 pub mod Finding
-pub mod OnePlace
+pub mod Places
 pub mod Prefixes
+pub mod Refusing
+pub mod Room
+pub mod Seeing
 pub mod Shares
 pub mod Taken
 pub mod Views

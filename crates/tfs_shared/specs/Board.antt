@@ -5,7 +5,7 @@ use Rattle.tfs_journal.specs.Journal.{Journal}
 use Rattle.tfs_shared.specs.Token.{TokenValue}
 use Rattle.tfs_shared.specs.Published.{IsPublished, StandsFor, Queues}
 use Rattle.tfs_shared.specs.declared.view.CopyView.{CopyView}
-use Rattle.tfs_shared.specs.declared.view.UpdateView.{UpdateView}
+use Rattle.tfs_shared.specs.declared.operation.Operation.{Operation}
 
 -- What callers see: the journal that is published, the one that is to be published next, and the copy that readers are shown.
 pub record BoardView : Type 0 where
@@ -20,13 +20,13 @@ pub record Shows (board : BoardView) : Type 0 where
   pub published : IsPublished copy board.journal
 
 -- What is queued: nothing, or the update that leads to the next token.
-abbrev pub IsQueue : Journal → CopyView → Option TokenValue → List UpdateView → Type 0
+abbrev pub IsQueue : Journal → CopyView → Option TokenValue → List Operation → Type 0
 IsQueue opening copy None queued = queued ≡ []
 IsQueue opening copy (Some next) queued = (queues : Queues opening copy queued) × (queues.update.token ≡ next)
 
 -- What a board keeps: the copy that readers are shown has the newest token, and stands for the journal after its changes.
 pub record IsBoard (book : Book) (opening : Journal) (newest : TokenValue) (next : Option TokenValue) (shown : Option CopyView)
-    (queued : Option (List UpdateView)) : Type 0 where
+    (queued : Option (List Operation)) : Type 0 where
   pub copy : CopyView
   pub shows : shown ≡ Some copy
   pub newest_is : copy.token ≡ newest

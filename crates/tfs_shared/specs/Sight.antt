@@ -1,12 +1,11 @@
 -- What a session sees in a copy.
-use Rattle.std.specs.Prelude.{◌≡◌, ℕ, List, filter}
+use Rattle.std.specs.Prelude.{◌≡◌, ℕ, List}
 use mathlib.Core.List.{IsPrefix}
-use Rattle.tfs_rules.specs.History.{History, state_of}
+use Rattle.tfs_rules.specs.History.{state_of}
 use Rattle.tfs_journal.specs.Journal.{Journal, position_of, acts_of}
 use Rattle.tfs_shared.specs.Change.{journal_after}
 use Rattle.tfs_shared.specs.Found.{IsFound}
-use Rattle.tfs_shared.specs.Place.{has_name}
-use Rattle.tfs_shared.specs.Published.{places_given}
+use Rattle.tfs_shared.specs.Published.{ArePlacesOf}
 use Rattle.tfs_shared.specs.Token.{TokenValue}
 use Rattle.tfs_shared.specs.declared.sight.Sight.{Sight}
 use Rattle.tfs_shared.specs.declared.view.CopyView.{CopyView}
@@ -16,7 +15,7 @@ pub record IsSight (copy : CopyView) (earlier : TokenValue) (name : List ℕ) (s
   pub all : sight.token ≡ copy.token
   pub begins : IsPrefix earlier.changes copy.token.changes
   pub position : sight.position ≡ copy.position
-  pub found : (acts : History) → filter (has_name name) copy.places ≡ places_given name acts → IsFound sight.found (state_of acts)
+  pub found : (j : Journal) → ArePlacesOf j copy.places → IsFound sight.found (state_of (acts_of name j))
 
 -- What is seen of a name over the journal after a token's changes, which begin with those of an earlier token.
 pub record IsSeen (opening : Journal) (earlier : TokenValue) (name : List ℕ) (sight : Sight) : Type 0 where

@@ -4,22 +4,28 @@ ghost use Rattle.std.specs.Prelude.{◌≡◌, ◌≤◌, ◌<◌, ◌∷◌, �
 ghost use Rattle.std.specs.Arc.{arc_value};
 ghost use Rattle.tfs_journal.specs.Journal.{with_entry, position_of};
 ghost use Rattle.tfs_shared.specs.Board.{Shows};
+ghost use Rattle.tfs_shared.specs.declared.operation.Operation.TheVariants.{Take};
 ghost use Rattle.tfs_shared.specs.Change.{change_of, journal_after, state_told};
 ghost use Rattle.tfs_shared.specs.PlaceView.{place_with};
 ghost use Rattle.tfs_shared.specs.View.{BeginsWith};
 
 use crate::history::History;
 use crate::naming::Naming;
-use crate::published::Update;
-use crate::rule::{CopyWriter, publish};
+use crate::operation::{Operation, Update};
+use crate::published::Published;
+use crate::rule::{CopyWriter, publish, with_room};
+use crate::session::Session;
 use crate::token::Token;
-use std::alloc::AllocError;
+use left_right::writer::Writer;
+use std::alloc::{AllocError, Global};
 use std::marker::Model;
 use std::mem::replace;
+use std::sync::ledger::Share;
 use std::sync::{Arc, Wait};
 use tfs_index::Version;
+use tfs_journal::Sink;
 use tfs_rules::Name;
-use tfs_table::Ready;
+use tfs_table::{Ready, Table};
 
 /// The writer of the published copies, and the word of the history with its newest token. Between the two halves of a change
 /// there is a next token, whose last change is queued.
@@ -51,6 +57,54 @@ impl<J: Naming> Model for Board<J> {
 }
 
 impl<J: Naming> Board<J> {
+    /// What shows readers the opening journal, at as many places as there are sessions. An error is a refused request
+    /// for memory.
+    #[tactic(auto, using(crate::proofs::Boards::no_changes))]
+    pub(crate) fn new<K: Sink, R: Wait>(
+        rt: &R,
+        alloc: Global,
+        table: &Table<K>,
+        history: History<J>,
+        newest: Token,
+        sessions: usize,
+    ) -> Result<Board<J>, AllocError>
+        requires opening { table.now.journal ≡ J.opening }
+        requires book { newest.book ≡ J.book }
+        requires new { newest.changes ≡ [] }
+        requires sessions { (1 ≤ sessions) × (sessions ≤ 16) }
+        ensures journal { IfOk result (λ board. board.journal ≡ J.opening) }
+        ensures idle { IfOk result (λ board. board.next ≡ None) }
+    {
+        let first = Published::of(alloc, table, &newest)?;
+        let second = Published::of(alloc, table, &newest)?;
+        table.len();
+        let writer: CopyWriter<J> = Writer::new(alloc, first, second, sessions)?;
+        let writer = with_room(rt, writer)?;
+        Ok(Board {
+            writer: Some(writer),
+            history,
+            newest,
+            next: None,
+            position: table.position(),
+        })
+    }
+
+    /// A new session, which has seen what is published. There is none where no reader's place is there.
+    pub(crate) fn session(&self, share: Share<J>) -> Option<Session<J>>
+        requires parts { share.parts ≡ 1 }
+        requires amount { share.amount ≡ 0 }
+        ensures value { IfSome result (λ session. session ≡ record { journal = self.now.journal; accepted = 0 }) }
+    {
+        let Some(writer) = &self.writer else {
+            return None;
+        };
+        let Ok(reader) = writer.factory().reader() else {
+            return None;
+        };
+        let (token, position) = self.reached();
+        Some(Session::new(reader, token, position, share))
+    }
+
     /// What readers are shown stands for what is published, which begins with the opening journal.
     pub(crate) fn shows(&self)
         ensures value { Shows self.now }
@@ -104,14 +158,18 @@ impl<J: Naming> Board<J> {
         let Some(writer) = &mut self.writer else {
             return Err(AllocError);
         };
-        let Some(number) = writer.published().number_for(ready.name()) else {
-            return Err(AllocError);
-        };
         let Some(token) = self.newest.with(&self.history, ready) else {
             return Err(AllocError);
         };
         let position = self.position + 1;
-        queue(writer, number, ready.name(), version, position, &token)?;
+        queue(
+            writer,
+            ready.number(),
+            ready.name(),
+            version,
+            position,
+            &token,
+        )?;
         self.next = Some(token);
         Ok(())
     }
@@ -158,16 +216,17 @@ fn queue<J: Naming>(
 ) -> Result<(), AllocError>
     requires number { number < 1024 }
     requires told { state_told token.now.changes ≡ option_map arc_value version }
-    ensures ok { OnOk result (drop writer.new.behind writer.new.log.items ≡ drop writer.old.behind writer.old.log.items ++ record {
+    ensures ok { OnOk result (drop writer.new.behind writer.new.log.items ≡ drop writer.old.behind writer.old.log.items ++ Take (record {
       number = number;
       place = place_with name.now (option_map arc_value version);
       position = position;
       token = token.now;
-    } ∷ []) }
+    }) ∷ []) }
     ensures err { OnErr result (drop writer.new.behind writer.new.log.items ≡ drop writer.old.behind writer.old.log.items) }
     ensures shown { writer.new.desk.shown.value ≡ writer.old.desk.shown.value }
 {
-    match writer.append(Update::new(number, name, version, position, token)) {
+    let update = Update::new(number, name, version, position, token);
+    match writer.append(Operation::Take(update)) {
         Ok(()) => Ok(()),
         Err(_) => Err(AllocError),
     }

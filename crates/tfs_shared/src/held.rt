@@ -1,6 +1,7 @@
 //! What lies under the lock.
 
-ghost use Rattle.std.specs.Prelude.{◌≡◌, ◌⊎◌, ◌+◌, ◌≤◌, true, All, length, sum_by, OnOk, OnErr, MatchResult};
+ghost use Rattle.std.specs.Prelude.{◌≡◌, ◌⊎◌, ◌+◌, ◌≤◌, ℕ, List, true, All, None, length, sum_by, OnOk, OnErr, MatchResult};
+ghost use Rattle.tfs_rules.specs.Act.{ActValue};
 ghost use Rattle.std.specs.Arc.{arc_value};
 ghost use Rattle.tfs_calls.specs.Refusal.{refusal_value, no_copy};
 ghost use Rattle.tfs_calls.specs.Reply.{state, refused};
@@ -18,11 +19,11 @@ use crate::session::Session;
 use std::marker::Model;
 use std::sync::ledger::Book;
 use std::sync::{Arc, Wait};
-use tfs_calls::{Draft, Refusal};
+use tfs_calls::Refusal;
 use tfs_journal::Sink;
 use tfs_rules::Name;
 use tfs_state::Doc;
-use tfs_table::Table;
+use tfs_table::{Prepared, Table};
 
 /// The table, what is published of it, and the book of the accepted changes.
 pub struct Held<J: Naming, K: Sink> {
@@ -42,6 +43,17 @@ impl<J: Naming, K: Sink> Model for Held<J, K> {
 }
 
 impl<J: Naming, K: Sink> Held<J, K> {
+    /// A table that nothing was changed of, with what is published of it.
+    pub(crate) fn new(table: Table<K>, board: Board<J>, book: Book<J>) -> Held<J, K>
+        requires opening { table.journal ≡ J.opening }
+        requires published { board.journal ≡ J.opening }
+        requires idle { board.next ≡ None }
+        requires empty { book.total ≡ 0 }
+        ensures table { result.table ≡ table }
+    {
+        Held { table, board, book }
+    }
+
     /// What is kept whenever the lock is free: the table's invariant, with a lawful journal; what readers are shown stands for that
     /// journal; and it has as many entries beyond the opening ones as changes were accepted.
     pub fn is_kept(&self)
@@ -59,11 +71,10 @@ impl<J: Naming, K: Sink> Held<J, K> {
         &mut self,
         rt: &R,
         session: &mut Session<J>,
-        name: Name,
-        draft: Draft,
+        prepared: Prepared,
     ) -> Result<u64, Refusal>
         ensures answered { ((change_reply result ≡ refused no_copy) × (session.new ≡ session.old))
-            ⊎ AnswersChange name draft session.old session.new (change_reply result) }
+            ⊎ AnswersChange prepared.name prepared.act session.old session.new (change_reply result) }
         ensures accepted { OnOk result (session.new.accepted ≡ session.old.accepted + 1) }
         ensures refused { OnErr result (session.new.accepted ≡ session.old.accepted) }
     {
@@ -71,7 +82,7 @@ impl<J: Naming, K: Sink> Held<J, K> {
         if !self.board.covers(session.token()) {
             return Err(Refusal::NoCopy);
         }
-        let answer = change(rt, &mut self.table, &mut self.board, name, draft);
+        let answer = change(rt, &mut self.table, &mut self.board, prepared);
         let (token, position) = self.board.reached();
         session.see(token, position);
         if answer.is_ok() {
@@ -79,6 +90,21 @@ impl<J: Naming, K: Sink> Held<J, K> {
             session.count(&mut self.book);
         }
         answer
+    }
+
+    /// The answer to a change of a session that couldn't be prepared for want of memory. The session sees what is published.
+    pub(crate) fn lack_memory(&self, session: &mut Session<J>) -> Refusal
+        ensures answered { (name : List ℕ) (act : ActValue) → ((refusal_value result ≡ no_copy) × (session.new ≡ session.old))
+            ⊎ AnswersChange name act session.old session.new (refused (refusal_value result)) }
+        ensures accepted { session.new.accepted ≡ session.old.accepted }
+    {
+        self.table.len();
+        if !self.board.covers(session.token()) {
+            return Refusal::NoCopy;
+        }
+        let (token, position) = self.board.reached();
+        session.see(token, position);
+        Refusal::OutOfMemory
     }
 
     /// The state of a name, for a session.

@@ -13,6 +13,7 @@ mod locked;
 mod lost;
 mod merge;
 mod naming;
+mod operation;
 mod place;
 mod place_name;
 mod published;
@@ -20,6 +21,7 @@ mod rule;
 mod search;
 mod session;
 mod shared;
+mod sharing;
 mod sight;
 mod threads;
 mod token;
@@ -33,5 +35,9 @@ pub use laws::a_view_is_one_journal;
 pub use naming::Naming;
 pub use session::Session;
 pub use shared::Shared;
-pub use threads::a_session_is_send;
+pub use sharing::{Cause, Unshared, share};
+pub use threads::{a_session_is_send, a_shared_table_is_sync};
 pub use token::Token;
+
+#[cfg(test)]
+mod tests;

@@ -8,10 +8,9 @@ ghost use Rattle.tfs_shared.specs.Held.{ArePublished};
 use crate::board::Board;
 use crate::naming::Naming;
 use std::sync::Wait;
-use tfs_calls::{Draft, Refusal};
+use tfs_calls::Refusal;
 use tfs_journal::Sink;
-use tfs_rules::Name;
-use tfs_table::Table;
+use tfs_table::{Prepared, Table};
 
 /// Makes a change and publishes it, or says why not. Whatever takes memory comes before the sink, so that what is written is
 /// published too; what was prepared when the sink fails is never published, since the table is stopped then.
@@ -19,17 +18,16 @@ pub(crate) fn change<J: Naming, K: Sink, R: Wait>(
     rt: &R,
     table: &mut Table<K>,
     board: &mut Board<J>,
-    name: Name,
-    draft: Draft,
+    prepared: Prepared,
 ) -> Result<u64, Refusal>
     requires published { ArePublished table.old board.old }
-    ensures answered { AnswersAct (model_of table.old) name draft (change_reply result) (model_of table.new) }
+    ensures answered { AnswersAct (model_of table.old) prepared.name prepared.act (change_reply result) (model_of table.new) }
     ensures published { ArePublished table.new board.new }
     ensures more { OnOk result (length table.new.journal.entries ≡ length table.old.journal.entries + 1) }
     ensures kept { OnErr result (table.new.journal ≡ table.old.journal) }
 {
     table.len();
-    let ready = table.ready(name, draft)?;
+    let ready = table.ready(prepared)?;
     board.prepare(&ready)?;
     let position = table.finish(ready)?;
     board.publish(rt);

@@ -1,16 +1,20 @@
 //! The places of a published copy.
 
-ghost use Rattle.std.specs.Prelude.{◌≡◌, Some, is_none, option_map};
+ghost use Rattle.std.specs.Prelude.{◌≡◌, Some, IfOk, option_map};
 ghost use Rattle.std.specs.Arc.{arc_value};
 ghost use Rattle.tfs_shared.specs.Change.{state_told};
 ghost use Rattle.tfs_shared.specs.Place.{place_view, has_name};
 ghost use Rattle.tfs_shared.specs.PlaceView.{place_with};
+ghost use Rattle.tfs_shared.specs.Published.{place_given};
 
 use crate::lost::LostPlace;
 use crate::place_name::PlaceName;
 use crate::token::Token;
+use std::alloc::AllocError;
 use std::sync::Arc;
 use tfs_index::Version;
+use tfs_journal::Sink;
+use tfs_table::Table;
 
 /// A place of a published copy.
 #[derive(Drop)]
@@ -49,12 +53,16 @@ pub(crate) fn is_of(place: &Place, name: &str) -> bool
     }
 }
 
-/// Whether a place has nothing in it.
-pub(crate) fn is_empty(place: &Place) -> bool
-    ensures { result ≡ is_none (place_view place.now) }
+/// The place that the journal of a table gives a number.
+pub(crate) fn first_place<K: Sink>(table: &Table<K>, number: usize) -> Result<Place, AllocError>
+    ensures value { IfOk result (λ place. place_view place ≡ place_given table.now.journal number) }
 {
-    match place {
-        Place::Empty => true,
-        Place::Kept(_, _) | Place::Lost(_) => false,
-    }
+    let Some(name) = table.name(number) else {
+        return Ok(Place::Empty);
+    };
+    let version = match table.version(name) {
+        Some(version) => Some(version.clone()?),
+        None => None,
+    };
+    Ok(Place::Kept(PlaceName::of(name), version))
 }

@@ -1,24 +1,27 @@
 //! Published copies, and how they take in a change.
 
-ghost use Rattle.std.specs.Prelude.{◌≡◌, ◌<◌, IfSome, option_map};
-ghost use Rattle.std.specs.Arc.{arc_value};
-ghost use Rattle.tfs_shared.specs.Change.{state_told};
-ghost use Rattle.tfs_shared.specs.PlaceView.{place_with};
-ghost use Rattle.tfs_shared.specs.Published.{IsPlaceFor};
+ghost use Rattle.std.specs.Prelude.{◌≡◌, IfSome, IfOk, map, vec_len};
+ghost use Rattle.std.specs.List.{range_with_len};
+ghost use Rattle.tfs_journal.specs.Journal.{position_of};
+ghost use Rattle.tfs_shared.specs.Place.{place_view};
+ghost use Rattle.tfs_shared.specs.Published.{updated, place_given};
 ghost use Rattle.tfs_shared.specs.Sight.{IsSight};
 
-use crate::place::{Place, filled};
-use crate::place_name::PlaceName;
-use crate::search::{find, number_for};
+use crate::operation::{Operation, Update};
+use crate::place::{Place, filled, first_place};
+use crate::search::find;
 use crate::sight::Sight;
 use crate::token::Token;
 use crate::view::CopyView;
 use left_right::Absorb;
-use std::alloc::AllocError;
+use std::alloc::{AllocError, Global};
 use std::marker::Model;
-use std::sync::Arc;
-use tfs_index::Version;
+use tfs_journal::Sink;
 use tfs_rules::Name;
+use tfs_table::Table;
+
+/// How many places a copy has, as many as a table may have names.
+const PLACES: usize = 1_024;
 
 /// What readers enter: 1,024 places, the position, and the token of the history that the copy has taken in.
 #[derive(Drop)]
@@ -40,89 +43,57 @@ impl Model for Published {
     ghost invariant = { λ p. vec_len p.places ≡ 1024 };
 }
 
-/// A change, as a published copy takes it in.
-#[derive(Drop)]
-pub struct Update {
-    number: usize,
-    name: PlaceName,
-    version: Option<Arc<Version>>,
-    position: u64,
-    token: Token,
-}
-
-impl Model for Update {
-    ghost use Rattle.std.specs.Prelude.{◌≡◌, ◌<◌, option_map};
-    ghost use Rattle.std.specs.Arc.{arc_value};
-    ghost use Rattle.tfs_shared.specs.Change.{state_told};
-    ghost use Rattle.tfs_shared.specs.PlaceView.{place_with};
-    ghost use Rattle.tfs_shared.specs.declared.view.UpdateView.{UpdateView};
-
-    ghost Value = { UpdateView };
-
-    ghost view = { λ u. record { number = u.number; place = place_with u.name (option_map arc_value u.version); position = u.position; token = u.token } };
-
-    ghost invariant = { λ u. (u.number < 1024) × (state_told u.token.changes ≡ option_map arc_value u.version) };
-}
-
-impl Update {
-    /// What tells a change at the place of a number: the name, the version that it has afterwards, and the position and the token
-    /// that have the change.
-    pub(crate) fn new(
-        number: usize,
-        name: &Name,
-        version: Option<Arc<Version>>,
-        position: u64,
-        token: &Token,
-    ) -> Update
-        requires number { number < 1024 }
-        requires told { state_told token.now.changes ≡ option_map arc_value version }
-        ensures value { result ≡ record {
-          number = number;
-          place = place_with name.now (option_map arc_value version);
-          position = position;
-          token = token.now;
-        } }
-    {
-        Update {
-            number,
-            name: PlaceName::of(name),
-            version,
-            position,
-            token: token.again(),
-        }
-    }
-}
-
-impl Absorb<Update> for Published {
+impl Absorb<Operation> for Published {
     type State = CopyView;
 
-    ghost use Rattle.tfs_shared.specs.Published.{updated};
+    ghost use Rattle.tfs_shared.specs.Published.{absorbed};
 
     ghost state = { λ p. p };
 
-    ghost applied = { updated };
+    ghost applied = { absorbed };
 
     ghost never_fails = { Unit {0} };
 
-    fn absorb_first(&mut self, operation: &Update, _other: &Published) -> Result<(), AllocError> {
-        self.places[operation.number] = filled(
-            &operation.name,
-            &operation.version,
-            &operation.token,
-        );
-        self.position = operation.position;
-        self.token = operation.token.again();
+    fn absorb_first(
+        &mut self,
+        operation: &Operation,
+        _other: &Published,
+    ) -> Result<(), AllocError> {
+        match operation {
+            Operation::Nothing => {}
+            Operation::Take(update) => self.take(update),
+        }
         Ok(())
     }
 }
 
 impl Published {
-    /// The number of the place for a name, if there is one.
-    pub(crate) fn number_for(&self, name: &Name) -> Option<usize>
-        ensures place { IfSome result (λ number. IsPlaceFor name.now number self.now.places) }
-        ensures bound { IfSome result (λ number. number < 1024) }
+    /// A copy that stands for the journal of a table, with a token.
+    pub(crate) fn of<K: Sink>(
+        alloc: Global,
+        table: &Table<K>,
+        token: &Token,
+    ) -> Result<Published, AllocError>
+        ensures value { IfOk result (λ copy. copy ≡ record {
+          places = map (place_given table.now.journal) (range_with_len 0 1024);
+          position = position_of table.now.journal;
+          token = token.now;
+        }) }
     {
-        number_for(self.places.as_slice(), name.text())
+        Ok(Published {
+            places: places_of(alloc, table)?,
+            position: table.position(),
+            token: token.again(),
+        })
+    }
+
+    /// Takes in an update.
+    fn take(&mut self, update: &Update)
+        ensures value { self.new ≡ updated self.old update.now }
+    {
+        self.places[update.number] = filled(&update.name, &update.version, &update.token);
+        self.position = update.position;
+        self.token = update.token.again();
     }
 
     /// What a session that has seen as much as a token sees of a name, where the copy begins with that.
@@ -139,4 +110,16 @@ impl Published {
             found: find(self.places.as_slice(), name.text()),
         })
     }
+}
+
+/// The places that the journal of a table gives.
+fn places_of<K: Sink>(alloc: Global, table: &Table<K>) -> Result<Vec<Place>, AllocError>
+    ensures value { IfOk result (λ places. map place_view places.items ≡ map (place_given table.now.journal) (range_with_len 0 1024)) }
+    ensures wide { IfOk result (λ places. vec_len places ≡ 1024) }
+{
+    let mut places = Vec::with_capacity(alloc, PLACES)?;
+    for number in 0..PLACES {
+        places.push(first_place(table, number)?)?;
+    }
+    Ok(places)
 }

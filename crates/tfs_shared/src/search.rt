@@ -1,43 +1,23 @@
 //! Looking for a name among places.
 
-ghost use Rattle.std.specs.Prelude.{◌≡◌, ◌<◌, length, filter, map, position, is_none, IfSome};
-ghost use Rattle.tfs_rules.specs.History.{History, state_of};
+ghost use Rattle.std.specs.Prelude.{◌≡◌, ◌<◌, length, map, position, IfSome};
+ghost use Rattle.tfs_rules.specs.History.{state_of};
+ghost use Rattle.tfs_journal.specs.Journal.{Journal, acts_of};
 ghost use Rattle.tfs_shared.specs.Found.{IsFound};
 ghost use Rattle.tfs_shared.specs.Place.{place_view, has_name};
-ghost use Rattle.tfs_shared.specs.Published.{places_given, IsPlaceFor};
+ghost use Rattle.tfs_shared.specs.Published.{ArePlacesOf};
 
 use crate::found::Found;
-use crate::place::{Place, is_empty, is_of};
+use crate::place::{Place, is_of};
 
 /// What places have of a name.
 pub(crate) fn find(places: &[Place], name: &str) -> Found
-    ensures value { (acts : History)
-        → filter (has_name name.now) (map place_view places.now) ≡ places_given name.now acts
-        → IsFound result (state_of acts) }
+    ensures value { (j : Journal) → ArePlacesOf j (map place_view places.now) → IsFound result (state_of (acts_of name.now j)) }
 {
     match number_of(places, name) {
         Some(number) => at(&places[number]),
         None => Found::NoState,
     }
-}
-
-/// The number of the place for a name: its own or, while it has none, an empty one.
-pub(crate) fn number_for(places: &[Place], name: &str) -> Option<usize>
-    ensures place { IfSome result (λ number. IsPlaceFor name.now number (map place_view places.now)) }
-    ensures bound { IfSome result (λ number. number < length places.now) }
-{
-    match number_of(places, name) {
-        Some(number) => Some(number),
-        None => number_of_empty(places),
-    }
-}
-
-/// The number of the first empty place.
-fn number_of_empty(places: &[Place]) -> Option<usize>
-    ensures value { result ≡ position (λ place. is_none (place_view place)) places.now }
-    ensures bound { IfSome result (λ number. number < length places.now) }
-{
-    places.iter().position(|place| is_empty(place))
 }
 
 /// The number of the first place of a name.

@@ -24,6 +24,7 @@ use tfs_calls::{Draft, Refusal};
 use tfs_journal::Sink;
 use tfs_rules::Name;
 use tfs_state::Doc;
+use tfs_table::Prepared;
 
 /// A caller's own side of a shared table. Contracts see the journal that it has seen, and how many of its changes were accepted.
 #[derive(Drop)]
@@ -51,6 +52,28 @@ impl<J: Naming> Model for Session<J> {
 }
 
 impl<J: Naming> Session<J> {
+    /// A session that has seen the journal of a token, by its position, and has made no changes.
+    pub(crate) fn new(
+        reader: CopyReader<J>,
+        token: Token,
+        position: u64,
+        share: Share<J>,
+    ) -> Session<J>
+        requires book { token.book ≡ J.book }
+        requires position { position ≡ position_of (journal_after J.opening token.changes) }
+        requires parts { share.parts ≡ 1 }
+        requires amount { share.amount ≡ 0 }
+        ensures value { result ≡ record { journal = journal_after J.opening token.changes; accepted = 0 } }
+    {
+        Session {
+            reader: Some(reader),
+            token,
+            position,
+            share,
+            accepted: 0,
+        }
+    }
+
     /// How many of its changes were accepted.
     pub fn accepted(&self) -> u64
         ensures value { result ≡ self.now.accepted }
@@ -67,7 +90,7 @@ impl<J: Naming> Session<J> {
 
     /// Makes a change, or says why not, over a journal that begins with all that the session had seen. Afterwards it has seen the
     /// journal that was answered over, with its own change where that was accepted. `NoCopy` where no such journal is there, and
-    /// then nothing changes. It waits for the lock.
+    /// then nothing changes. The change's record is made before it waits for the lock.
     pub fn submit<K: Sink, R: Wait>(
         &mut self,
         rt: &R,
@@ -80,8 +103,14 @@ impl<J: Naming> Session<J> {
         ensures accepted { OnOk result (self.new.accepted ≡ self.old.accepted + 1) }
         ensures refused { OnErr result (self.new.accepted ≡ self.old.accepted) }
     {
+        let Ok(prepared) = Prepared::new(shared.alloc(), name, draft) else {
+            let held = shared.lock(rt);
+            let refusal = held.lack_memory(self);
+            MutexGuard::unlock(held);
+            return Err(refusal);
+        };
         let mut held = shared.lock(rt);
-        let answer = held.submit(rt, self, name, draft);
+        let answer = held.submit(rt, self, prepared);
         MutexGuard::unlock(held);
         answer
     }

@@ -32,6 +32,20 @@ impl<J: Naming, K: Sink> Model for Shared<J, K> {
 }
 
 impl<J: Naming, K: Sink> Shared<J, K> {
+    /// A table with what is published of it, behind one lock.
+    pub(crate) fn new(alloc: Global, number: usize, opened: u64, held: Held<J, K>) -> Shared<J, K>
+        requires number { number ≡ J.sessions }
+        requires opened { opened ≡ position_of J.opening }
+        ensures value { result ≡ number }
+    {
+        Shared {
+            alloc,
+            held: Mutex::new(held),
+            number,
+            opened,
+        }
+    }
+
     /// The position of the journal that it was opened with.
     pub fn opened(&self) -> u64
         ensures value { result ≡ position_of J.opening }

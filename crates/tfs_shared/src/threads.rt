@@ -1,11 +1,20 @@
-//! What may go to other threads.
+//! What may go to other threads, and what several may use. The functions compute nothing: they are laws of types.
 
 use crate::naming::Naming;
 use crate::session::Session;
+use crate::shared::Shared;
+use tfs_journal::Sink;
 
 fn takes_send<T: Send>(_: &T) {}
+
+fn takes_sync<T: Sync>(_: &T) {}
 
 /// A session may go to another thread.
 pub fn a_session_is_send<J: Naming + Send + Sync>(session: &Session<J>) {
     takes_send(session);
+}
+
+/// Several threads may use a shared table at the same time, where its sink may go to another thread.
+pub fn a_shared_table_is_sync<J: Naming + Send + Sync, K: Sink + Send>(shared: &Shared<J, K>) {
+    takes_sync(shared);
 }

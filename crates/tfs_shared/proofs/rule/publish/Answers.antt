@@ -1,7 +1,7 @@
 -- Publishing keeps what the copies stand for.
 use Rattle.std.proofs.Common.{sym, ◌∙◌, ap, subst}
 use Rattle.std.specs.List.{fold}
-use Rattle.tfs_shared.specs.Published.{updated, StandsFor}
+use Rattle.tfs_shared.specs.Published.{absorbed, StandsFor}
 use Rattle.tfs_shared.specs.declared.view.CopyView.{CopyView}
 use Rattle.tfs_shared.proofs.Taken.{takes_change}
 use Rattle.tfs_shared.proofs.rule.publish.Goals as goal
@@ -10,7 +10,7 @@ pub publish_as-writer-requires : goal.publish_as-writer-requires
 publish_as-writer-requires g c next is = λ views stands at.
     let shown = c.args.writer.desk.shown.value in
     let queued = c.requires.queued in
-    let one = is ∙ ap (fold updated shown) queued.one in
+    let one = is ∙ ap (fold absorbed shown) queued.one in
     let stood = takes_change g.J.Naming.book g.J.Naming.opening shown queued.update queued.change stands queued.tells in
     let kept = subst (λ (copy : CopyView). StandsFor g.J.Naming.book g.J.Naming.opening copy) (sym one) stood in
     (tt, kept, kept)

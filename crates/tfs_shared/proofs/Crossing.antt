@@ -1,0 +1,29 @@
+-- What may go to other threads, and what several may use.
+use denote.RattleType.{RattleType}
+use denote.Param.Send.{IsSend, IsSync, sendable}
+use Rattle.std.proofs.Crossing.{crosses}
+use Rattle.std.proofs.sync.ledger.Book.TheSendSync as book
+use Rattle.std.specs.declared.sync.ledger.Ledger as ledger
+use Rattle.tfs_journal.specs.declared.sink.Sink as sink
+use Rattle.tfs_journal.proofs.base.Base.TheSendSync as base
+use Rattle.tfs_journal.proofs.entry.Entry.TheSendSync as entry
+use Rattle.tfs_journal.proofs.out.Out.TheSendSync as out
+use Rattle.tfs_table.specs.contracts.table.Table as Table
+use Rattle.tfs_table.proofs.workspace.Workspace.TheSendSync as workspace
+use Rattle.tfs_shared.specs.declared.naming.Naming as naming
+use Rattle.tfs_shared.specs.contracts.held.Held as Held
+use Rattle.tfs_shared.specs.contracts.shared.Shared as Shared
+use Rattle.tfs_shared.proofs.board.Board.TheSendSync as board
+
+-- A table may go where its sink may.
+pub table_send : (K : RattleType) (g : sink.Ghosts K.Denot) → IsSend K → IsSend (Table.the_row K g)
+table_send K g s = search (sendable, crosses, base.the_send, entry.the_send, out.the_send, workspace.the_send) depth 20
+
+module _ (J K : RattleType) (n : naming.Ghosts J.Denot) (l : ledger.Ghosts J.Denot) (g : sink.Ghosts K.Denot) (s : IsSend K) where
+  -- So may what lies under the lock.
+  pub held_send : IsSend (Held.the_row J K n l g)
+  held_send = search (sendable, table_send, board.the_send, book.the_send) depth 20
+
+  -- A shared table may be used by several threads.
+  pub shared_sync : IsSync (Shared.the_row J K n l g)
+  shared_sync = search (sendable, crosses, held_send) depth 20

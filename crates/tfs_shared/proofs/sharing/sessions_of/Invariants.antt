@@ -1,0 +1,10 @@
+-- The sessions so far are new, and what is left has the other parts.
+use Rattle.std.proofs.Common.{◌≡◌, ◌+◌, replicate}
+use Rattle.tfs_shared.proofs.sharing.sessions_of.Given as goal
+
+abbrev pub invariant-loop-made : goal.invariant-loop-made
+invariant-loop-made g l = record {
+  value : l.sessions.items ≡ replicate l.made (record { journal = l.board.journal; accepted = 0 });
+  parts : l.rest.parts + l.made ≡ l.number;
+  amount : l.rest.amount ≡ 0;
+}

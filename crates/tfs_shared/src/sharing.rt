@@ -1,0 +1,96 @@
+//! The beginning of sharing.
+
+ghost use Rattle.std.specs.Prelude.{◌≡◌, ◌≤◌, length, replicate, IfOk, IfErr};
+
+use crate::board::Board;
+use crate::held::Held;
+use crate::history::Opened;
+use crate::naming::Naming;
+use crate::session::Session;
+use crate::shared::Shared;
+use std::alloc::Global;
+use std::sync::Wait;
+use std::sync::ledger::{Blank, Share};
+use tfs_journal::Sink;
+use tfs_table::Table;
+
+/// Why a table isn't shared.
+#[derive(Clone, Copy, Debug, PartialEq, Eq)]
+pub enum Cause {
+    /// A request for memory was refused.
+    NoMemory,
+    /// No place was there for a session to read at.
+    NoPlace,
+}
+
+/// A table that wasn't shared, as it was.
+#[derive(Drop)]
+pub struct Unshared<K: Sink> {
+    pub table: Table<K>,
+    pub why: Cause,
+}
+
+/// Shares a table among 1 to 16 sessions, which have seen the table's journal and made no changes. The history and the ledger are new
+/// and have the names of `J`. After an error the table is as it was. It waits for nobody, since nobody reads yet.
+pub fn share<J: Naming, K: Sink, R: Wait>(
+    rt: &R,
+    alloc: Global,
+    table: Table<K>,
+    number: usize,
+    blank: Blank,
+    opened: Opened,
+) -> Result<(Shared<J, K>, Vec<Session<J>>), Unshared<K>>
+    requires number { (1 ≤ number) × (number ≤ 16) }
+    requires sessions { (number ≡ J.sessions) × (J.parts ≡ J.sessions) }
+    requires ledger { (blank.name ≡ J.name) × (blank.parts ≡ J.parts) }
+    requires book { opened ≡ J.book }
+    requires opening { table.journal ≡ J.opening }
+    ensures shared { IfOk result (λ made. made.0 ≡ number) }
+    ensures sessions { IfOk result (λ made. made.1.items ≡ replicate number (record { journal = J.opening; accepted = 0 })) }
+    ensures back { IfErr result (λ unshared. unshared.table ≡ table) }
+{
+    let (history, newest) = opened.named::<J>();
+    let (book, all) = blank.open::<J>();
+    let Ok(board) = Board::new(rt, alloc, &table, history, newest, number) else {
+        let why = Cause::NoMemory;
+        return Err(Unshared { table, why });
+    };
+    match sessions_of(alloc, &board, number, all) {
+        Ok(sessions) => {
+            let opened = table.position();
+            let held = Held::new(table, board, book);
+            Ok((Shared::new(alloc, number, opened, held), sessions))
+        }
+        Err(why) => {
+            board.close(rt);
+            Err(Unshared { table, why })
+        }
+    }
+}
+
+/// As many new sessions as a share has parts.
+fn sessions_of<J: Naming>(
+    alloc: Global,
+    board: &Board<J>,
+    number: usize,
+    all: Share<J>,
+) -> Result<Vec<Session<J>>, Cause>
+    requires parts { all.parts ≡ number }
+    requires amount { all.amount ≡ 0 }
+    ensures value { IfOk result (λ sessions. sessions.items ≡ replicate number (record { journal = board.now.journal; accepted = 0 })) }
+{
+    let mut rest = all;
+    let Ok(mut sessions) = Vec::with_capacity(alloc, number) else {
+        return Err(Cause::NoMemory);
+    };
+    for made in 0..number {
+        let share = rest.split_off(1, 0);
+        let Some(session) = board.session(share) else {
+            return Err(Cause::NoPlace);
+        };
+        let Ok(()) = sessions.push(session) else {
+            return Err(Cause::NoMemory);
+        };
+    }
+    Ok(sessions)
+}

@@ -1,0 +1,107 @@
+//! What sessions are answered one after another.
+
+use super::{Scene, any_of, chain_of, name_of, played, push_of, unlock_of};
+use crate::{Naming, Session, Shared};
+use std::alloc::Global;
+use std::process::Abort;
+use std::sync::Wait;
+use std::test::Fail;
+use tfs_journal::{Discard, MemorySink, Sink};
+use tfs_table::Table;
+
+#[test]
+fn two_sessions_share_a_table(rt: HostRuntime) -> Result<(), Fail> {
+    let table = Table::new(rt.alloc(), Discard).ok().expect(&rt, "a table");
+    assert_eq!(rt; played(&rt, table, 2, Scene::Calls)?, 1);
+    Ok(())
+}
+
+#[test]
+fn a_fault_is_not_published(rt: HostRuntime) -> Result<(), Fail> {
+    let sink = MemorySink::new(rt.alloc(), 4096, 2);
+    let table = Table::new(rt.alloc(), sink).ok().expect(&rt, "a table");
+    assert_eq!(rt; played(&rt, table, 2, Scene::Faults)?, 1);
+    Ok(())
+}
+
+/// One session pushes, and both see it.
+pub(super) fn two_sessions<J: Naming, K: Sink, R: Wait + Abort + Alloc<A = Global>>(
+    rt: &R,
+    shared: &Shared<J, K>,
+    sessions: &mut [Session<J>],
+) -> Result<(), Fail> {
+    let [first, second] = sessions else {
+        assert!(rt; false, "two sessions");
+        return Ok(());
+    };
+    assert!(rt; shared.opened() == 0);
+    pushes(rt, shared, first, 2, Some(1))?;
+    reaches(rt, shared, first, 1)?;
+    pushes(rt, shared, first, 1, None)?;
+    assert!(rt; first.seen() == 1 && second.seen() == 0);
+    let name = name_of(rt, "a")?;
+    let state = chain_of(rt, 2)?;
+    let found = first.state(rt, shared, &name).ok().expect(rt, "a state");
+    assert!(rt; found.bytes() == state.as_bytes());
+    let found = second.state(rt, shared, &name).ok().expect(rt, "a state");
+    assert!(rt; found.bytes() == state.as_bytes());
+    assert!(rt; second.seen() == 1);
+    assert!(rt; first.accepted() == 1 && second.accepted() == 0);
+    Ok(())
+}
+
+/// The sink takes one change, and fails at the next one.
+pub(super) fn a_fault<J: Naming, K: Sink, R: Wait + Abort + Alloc<A = Global>>(
+    rt: &R,
+    shared: &Shared<J, K>,
+    sessions: &mut [Session<J>],
+) -> Result<(), Fail> {
+    let [first, second] = sessions else {
+        assert!(rt; false, "two sessions");
+        return Ok(());
+    };
+    pushes(rt, shared, first, 1, Some(1))?;
+    let fault = first.submit(rt, shared, name_of(rt, "a")?, unlock_of(rt));
+    assert!(rt; fault.err().expect(rt, "a fault").name() == "JournalFault");
+    let stopped = second.submit(rt, shared, name_of(rt, "a")?, unlock_of(rt));
+    assert!(rt; stopped.err().expect(rt, "a refusal").name() == "JournalStopped");
+    reaches(rt, shared, first, 1)?;
+    reaches(rt, shared, second, 1)?;
+    assert!(rt; first.accepted() == 1 && second.accepted() == 0);
+    Ok(())
+}
+
+/// A push of the chain with a serial is answered by a position, or refused, since the serial is too low.
+fn pushes<J: Naming, K: Sink, R: Wait + Abort + Alloc<A = Global>>(
+    rt: &R,
+    shared: &Shared<J, K>,
+    session: &mut Session<J>,
+    serial: u64,
+    position: Option<u64>,
+) -> Result<(), Fail> {
+    let state = chain_of(rt, serial)?;
+    let draft = push_of(rt, state.as_str())?;
+    match session.submit(rt, shared, name_of(rt, "a")?, draft) {
+        Ok(given) => assert!(rt; Some(given) == position, "{given}"),
+        Err(refusal) => assert!(rt; position.is_none() && refusal.name() == "SerialTooLow"),
+    }
+    Ok(())
+}
+
+/// A change of the first instance of the chain reaches the others, at a position.
+pub(super) fn reaches<J: Naming, K: Sink, R: Abort + Alloc<A = Global>>(
+    rt: &R,
+    shared: &Shared<J, K>,
+    session: &mut Session<J>,
+    position: u64,
+) -> Result<(), Fail> {
+    let name = name_of(rt, "a")?;
+    let query = any_of(rt, "t.a")?;
+    let answer = session
+        .impact(shared, &name, &query)
+        .ok()
+        .expect(rt, "an answer");
+    assert!(rt; answer.position == position && session.seen() == position);
+    assert!(rt; answer.chosen.as_slice() == [1, 2].as_slice());
+    Ok(())
+}
