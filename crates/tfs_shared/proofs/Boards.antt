@@ -27,7 +27,8 @@ pub tells_change : (opening : Journal) (copy : CopyView) (newest token : TokenVa
     → change.state ≡ state_of (acts_of change.entry.name (with_entry (journal_after opening newest.changes) change.entry))
     → TellsChange opening copy update change
 tells_change opening copy newest token update change position is book changes next place after at number inside state =
-    let before : journal_after opening newest.changes ≡ journal_after opening copy.token.changes = ap (λ (t : TokenValue). journal_after opening t.changes) (sym is) in
+    let before : journal_after opening newest.changes ≡ journal_after opening copy.token.changes =
+    ap (λ (t : TokenValue). journal_after opening t.changes) (sym is) in
     record {
       same_book = ap (λ (t : TokenValue). t.book) next ∙ (book ∙ ap (λ (t : TokenValue). t.book) (sym is));
       changes = ap (λ (t : TokenValue). t.changes) next ∙ (changes ∙ ap (λ (t : TokenValue). t.changes ++ change ∷ []) (sym is));
@@ -73,7 +74,8 @@ board_prepared book opening newest token shown before after update change positi
     let same : board.copy ≡ shown = cc (board.shows) in
     let none : before ≡ [] = board.queue in
     let newest_is : shown.token ≡ newest = subst (λ (c : CopyView). c.token ≡ newest) same board.newest_is in
-    let tells : TellsChange opening shown update change = tells_change opening shown newest token update change position newest_is same_book changes next place more at number inside state in
+    let tells : TellsChange opening shown update change =
+    tells_change opening shown newest token update change position newest_is same_book changes next place more at number inside state in
     record {
       copy = shown;
       shows = refl;
@@ -83,14 +85,16 @@ board_prepared book opening newest token shown before after update change positi
     }
 
 -- After publishing the copy that is shown has the next token, and nothing is queued.
-pub board_published : (book : Book) (opening : Journal) (newest token : TokenValue) (next : Option TokenValue) (shown after : CopyView) (queued rest : List Operation) (position : ℕ)
-    → IsBoard book opening newest next (Some shown) (Some queued) → next ≡ Some token → ((queues : Queues opening shown queued) → after ≡ updated shown queues.update)
+pub board_published : (book : Book) (opening : Journal) (newest token : TokenValue) (next : Option TokenValue) (shown after : CopyView)
+    (queued rest : List Operation) (position : ℕ) → IsBoard book opening newest next (Some shown) (Some queued) → next ≡ Some token
+    → ((queues : Queues opening shown queued) → after ≡ updated shown queues.update)
     → rest ≡ [] → position ≡ position_of (journal_after opening newest.changes)
     → (position + 1 ≡ position_of (journal_after opening token.changes)) × IsBoard book opening token None (Some after) (Some rest)
 board_published book opening newest token next shown after queued rest position board is shows none at =
     let same : board.copy ≡ shown = cc (board.shows) in
     let queue : (queues : Queues opening shown queued) × (queues.update.token ≡ token) =
-    subst (λ (c : CopyView). IsQueue opening c (Some token) queued) same (subst (λ (n : Option TokenValue). IsQueue opening board.copy n queued) is board.queue) in
+    subst (λ (c : CopyView). IsQueue opening c (Some token) queued) same
+    (subst (λ (n : Option TokenValue). IsQueue opening board.copy n queued) is board.queue) in
     let queues : Queues opening shown queued = queue.0 in
     let newest_is : shown.token ≡ newest = subst (λ (c : CopyView). c.token ≡ newest) same board.newest_is in
     let stands : StandsFor book opening shown = subst (λ (c : CopyView). StandsFor book opening c) same board.stands in

@@ -1,15 +1,14 @@
-//! Sessions of shared tables, by one thread and by several.
+//! Sessions of shared tables.
 
 ghost use Rattle.std.specs.Prelude.{◌≡◌, ◌≤◌};
 
 use crate::{Lack, Naming, Opened, Strangers, gather, share};
-use std::alloc::Global;
+use std::alloc::{AllocError, Global};
 use std::marker::Brand;
 use std::process::Abort;
 use std::sync::Wait;
 use std::sync::ledger::Blank;
 use std::test::Fail;
-use std::thread::Threads;
 use tfs_calls::{Bytes, Draft, Kind, Query, Raw, Text, Texts};
 use tfs_journal::Sink;
 use tfs_rules::Name;
@@ -17,7 +16,16 @@ use tfs_state::MAX_STATE_BYTES;
 use tfs_table::Table;
 
 mod calls;
-mod threads;
+
+/// Resources with one instance each.
+const A: &str =
+    "{\"mode\":\"managed\",\"type\":\"t\",\"name\":\"a\",\"instances\":[{\"dependencies\":[\"x.y\"]}]}";
+
+const B: &str =
+    "{\"mode\":\"managed\",\"type\":\"t\",\"name\":\"b\",\"instances\":[{\"dependencies\":[\"t.a\"]}]}";
+
+const C: &str =
+    "{\"mode\":\"managed\",\"type\":\"t\",\"name\":\"c\",\"instances\":[{\"dependencies\":[\"t.b\"]}]}";
 
 /// What is done with the sessions of a shared table.
 #[derive(Clone, Copy)]
@@ -26,14 +34,10 @@ enum Scene {
     Calls,
     /// The sink fails under two sessions.
     Faults,
-    /// Each session makes a hundred changes in a thread of its own.
-    Changes,
-    /// One session makes a hundred changes, and another one asks meanwhile.
-    Queries,
 }
 
 /// A scene with the sessions of a table, which is gathered afterwards; how many entries it has then.
-fn played<K: Sink + Send + Drop, R: Threads + Wait + Abort + Alloc<A = Global> + Sync>(
+fn played<K: Sink + Drop, R: Wait + Abort + Alloc<A = Global>>(
     rt: &R,
     table: Table<K>,
     number: usize,
@@ -51,11 +55,7 @@ fn played<K: Sink + Send + Drop, R: Threads + Wait + Abort + Alloc<A = Global> +
     )
 }
 
-fn play<
-    J: Naming + Send + Sync,
-    K: Sink + Send + Drop,
-    R: Threads + Wait + Abort + Alloc<A = Global> + Sync,
->(
+fn play<J: Naming, K: Sink + Drop, R: Wait + Abort + Alloc<A = Global>>(
     rt: &R,
     table: Table<K>,
     number: usize,
@@ -74,8 +74,6 @@ fn play<
     let outcome = match scene {
         Scene::Calls => calls::two_sessions(rt, &shared, sessions.as_mut_slice()),
         Scene::Faults => calls::a_fault(rt, &shared, sessions.as_mut_slice()),
-        Scene::Changes => threads::changes(rt, &shared, sessions.as_mut_slice()),
-        Scene::Queries => threads::queries(rt, &shared, sessions.as_mut_slice()),
     };
     let last = sessions.pop().expect(rt, "a session");
     let strangers = gather(rt, shared, sessions).err();
@@ -103,13 +101,13 @@ fn play<
 }
 
 /// A name.
-fn name_of(rt: &(impl Alloc<A = Global> + Abort), text: &str) -> Result<Name, Fail> {
+fn name_of(rt: &(impl Alloc<A = Global> + Abort), text: &str) -> Result<Name, AllocError> {
     let text = String::from_str(rt.alloc(), text)?;
     Ok(Name::read(text).expect(rt, "a name"))
 }
 
 /// The push of a state.
-fn push_of(rt: &(impl Alloc<A = Global> + Abort), state: &str) -> Result<Draft, Fail> {
+fn push_of(rt: &(impl Alloc<A = Global> + Abort), state: &str) -> Result<Draft, AllocError> {
     assert!(rt; state.len() <= MAX_STATE_BYTES);
     let body = Bytes::new(state.as_bytes().to_vec(rt.alloc())?);
     let draft = Draft::read(rt.alloc(), Raw::Push(None, body));
@@ -124,7 +122,7 @@ fn unlock_of(rt: &(impl Alloc<A = Global> + Abort)) -> Draft {
 }
 
 /// A query for what one text reaches.
-fn any_of(rt: &impl Alloc<A = Global>, text: &str) -> Result<Query, Fail> {
+fn any_of(rt: &impl Alloc<A = Global>, text: &str) -> Result<Query, AllocError> {
     let mut texts = Vec::new(rt.alloc());
     texts.push(Text::new(String::from_str(rt.alloc(), text)?))?;
     Ok(Query {
@@ -134,21 +132,8 @@ fn any_of(rt: &impl Alloc<A = Global>, text: &str) -> Result<Query, Fail> {
 }
 
 /// A state with a serial, in which t.b depends on t.a and t.c on t.b.
-fn chain_of(rt: &impl Alloc<A = Global>, serial: u64) -> Result<String, Fail> {
-    let mut text = String::new(rt.alloc());
-    write!(
-        text,
-        "{{\"version\":4,\"serial\":{serial},\"lineage\":\"L1\",\"resources\":["
-    )?;
-    for (name, depends) in [("a", "x.y"), ("b", "t.a"), ("c", "t.b")] {
-        if name != "a" {
-            write!(text, ",")?;
-        }
-        write!(
-            text,
-            "{{\"mode\":\"managed\",\"type\":\"t\",\"name\":\"{name}\",\"instances\":[{{\"dependencies\":[\"{depends}\"]}}]}}"
-        )?;
-    }
-    write!(text, "]}}")?;
-    Ok(text)
+fn chain_of(rt: &impl Alloc<A = Global>, serial: u64) -> Result<String, AllocError> {
+    format!(in rt.alloc();
+        "{{\"version\":4,\"serial\":{serial},\"lineage\":\"L1\",\"resources\":[{A},{B},{C}]}}"
+    )
 }

@@ -30,23 +30,26 @@ pub(super) fn two_sessions<J: Naming, K: Sink, R: Wait + Abort + Alloc<A = Globa
     shared: &Shared<J, K>,
     sessions: &mut [Session<J>],
 ) -> Result<(), Fail> {
-    let [first, second] = sessions else {
-        assert!(rt; false, "two sessions");
-        return Ok(());
-    };
+    assert!(rt; sessions.len() == 2);
     assert!(rt; shared.opened() == 0);
-    pushes(rt, shared, first, 2, Some(1))?;
-    reaches(rt, shared, first, 1)?;
-    pushes(rt, shared, first, 1, None)?;
-    assert!(rt; first.seen() == 1 && second.seen() == 0);
+    pushes(rt, shared, &mut sessions[0], 2, Some(1))?;
+    reaches(rt, shared, &mut sessions[0], 1)?;
+    pushes(rt, shared, &mut sessions[0], 1, None)?;
+    assert!(rt; sessions[0].seen() == 1 && sessions[1].seen() == 0);
     let name = name_of(rt, "a")?;
     let state = chain_of(rt, 2)?;
-    let found = first.state(rt, shared, &name).ok().expect(rt, "a state");
+    let found = sessions[0]
+        .state(rt, shared, &name)
+        .ok()
+        .expect(rt, "a state");
     assert!(rt; found.bytes() == state.as_bytes());
-    let found = second.state(rt, shared, &name).ok().expect(rt, "a state");
+    let found = sessions[1]
+        .state(rt, shared, &name)
+        .ok()
+        .expect(rt, "a state");
     assert!(rt; found.bytes() == state.as_bytes());
-    assert!(rt; second.seen() == 1);
-    assert!(rt; first.accepted() == 1 && second.accepted() == 0);
+    assert!(rt; sessions[1].seen() == 1);
+    assert!(rt; sessions[0].accepted() == 1 && sessions[1].accepted() == 0);
     Ok(())
 }
 
@@ -56,18 +59,15 @@ pub(super) fn a_fault<J: Naming, K: Sink, R: Wait + Abort + Alloc<A = Global>>(
     shared: &Shared<J, K>,
     sessions: &mut [Session<J>],
 ) -> Result<(), Fail> {
-    let [first, second] = sessions else {
-        assert!(rt; false, "two sessions");
-        return Ok(());
-    };
-    pushes(rt, shared, first, 1, Some(1))?;
-    let fault = first.submit(rt, shared, name_of(rt, "a")?, unlock_of(rt));
+    assert!(rt; sessions.len() == 2);
+    pushes(rt, shared, &mut sessions[0], 1, Some(1))?;
+    let fault = sessions[0].submit(rt, shared, name_of(rt, "a")?, unlock_of(rt));
     assert!(rt; fault.err().expect(rt, "a fault").name() == "JournalFault");
-    let stopped = second.submit(rt, shared, name_of(rt, "a")?, unlock_of(rt));
+    let stopped = sessions[1].submit(rt, shared, name_of(rt, "a")?, unlock_of(rt));
     assert!(rt; stopped.err().expect(rt, "a refusal").name() == "JournalStopped");
-    reaches(rt, shared, first, 1)?;
-    reaches(rt, shared, second, 1)?;
-    assert!(rt; first.accepted() == 1 && second.accepted() == 0);
+    reaches(rt, shared, &mut sessions[0], 1)?;
+    reaches(rt, shared, &mut sessions[1], 1)?;
+    assert!(rt; sessions[0].accepted() == 1 && sessions[1].accepted() == 0);
     Ok(())
 }
 
@@ -89,7 +89,7 @@ fn pushes<J: Naming, K: Sink, R: Wait + Abort + Alloc<A = Global>>(
 }
 
 /// A change of the first instance of the chain reaches the others, at a position.
-pub(super) fn reaches<J: Naming, K: Sink, R: Abort + Alloc<A = Global>>(
+fn reaches<J: Naming, K: Sink, R: Abort + Alloc<A = Global>>(
     rt: &R,
     shared: &Shared<J, K>,
     session: &mut Session<J>,
