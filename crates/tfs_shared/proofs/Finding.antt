@@ -1,5 +1,5 @@
 -- What is found of a name among places.
-use Rattle.std.proofs.Common.{◌≡◌, ℕ, ◌+◌, ◌<◌, nat_lt, not, Bool, true, false, ◌||◌, List, [], ◌∷◌, zero, suc, length, map, filter}
+use Rattle.std.proofs.Common.{◌≡◌, ℕ, ◌+◌, ◌<◌, nat_lt, not, Bool, true, false, ◌||◌, List, [], ◌∷◌, zero, suc, length, map}
 use Rattle.std.proofs.Common.{get_or, slice_get, Option, Some, None, option_map, refl, sym, ◌∙◌, ap, subst, IfSome, cond, arith}
 use Rattle.std.specs.List.{position, position_or_len, list_any}
 use Rattle.std.specs.Str.{bytes_eq}

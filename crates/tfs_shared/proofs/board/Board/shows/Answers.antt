@@ -1,7 +1,7 @@
 -- The copy that readers are shown has the newest token.
-use Rattle.std.proofs.Common.{ap, sym, refl, subst, ◌∙◌}
+use Rattle.std.proofs.Common.{ap, sym, subst, ◌∙◌}
 use Rattle.tfs_journal.specs.Journal.{Journal}
-use Rattle.tfs_shared.specs.Change.{journal_after, entries_of}
+use Rattle.tfs_shared.specs.Change.{journal_after}
 use Rattle.tfs_shared.specs.Published.{IsPublished}
 use Rattle.tfs_shared.specs.Token.{TokenValue}
 use Rattle.tfs_shared.specs.View.{BeginsWith}
