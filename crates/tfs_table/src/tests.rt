@@ -9,6 +9,7 @@ use tfs_journal::Sink;
 use tfs_rules::Name;
 use tfs_state::MAX_STATE_BYTES;
 
+mod memory;
 mod opened;
 mod tables;
 mod unlawful;
@@ -38,7 +39,7 @@ fn bytes_of(rt: &impl Alloc<A = Global>, body: &str) -> Result<Bytes, AllocError
 fn draft_of(
     rt: &(impl Alloc<A = Global> + Abort),
     change: Change<'_>,
-) -> Result<Result<Draft, Refusal>, Fail> {
+) -> Result<Result<Draft, Refusal>, AllocError> {
     match change {
         Change::Lock(body) => Ok(Draft::read(rt.alloc(), Raw::Lock(bytes_of(rt, body)?))),
         Change::Unlock(body) => {
@@ -59,7 +60,7 @@ fn draft_of(
 }
 
 /// A name.
-fn name_of(rt: &(impl Alloc<A = Global> + Abort), text: &str) -> Result<Name, Fail> {
+fn name_of(rt: &(impl Alloc<A = Global> + Abort), text: &str) -> Result<Name, AllocError> {
     let text = String::from_str(rt.alloc(), text)?;
     Ok(Name::read(text).expect(rt, "a name"))
 }

@@ -2,7 +2,7 @@
 
 use super::{A, B, Change, S1, S2, draft_of, has_state, is_done, is_refused, name_of, numbered};
 use crate::{OpenFault, Prepared, Table};
-use std::alloc::Global;
+use std::alloc::{AllocError, Global};
 use std::process::Abort;
 use std::test::Fail;
 use tfs_calls::{Kind, Query, Refusal, Text, Texts};
@@ -86,6 +86,8 @@ fn there_are_1024_names(rt: HostRuntime) -> Result<(), Fail> {
     for number in 1..1024 {
         assert!(rt; table.holder(&numbered(&rt, number)?).is_some(), "{number}");
     }
+    let name = table.name(1000).expect(&rt, "a name");
+    assert!(rt; name.text() == "n1000" && table.name(1024).is_none());
     Ok(())
 }
 
@@ -121,12 +123,12 @@ fn the_version_is_of_the_new_state(rt: HostRuntime) -> Result<(), Fail> {
 }
 
 /// Two instances, of which the second depends on the first.
-const TWO: &str = "{\"version\":4,\"serial\":2,\"lineage\":\"L1\",\"resources\":[\
+pub(super) const TWO: &str = "{\"version\":4,\"serial\":2,\"lineage\":\"L1\",\"resources\":[\
 {\"mode\":\"managed\",\"type\":\"t\",\"name\":\"a\",\"instances\":[{}]},\
 {\"mode\":\"managed\",\"type\":\"t\",\"name\":\"b\",\"instances\":[{\"dependencies\":[\"t.a\"]}]}]}";
 
 /// The query for all that a change of one address reaches.
-fn query_of(rt: &(impl Alloc<A = Global> + Abort), text: &str) -> Result<Query, Fail> {
+pub(super) fn query_of(rt: &impl Alloc<A = Global>, text: &str) -> Result<Query, AllocError> {
     let mut texts = Vec::new(rt.alloc());
     texts.push(Text::new(String::from_str(rt.alloc(), text)?))?;
     Ok(Query {
