@@ -30,9 +30,15 @@ fn first_format_of(
     let mut text = b"TFJ1\n".to_vec(rt.alloc())?;
     for requests in conversations {
         let journal = journal_of(rt, requests)?;
-        text.extend_from_slice(&journal.as_slice()[31..])?;
+        let records = journal.as_slice().get(31..);
+        text.extend_from_slice(records.expect(rt, "a header and a base"))?;
     }
     Ok(text)
+}
+
+/// The first bytes, so many of them.
+fn front<'b>(rt: &impl Abort, bytes: &'b [u8], count: usize) -> &'b [u8] {
+    bytes.get(..count).expect(rt, "so many bytes")
 }
 
 /// The bytes are checked with these lines and this status.
@@ -49,7 +55,7 @@ fn records_and_their_end_are_listed(rt: HostRuntime) -> Result<(), Fail> {
     let text = text.as_slice();
     assert_eq!(rt; text.len(), 104);
     expect_lines(&rt, text, "1 push a\n2 lock a\nwhole\n", 0);
-    expect_lines(&rt, &text[..90], "1 push a\ntorn 71\n", 3);
+    expect_lines(&rt, front(&rt, text, 90), "1 push a\ntorn 71\n", 3);
     let mut changed = text.to_vec(rt.alloc())?;
     changed[20] = changed[20] ^ 1;
     expect_lines(&rt, changed.as_slice(), "damaged 5\n", 4);
@@ -80,9 +86,14 @@ fn a_base_is_listed_first(rt: HostRuntime) -> Result<(), Fail> {
     assert_eq!(rt; text.len(), 130);
     let lines = "base 0 0\n1 push a\n2 lock a\nwhole\n";
     expect_lines(&rt, text, lines, 0);
-    expect_lines(&rt, &text[..31], "base 0 0\nwhole\n", 0);
-    expect_lines(&rt, &text[..100], "base 0 0\n1 push a\ntorn 97\n", 3);
-    expect_lines(&rt, &text[..20], "torn 5\n", 3);
+    expect_lines(&rt, front(&rt, text, 31), "base 0 0\nwhole\n", 0);
+    expect_lines(
+        &rt,
+        front(&rt, text, 100),
+        "base 0 0\n1 push a\ntorn 97\n",
+        3,
+    );
+    expect_lines(&rt, front(&rt, text, 20), "torn 5\n", 3);
     let mut changed = text.to_vec(rt.alloc())?;
     changed[99] = changed[99] ^ 1;
     let lines = "base 0 0\n1 push a\ndamaged 97\n";
@@ -109,6 +120,7 @@ fn a_failing_writer_has_a_front_of_the_lines(rt: HostRuntime) -> Result<(), Fail
 #[test]
 fn a_rebased_journal_is_told_by_its_base(rt: HostRuntime) -> Result<(), Fail> {
     let text = first_format_of(&rt, &[&[("POST", S1), ("LOCK", B)]])?;
+    assert_eq!(rt; text.as_slice().len(), 104);
     for (len, line) in [
         (104, "rebased 2 1\n"),
         (90, "rebased 1 1\n"),
@@ -116,7 +128,12 @@ fn a_rebased_journal_is_told_by_its_base(rt: HostRuntime) -> Result<(), Fail> {
         (0, "rebased 0 0\n"),
     ] {
         let mut writer = Vec::new(rt.alloc());
-        let given = run_rebase(rt.alloc(), &text.as_slice()[..len], Discard, &mut writer);
+        let given = run_rebase(
+            rt.alloc(),
+            front(&rt, text.as_slice(), len),
+            Discard,
+            &mut writer,
+        );
         assert!(rt; given == Ok(()), "{line}");
         assert!(rt; writer.as_slice() == line.as_bytes(), "{line}");
     }
@@ -127,7 +144,7 @@ fn a_rebased_journal_is_told_by_its_base(rt: HostRuntime) -> Result<(), Fail> {
     for (bytes, fault) in [
         (unlawful.as_slice(), OpenFault::Unlawful(2)),
         (changed.as_slice(), OpenFault::Damaged(5)),
-        (&second.as_slice()[..20], OpenFault::TornBase),
+        (front(&rt, second.as_slice(), 20), OpenFault::TornBase),
     ] {
         let mut writer = Vec::new(rt.alloc());
         let given = run_rebase(rt.alloc(), bytes, Discard, &mut writer);
