@@ -1,5 +1,6 @@
 pub mod Adding
 pub mod Boards
+pub mod Captures
 pub mod Crossing
 pub mod Finding
 pub mod Places

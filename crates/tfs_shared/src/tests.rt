@@ -1,4 +1,4 @@
-//! Sessions of shared tables.
+//! Sessions of shared tables, by one thread and by several.
 
 ghost use Rattle.std.specs.Prelude.{◌≡◌, ◌≤◌};
 
@@ -9,6 +9,7 @@ use std::process::Abort;
 use std::sync::Wait;
 use std::sync::ledger::Blank;
 use std::test::Fail;
+use std::thread::Threads;
 use tfs_calls::{Bytes, Draft, Kind, Query, Raw, Text, Texts};
 use tfs_journal::Sink;
 use tfs_rules::Name;
@@ -16,6 +17,7 @@ use tfs_state::MAX_STATE_BYTES;
 use tfs_table::Table;
 
 mod calls;
+mod threads;
 
 /// Resources with one instance each.
 const A: &str =
@@ -34,10 +36,14 @@ enum Scene {
     Calls,
     /// The sink fails under two sessions.
     Faults,
+    /// Each session makes a hundred changes in a thread of its own.
+    Changes,
+    /// One session makes a hundred changes, and another one asks meanwhile.
+    Queries,
 }
 
 /// A scene with the sessions of a table, which is gathered afterwards; how many entries it has then.
-fn played<K: Sink + Drop, R: Wait + Abort + Alloc<A = Global>>(
+fn played<K: Sink + Send + Drop, R: Threads + Wait + Abort + Alloc<A = Global> + Sync>(
     rt: &R,
     table: Table<K>,
     number: usize,
@@ -55,7 +61,11 @@ fn played<K: Sink + Drop, R: Wait + Abort + Alloc<A = Global>>(
     )
 }
 
-fn play<J: Naming, K: Sink + Drop, R: Wait + Abort + Alloc<A = Global>>(
+fn play<
+    J: Naming + Send + Sync,
+    K: Sink + Send + Drop,
+    R: Threads + Wait + Abort + Alloc<A = Global> + Sync,
+>(
     rt: &R,
     table: Table<K>,
     number: usize,
@@ -74,6 +84,8 @@ fn play<J: Naming, K: Sink + Drop, R: Wait + Abort + Alloc<A = Global>>(
     let outcome = match scene {
         Scene::Calls => calls::two_sessions(rt, &shared, sessions.as_mut_slice()),
         Scene::Faults => calls::a_fault(rt, &shared, sessions.as_mut_slice()),
+        Scene::Changes => threads::changes(rt, &shared, sessions.as_mut_slice()),
+        Scene::Queries => threads::queries(rt, &shared, sessions.as_mut_slice()),
     };
     let last = sessions.pop().expect(rt, "a session");
     let strangers = gather(rt, shared, sessions).err();

@@ -1,0 +1,11 @@
+-- What a closure borrows may be used by several threads: then so may the closure.
+use mathlib.Core.List.{[], ◌∷◌}
+use mir.Syntax.{Sym}
+use denote.RattleType.{RattleType}
+use denote.Param.Send.{IsSync, recorded_sync, struct_sync}
+use denote.Struct.Declared.{shape}
+use denote.Struct.Tuple.{TupleAt, field_at, type_at}
+
+pub two_sync : (name : Sym) (R S : RattleType) → IsSync R → IsSync S → IsSync (TupleAt name (R ∷ S ∷ []))
+two_sync name R S r s =
+    recorded_sync (field_at name (R ∷ S ∷ [])).row _ _ (type_at name (R ∷ S ∷ [])).to_one (struct_sync (shape (type_at name (R ∷ S ∷ []))) (r, (s, tt)))
