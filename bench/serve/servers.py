@@ -1,0 +1,152 @@
+"""The servers and programs of the benchmark: they are compiled and started here, and ended with all that they wrote."""
+import getpass
+import os
+import select
+import shutil
+import signal
+import socket
+import subprocess
+import sys
+import tempfile
+import time
+from contextlib import ExitStack, contextmanager
+from pathlib import Path
+
+HERE = Path(__file__).resolve().parent
+LOOPBACK = "127.0.0.1"
+WORKERS = 16
+SECONDS = 120
+SOURCES = {
+    "load": ["load.c", "wire.c", "state.c", "md5.c", "samples.c"],
+    "responder": ["responder.c", "wire.c", "state.c"],
+    "work": ["work.c", "md5.c", "json.c", "state.c", "samples.c"],
+}
+
+
+def end_by_signal(number, frame):
+    """Ends the script as by an error, so that what it started is ended too."""
+    sys.exit(f"ended by signal {number}")
+
+
+def free_port():
+    """A port of the loopback that nobody uses at this moment."""
+    with socket.socket() as probe:
+        probe.bind((LOOPBACK, 0))
+        return probe.getsockname()[1]
+
+
+def compiled(folder):
+    """Compiles the C programs into a folder: the line of the compiler."""
+    compiler = shutil.which("cc") or shutil.which("gcc") or shutil.which("clang")
+    if not compiler:
+        sys.exit("a C compiler (cc, gcc or clang) is missing: the load and its peers are written in C")
+    for name, sources in SOURCES.items():
+        words = [compiler, "-std=c11", "-O2", "-Wall", "-Wextra", "-pthread", "-o", str(folder / name)]
+        subprocess.run([*words, *(str(HERE / source) for source in sources)], check=True)
+    return subprocess.run([compiler, "--version"], capture_output=True, text=True, check=True).stdout.splitlines()[0]
+
+
+def ended(process):
+    """Ends a process and those that it started: what it wrote on standard error."""
+    if process.poll() is None:
+        os.killpg(process.pid, signal.SIGKILL)
+    return process.communicate()[1].decode(errors="replace").strip()
+
+
+def wait_for_line(process):
+    """Waits until a server has said where it listens."""
+    if not select.select([process.stdout], [], [], SECONDS)[0] or not process.stdout.readline().startswith(b"listening"):
+        sys.exit(f"{process.args[0]} doesn't listen: {ended(process)}")
+
+
+def is_open(port):
+    """Whether somebody listens at a port within two seconds."""
+    for _ in range(200):
+        with socket.socket() as probe:
+            if not probe.connect_ex((LOOPBACK, port)):
+                return True
+        time.sleep(0.01)
+    return False
+
+
+class Bench:
+    """The compiled programs, the program that is measured, and folders on disk and in memory. All goes at its end."""
+
+    def __init__(self, program, stack):
+        self.program, self.stack = program, stack
+        self.tools = self.folder(None)
+        self.compiler = compiled(self.tools)
+        disk = os.environ.get("TMPDIR") or ("/var/tmp" if os.path.isdir("/var/tmp") else None)
+        self.rooms = {"disk": self.folder(disk)}
+        if os.access("/dev/shm", os.W_OK):
+            self.rooms["memory"] = self.folder("/dev/shm")
+        self.nginx_program = shutil.which("nginx") or shutil.which("nginx", path="/usr/sbin:/usr/local/sbin")
+
+    def folder(self, room):
+        """A folder that goes at the end."""
+        return Path(self.stack.enter_context(tempfile.TemporaryDirectory(prefix="tfstated-bench-", dir=room)))
+
+    def folder_in(self, room):
+        """A folder on disk or in memory, which goes when it is left."""
+        return tempfile.TemporaryDirectory(dir=self.rooms[room])
+
+    def missing(self):
+        """What can't be measured here, a line each."""
+        if "memory" not in self.rooms:
+            yield "/dev/shm is missing: journals lie on disk alone"
+        if not self.nginx_program:
+            yield "nginx is missing: it is left out"
+
+    def tool(self, name, *words):
+        """The numbers that a program prints on one line."""
+        ran = subprocess.run([str(self.tools / name), *map(str, words)], capture_output=True, text=True, timeout=SECONDS, check=False)
+        if ran.returncode:
+            sys.exit(f"{name} {' '.join(map(str, words))}: {ran.stderr.strip() or ran.returncode}")
+        return [float(word) for word in ran.stdout.split()]
+
+    @contextmanager
+    def started(self, words, **how):
+        """A process that is ended with all that it started."""
+        process = subprocess.Popen([str(word) for word in words], stdin=subprocess.DEVNULL, stdout=subprocess.PIPE, stderr=subprocess.PIPE, start_new_session=True, **how)
+        try:
+            yield process
+        finally:
+            ended(process)
+
+    @contextmanager
+    def tfstated(self, room="disk", old=None):
+        """The server with a journal of its own, which goes at the end: its port and its process."""
+        port = free_port()
+        with self.folder_in(room) as folder:
+            words = [self.program, "serve", f"{LOOPBACK}:{port}", WORKERS, f"{folder}/journal", *([old] if old else [])]
+            with self.started(words) as process:
+                wait_for_line(process)
+                yield port, process
+
+    @contextmanager
+    def responder(self, size):
+        """The responder: its port."""
+        port = free_port()
+        with self.started([self.tools / "responder", port, size]) as process:
+            wait_for_line(process)
+            yield port
+
+    @contextmanager
+    def nginx(self, room="disk"):
+        """nginx over files of its own, which go at the end: its port; none where it isn't there or doesn't start."""
+        if not self.nginx_program:
+            yield None
+            return
+        port = free_port()
+        with ExitStack() as stack:
+            folder = Path(stack.enter_context(self.folder_in(room)))
+            (folder / "files" / "state").mkdir(parents=True)
+            user = f"user {getpass.getuser()};" if os.getuid() == 0 else ""
+            settings = (HERE / "nginx.conf").read_text().replace("PORT", str(port), 2).replace("\nUSER\n", f"\n{user}\n")
+            (folder / "nginx.conf").write_text(settings)
+            words = [self.nginx_program, "-p", folder, "-c", folder / "nginx.conf", "-e", folder / "error.log"]
+            process = stack.enter_context(self.started(words))
+            if not is_open(port):
+                print(f"nginx doesn't start and is left out: {ended(process)[-200:]}", flush=True)
+                self.nginx_program = port = None
+            yield port
