@@ -3,7 +3,7 @@
    on a name for each connection or on one), tail (gets on the first connection, posts on the others), fill (one push to each of
    COUNT names), chain (one push of a state of SIZE instances).
    -p PORT, -c CONNECTIONS, -s SECONDS, -n COUNT (of requests, or of lock cycles, at most), -b SIZE (of a state; of a TARGET's answer,
-   where it is known), -m METHOD (of a push), -t TARGET.
+   where it is known), -m METHOD (of a push), -t TARGET, -f SERIAL (the last one before the pushes of `post`).
    It prints how many requests, or cycles, were made, how many in a second, the microseconds of the median and of the 99th of 100,
    those of gets alone for `tail`, and one number more: the bytes of an answer for `get`, how many locks were refused in a second for
    cycles, and the pushes in a second for `tail`. What is made in the first fifth of the time, or the first tenth of COUNT, is left
@@ -26,12 +26,17 @@
 #define HEAD_ROOM 1024
 #define OTHER_FIELDS "Host: 127.0.0.1\r\nUser-Agent: Go-http-client/1.1\r\nAccept-Encoding: gzip\r\n"
 
+#define LOCK_TEXT \
+    "{\"ID\":\"client-%d\",\"Operation\":\"OperationTypeApply\",\"Info\":\"\",\"Who\":\"somebody@somewhere\",\"Version\":\"1.9.0\"," \
+    "\"Created\":\"2026-01-01T00:00:00Z\",\"Path\":\"\"}"
+
 struct connection;
 
 static const char *kind, *method = "POST", *target = "/state/n0";
 static int port, connections = 1;
 static double seconds = 3600;
 static long most = 1000000000;
+static unsigned from = FIRST_SERIAL;
 static size_t size = 1024;
 static void (*once)(struct connection *);
 static atomic_long left;
@@ -83,10 +88,9 @@ static void ask_for(struct connection *to, const char *text, int status) {
 static struct push push_of(const char *path, char *text, size_t body) {
     struct push push = {.bytes = malloc(body + HEAD_ROOM), .body = body};
     if (!push.bytes) fail("no memory", NULL);
-    int head = snprintf(push.bytes, HEAD_ROOM, "%s %s HTTP/1.1\r\n%sContent-Type: application/json\r\nContent-Length: %zu\r\nContent-MD5: ", method, path, OTHER_FIELDS, body);
-    push.sum_at = (size_t)head;
-    push.body_at = push.sum_at + strlen("????????????????????????\r\n\r\n");
-    memcpy(push.bytes + push.sum_at, "????????????????????????\r\n\r\n", push.body_at - push.sum_at);
+    const char *format = "%s %s HTTP/1.1\r\n%sContent-Type: application/json\r\nContent-Length: %zu\r\nContent-MD5: %24s\r\n\r\n";
+    push.body_at = (size_t)snprintf(push.bytes, HEAD_ROOM, format, method, path, OTHER_FIELDS, body, "");
+    push.sum_at = push.body_at - strlen("\r\n\r\n") - 24;
     memcpy(push.bytes + push.body_at, text, body);
     push.length = push.body_at + body;
     push.blocks = before_serial(body) / 64;
@@ -150,7 +154,7 @@ static int is_cycle(void) { return is_kind("own") || is_kind("one"); }
 static void write_texts(struct connection *to, const char *path) {
     char lock[HEAD_ROOM / 2];
     const char *read = is_cycle() ? path : target;
-    snprintf(lock, sizeof lock, "{\"ID\":\"client-%d\",\"Operation\":\"OperationTypeApply\",\"Info\":\"\",\"Who\":\"somebody@somewhere\",\"Version\":\"1.9.0\",\"Created\":\"2026-01-01T00:00:00Z\",\"Path\":\"\"}", to->number);
+    snprintf(lock, sizeof lock, LOCK_TEXT, to->number);
     snprintf(to->get, HEAD_ROOM, "GET %s HTTP/1.1\r\n%s\r\n", read, OTHER_FIELDS);
     snprintf(to->lock, HEAD_ROOM, "LOCK %s HTTP/1.1\r\n%sContent-Length: %zu\r\n\r\n%s", path, OTHER_FIELDS, strlen(lock), lock);
     snprintf(to->unlock, HEAD_ROOM, "UNLOCK %s HTTP/1.1\r\n%sContent-Length: %zu\r\n\r\n%s", path, OTHER_FIELDS, strlen(lock), lock);
@@ -164,7 +168,7 @@ static void prepare(struct connection *to) {
     snprintf(path, sizeof path, "/state/n%d", name);
     snprintf(locked, sizeof locked, "%s?ID=client-%d", path, to->number);
     write_texts(to, path);
-    to->serial = FIRST_SERIAL;
+    to->serial = from;
     if (is_kind("get")) {
         to->length = size;
         return;
@@ -215,7 +219,7 @@ static void print_all(struct connection *all) {
 }
 
 static void read_options(int argc, char **argv) {
-    for (int option; (option = getopt(argc, argv, "p:c:s:n:b:m:t:")) != -1;) switch (option) {
+    for (int option; (option = getopt(argc, argv, "p:c:s:n:b:m:t:f:")) != -1;) switch (option) {
         case 'p': port = atoi(optarg); break;
         case 'c': connections = atoi(optarg); break;
         case 's': seconds = atof(optarg); break;
@@ -223,6 +227,7 @@ static void read_options(int argc, char **argv) {
         case 'b': size = strtoul(optarg, NULL, 10); break;
         case 'm': method = optarg; break;
         case 't': target = optarg; break;
+        case 'f': from = (unsigned)strtoul(optarg, NULL, 10); break;
         default: exit(2);
         }
     if (connections < 1 || connections > MAX_CONNECTIONS) exit(2);
@@ -232,7 +237,8 @@ int main(int argc, char **argv) {
     static const struct {
         const char *name;
         void (*once)(struct connection *);
-    } kinds[] = {{"get", get_once}, {"post", post_once}, {"own", cycle_once}, {"one", cycle_once}, {"tail", tail_once}, {"fill", fill_once}, {"chain", post_once}};
+    } kinds[] = {{"get", get_once},   {"post", post_once}, {"own", cycle_once},  {"one", cycle_once},
+                 {"tail", tail_once}, {"fill", fill_once}, {"chain", post_once}};
     static struct connection all[MAX_CONNECTIONS];
     static pthread_t threads[MAX_CONNECTIONS];
     kind = argc > 1 ? argv[1] : "";

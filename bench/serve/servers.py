@@ -15,7 +15,8 @@ from pathlib import Path
 HERE = Path(__file__).resolve().parent
 LOOPBACK = "127.0.0.1"
 WORKERS = 16
-SECONDS = 120
+SECONDS = 600
+START_SECONDS = 30
 SOURCES = {
     "load": ["load.c", "wire.c", "state.c", "md5.c", "samples.c"],
     "responder": ["responder.c", "wire.c", "state.c"],
@@ -59,9 +60,10 @@ def wait_for_line(process):
         sys.exit(f"{process.args[0]} doesn't listen: {ended(process)}")
 
 
-def is_open(port):
-    """Whether somebody listens at a port within two seconds."""
-    for _ in range(200):
+def is_open(process, port):
+    """Whether a process listens at a port before it ends, and soon."""
+    limit = time.monotonic() + START_SECONDS
+    while process.poll() is None and time.monotonic() < limit:
         with socket.socket() as probe:
             if not probe.connect_ex((LOOPBACK, port)):
                 return True
@@ -105,9 +107,10 @@ class Bench:
         return [float(word) for word in ran.stdout.split()]
 
     @contextmanager
-    def started(self, words, **how):
+    def started(self, words):
         """A process that is ended with all that it started."""
-        process = subprocess.Popen([str(word) for word in words], stdin=subprocess.DEVNULL, stdout=subprocess.PIPE, stderr=subprocess.PIPE, start_new_session=True, **how)
+        ends = {"stdin": subprocess.DEVNULL, "stdout": subprocess.PIPE, "stderr": subprocess.PIPE}
+        process = subprocess.Popen([str(word) for word in words], start_new_session=True, **ends)
         try:
             yield process
         finally:
@@ -146,7 +149,7 @@ class Bench:
             (folder / "nginx.conf").write_text(settings)
             words = [self.nginx_program, "-p", folder, "-c", folder / "nginx.conf", "-e", folder / "error.log"]
             process = stack.enter_context(self.started(words))
-            if not is_open(port):
+            if not is_open(process, port):
                 print(f"nginx doesn't start and is left out: {ended(process)[-200:]}", flush=True)
                 self.nginx_program = port = None
             yield port

@@ -42,6 +42,8 @@ static char *end(struct text *text, size_t size) {
     return text->bytes;
 }
 
+static const char *const values[] = {"\"a value of forty bytes or thereabouts\"", "\"10.0.0.1\"", "10240", "true"};
+
 /* A resource with so many bytes, or a few more, most of them its instance's attributes. */
 static void add_resource(struct text *text, size_t number, size_t size) {
     size_t from = text->length;
@@ -49,7 +51,7 @@ static void add_resource(struct text *text, size_t number, size_t size) {
     add(text, "      \"name\": \"server_%zu\",\n      \"provider\": \"provider[\\\"example.org/acme/acme\\\"]\",\n", number);
     add(text, "      \"instances\": [\n        {\n          \"schema_version\": 1,\n          \"attributes\": {\n");
     for (int k = 0; text->length - from + 130 < size; k++)
-        add(text, "            \"attribute_%d\": %s,\n", k, k % 4 == 3 ? "true" : k % 4 == 2 ? "10240" : "\"a value of forty bytes or thereabouts\"");
+        add(text, "            \"attribute_%d\": %s,\n", k, values[k % 4]);
     add(text, "            \"id\": \"i-%08zx\"\n          },\n          \"sensitive_attributes\": []", number);
     if (number) add(text, ",\n          \"dependencies\": [\n            \"acme_server.server_%zu\"\n          ]", number / 2);
     add(text, "\n        }\n      ]\n    }");
