@@ -12,8 +12,6 @@
 #include "state.h"
 #include "wire.h"
 
-#define SMALLEST_STATE 700
-
 static const char empty[] = "HTTP/1.1 200 OK\r\nContent-Length: 0\r\n\r\n";
 static char *reply;
 static size_t reply_length;

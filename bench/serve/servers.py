@@ -101,9 +101,13 @@ class Bench:
 
     def tool(self, name, *words):
         """The numbers that a program prints on one line."""
-        ran = subprocess.run([str(self.tools / name), *map(str, words)], capture_output=True, text=True, timeout=SECONDS, check=False)
+        command = [str(word) for word in (self.tools / name, *words)]
+        try:
+            ran = subprocess.run(command, capture_output=True, text=True, timeout=SECONDS, check=False)
+        except subprocess.TimeoutExpired:
+            sys.exit(f"{name} {' '.join(command[1:])}: takes more than {SECONDS} seconds")
         if ran.returncode:
-            sys.exit(f"{name} {' '.join(map(str, words))}: {ran.stderr.strip() or ran.returncode}")
+            sys.exit(f"{name} {' '.join(command[1:])}: {ran.stderr.strip() or ran.returncode}")
         return [float(word) for word in ran.stdout.split()]
 
     @contextmanager

@@ -6,7 +6,9 @@
 /* Serials have seven digits, so that all texts of a size have one length. */
 #define FIRST_SERIAL 1000000
 
-/* A state of just that many bytes, at least 700, laid out as Terraform writes it, but that the serial stands last: what comes
+#define SMALLEST_STATE 700
+
+/* A state of just that many bytes, at least the smallest, laid out as Terraform writes it, but that the serial stands last: what comes
    before it stays the same from push to push, and so do the blocks of its MD5. */
 char *state_text(size_t size);
 
