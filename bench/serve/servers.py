@@ -75,7 +75,7 @@ class Bench:
     """The compiled programs, the program that is measured, and folders on disk and in memory. All goes at its end."""
 
     def __init__(self, program, stack):
-        self.program, self.stack = program, stack
+        self.program, self.stack = os.path.abspath(program), stack
         self.tools = self.folder(None)
         self.compiler = compiled(self.tools)
         disk = os.environ.get("TMPDIR") or ("/var/tmp" if os.path.isdir("/var/tmp") else None)
