@@ -11,7 +11,7 @@ LC_ALL=C
 export LC_ALL
 umask 077
 here=$(cd "$(dirname "$0")" && pwd)
-# shellcheck source=journals.sh
+# shellcheck source-path=SCRIPTDIR source=journals.sh
 . "$here/journals.sh"
 
 # Gives the copy that was read its name.

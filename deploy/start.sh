@@ -11,7 +11,7 @@ LC_ALL=C
 export LC_ALL
 umask 077
 here=$(cd "$(dirname "$0")" && pwd)
-# shellcheck source=journals.sh
+# shellcheck source-path=SCRIPTDIR source=journals.sh
 . "$here/journals.sh"
 
 # Makes the first journal: a header alone, which is empty and whole.
@@ -86,11 +86,12 @@ END
     [ -n "$chosen" ] || stop 6 "there is no journal in $folder. If it never had one: $0 --first $folder"
 }
 
-# Ends the start where a journal has changes that the chosen one hasn't got from it: somebody was told that they are kept.
+# Ends the start where a journal has changes that the chosen one hasn't got from it: somebody was told that they are kept. It has
+# them where its base was made later, or where all bytes are its own.
 refuse_parting() {
     while read -r base position file; do
         if [ -z "$file" ] || [ "$file" = "$chosen" ]; then continue; fi
-        [ "$position" -eq "$base" ] || [ "$position" -le "$chosen_base" ] ||
+        [ "$position" -eq "$base" ] || [ "$position" -le "$chosen_base" ] || begins_with "$chosen" "$file" ||
             stop 6 "$file has changes up to position $position, and $chosen goes on from $chosen_base: move one of them away. Nothing is started"
     done <<END
 $journals

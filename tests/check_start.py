@@ -9,26 +9,25 @@ import sys
 from pathlib import Path
 
 from journal_reader import read_journal
-from started import (A, B, COPY, LOCK, NEWEST, PUSH1, PUSH2, PUSH3, REBASED, S1, S2, S3, SHORT, START, Started, all_of, expect_newest, free_port,
-                     fresh, journals, named, run)
+from started import (A, B, COPY, LOCK, NEWEST, PUSH1, PUSH2, PUSH3, REBASED, S1, S2, S3, SHORT, START, Started, all_of, at_once, expect_newest,
+                     free_port, fresh, journals, named, run)
 from stdio_program import PROGRAM, checks_in, expect, run_checks
 
 STEP = r"""#!/bin/sh
-# Runs the command of its own name, and kills the start before or after it where it is the command whose turn it is.
-count=$(($(cat "$STEPS/count") + 1))
-echo "$count" >"$STEPS/count"
-[ "$count-before" != "$TURN" ] || kill -9 0
+# Runs the command of its own name, or kills the start before it where it is the command whose turn it is. The last turn is the server's.
+if [ ! -e "$STEPS/served" ]; then
+    count=$(($(cat "$STEPS/count") + 1))
+    echo "$count" >"$STEPS/count"
+    [ "$count" != "$TURN" ] || kill -9 0
+fi
 case ${0##*/} in
 tfstated) command=$REAL ;;
 *) command=$(PATH=$REST command -v "${0##*/}") ;;
 esac
-[ "${1:-}" != serve ] || exec "$command" "$@"
-PATH=$REST "$command" "$@"
-status=$?
-[ "$count-after" != "$TURN" ] || kill -9 0
-exit "$status"
+[ "${1:-}" != serve ] || : >"$STEPS/served"
+PATH=$REST exec "$command" "$@"
 """
-STEPS = ["tfstated", "mkdir", "mv", "rm", "sync", "flock", "head", "cmp", "wc"]
+STEPS = ["tfstated", "mkdir", "mv", "rm", "sync", "flock", "head", "wc"]  # of a pipeline no more than one
 
 
 def steps():
@@ -88,46 +87,61 @@ def check_every_shell_can_run_it():
         server.kill()
 
 
+def count_of(variables):
+    return int((Path(variables["STEPS"]) / "count").read_text())
+
+
+def left_by_others():
+    """A folder with journals that went before, what a start left that failed in its base, and what one left that was killed."""
+    folder = fresh(n7=SHORT, n8=NEWEST, b9=REBASED, n9=REBASED[:40], b8=SHORT)
+    (folder / f"{named(10)}.part").write_bytes(REBASED[:50])
+    return folder
+
+
+def kill_at(turn):
+    """Kills a start before the command whose turn it is, and starts again."""
+    folder = left_by_others()
+    server = Started(folder, variables={**steps(), "TURN": str(turn)})
+    expect((server.line, server.end()[0]), (b"", -signal.SIGKILL), f"turn {turn}")
+    again = Started(folder)
+    expect_newest(again)
+    again.kill()
+    expect({read_journal(data)[4] for data in journals(folder).values()}, {"whole"}, f"turn {turn}")
+
+
 def check_a_kill_at_each_step_loses_nothing():
-    """The folder has journals that went before, what a start left that failed in its base, and what one left that was killed."""
-    turn, killed = 0, 0
-    while killed == turn:
-        turn += 1
-        for moment in ("before", "after"):
-            folder = fresh(n7=SHORT, n8=NEWEST, b9=REBASED, n9=REBASED[:40], b8=SHORT)
-            (folder / f"{named(10)}.part").write_bytes(REBASED[:50])
-            server = Started(folder, variables={**steps(), "TURN": f"{turn}-{moment}"})
-            if not server.line:
-                expect(server.end()[0], -signal.SIGKILL, f"{turn} {moment}")
-                killed = turn
-            server.kill()
-            again = Started(folder)
-            expect_newest(again)
-            again.kill()
-            expect(all(read_journal(data)[4] == "whole" for data in journals(folder).values()), True, f"{turn} {moment}")
-    expect(turn > 20, True, f"there were {turn} steps")
+    variables = steps()
+    server = Started(left_by_others(), variables={**variables, "TURN": "none"})
+    expect_newest(server)
+    server.kill()
+    turns = count_of(variables)
+    expect(turns > 15, True, f"there are {turns} steps")
+    at_once(kill_at, range(1, turns + 1))
 
 
 def check_a_first_start_that_is_killed_is_done_again():
-    turn, killed = 0, 0
-    while killed == turn:
-        turn += 1
-        for moment in ("before", "after"):
-            folder = fresh()
-            status = run(START, "--first", folder, variables={**steps(), "TURN": f"{turn}-{moment}"}, start_new_session=True)[0]
-            killed = turn if status == -signal.SIGKILL else killed
-            expect(run(START, "--first", folder)[0] in (0, 6), True, f"{turn} {moment}")
-            expect(journals(folder), {1: b"TFJ1\n"}, f"{turn} {moment}")
-    expect(turn > 4, True, f"there were {turn} steps")
+    variables = steps()
+    expect(run(START, "--first", fresh(), variables={**variables, "TURN": "none"})[0], 0)
+    expect(count_of(variables) > 3, True)
+    for turn in range(1, count_of(variables) + 1):
+        folder = fresh()
+        ended = run(START, "--first", folder, variables={**steps(), "TURN": str(turn)}, start_new_session=True)
+        expect(ended[0], -signal.SIGKILL, f"turn {turn}")
+        expect(run(START, "--first", folder)[0] in (0, 6), True, f"turn {turn}")
+        expect(journals(folder), {1: b"TFJ1\n"}, f"turn {turn}")
+
+
+def start_over_a_cut_base(count):
+    """Starts where the start before was killed when it had written so many bytes of the new journal."""
+    folder = fresh(n2=SHORT, n3=NEWEST, b4=REBASED, n4=REBASED[:count])
+    server = Started(folder)
+    expect_newest(server)
+    server.kill()
+    expect((folder / "failed-start").exists(), count < len(REBASED), f"the first {count} bytes")
 
 
 def check_a_start_that_was_killed_while_it_wrote_is_set_aside():
-    for count in range(len(REBASED) + 1):
-        folder = fresh(n2=SHORT, n3=NEWEST, b4=REBASED, n4=REBASED[:count])
-        server = Started(folder)
-        expect_newest(server)
-        server.kill()
-        expect((folder / "failed-start").exists(), count < len(REBASED), f"the first {count} bytes")
+    at_once(start_over_a_cut_base, [*range(8), *range(8, len(REBASED), 7), len(REBASED) - 1, len(REBASED)])
 
 
 def check_starts_that_fail_again_and_again_take_no_more_room():
@@ -141,55 +155,67 @@ def check_starts_that_fail_again_and_again_take_no_more_room():
     expect_newest(Started(folder, port=port))
 
 
+def refused_start(case):
+    """A start over journals of which that of number 4 can't be gone on with: it ends with a status, and changes nothing."""
+    about, files, wanted = case
+    folder = fresh(**files)
+    before = all_of(folder)
+    status, errors = run(START, folder)
+    expect((status, named(4) in errors), (wanted, True), f"{about}: {errors}")
+    expect(all_of(folder), before, f"{about}: nothing is changed")
+
+
 def check_what_cant_be_gone_on_with_stops_the_start():
     changed = NEWEST[:60] + bytes([NEWEST[60] ^ 1]) + NEWEST[61:]
     late = NEWEST[:-1] + bytes([NEWEST[-1] ^ 1])
-    table = [("a base", changed, 4), ("the last record", late, 4), ("a header", b"TFJ3\n", 4), ("a lower serial", NEWEST + PUSH1, 5),
+    table = [("a base", changed, 4), ("the last record", late, 4), ("a header", b"TFJ3\n", 4), ("a lower serial", SHORT + PUSH2 + PUSH1, 5),
              ("a write without the lock", NEWEST + PUSH3, 5), ("part of a base", NEWEST[:50], 3), ("no bytes", b"", 3), ("part of a header", b"TF", 3)]
-    for about, data, wanted in table:
-        for files in ({"n4": data}, {"n3": SHORT, "n4": data}, {"n3": SHORT, "n4": data, "n5": REBASED}, {"n3": SHORT, "n4": data, "b4": SHORT[:-1]}):
-            folder = fresh(**files)
-            before = all_of(folder)
-            status, errors = run(START, folder)
-            expect((status, named(4) in errors), (wanted, True), f"{about}: {errors}")
-            expect(all_of(folder), before, f"{about}: nothing is changed")
+    others = [{}, {"n3": SHORT}, {"n3": SHORT, "n5": REBASED}, {"n3": SHORT, "b4": b"TFJ1\n" + SHORT[5:]}]
+    cases = [(about, {**other, "n4": data}, wanted) for about, data, wanted in table for other in others]
+    at_once(refused_start, [case for case in cases if not ("b4" in case[1] and case[1]["b4"].startswith(case[1]["n4"]))])
 
 
-def check_each_bit_of_the_newest_journal():
-    """Each byte's lowest bit is turned: the start ends, or, where a length now reaches over the end, nothing before it is missing."""
-    for place in range(len(NEWEST)):
-        data = NEWEST[:place] + bytes([NEWEST[place] ^ 1]) + NEWEST[place + 1 :]
-        folder = fresh(n3=SHORT, n4=data)
-        if read_journal(data)[4].startswith("damaged"):
-            expect(run(START, folder)[0], 4, f"byte {place}")
-        elif read_journal(data)[4] == "torn 5":
-            expect(run(START, folder)[0], 3, f"byte {place}")
-        else:
-            server = Started(folder).listens()
-            kept = [fields[-1] for kind, _, fields in read_journal(data)[3] if kind == "push"]
-            expect(server.ask("GET", "/state/a"), (200, (kept or [S1])[-1]), f"byte {place}")
-            server.kill()
-            expect((folder / f"{named(4)}.tfj").read_bytes(), data, "the old file stays")
+def start_over_a_changed_byte(place):
+    """Turns a byte's lowest bit: the start ends, or, where a length now reaches over the end, nothing before it is missing."""
+    data = NEWEST[:place] + bytes([NEWEST[place] ^ 1]) + NEWEST[place + 1 :]
+    folder, (_, _, _, entries, end) = fresh(n3=SHORT, n4=data), read_journal(data)
+    if end.startswith("damaged") or end == "torn 5":
+        expect(run(START, folder)[0], 3 if end == "torn 5" else 4, f"byte {place}")
+        return
+    server = Started(folder).listens()
+    kept = [fields[-1] for kind, _, fields in entries if kind == "push"]
+    expect(server.ask("GET", "/state/a"), (200, (kept or [S1])[-1]), f"byte {place}")
+    server.kill()
+    expect((folder / f"{named(4)}.tfj").read_bytes(), data, "the old file stays")
+
+
+def check_changed_bytes_of_the_newest_journal():
+    ends = range(len(SHORT), len(SHORT) + 7), range(len(NEWEST) - len(LOCK), len(NEWEST) - len(LOCK) + 7)
+    at_once(start_over_a_changed_byte, [*range(0, len(NEWEST), 9), *ends[0], *ends[1]])
+
+
+def start_over_a_torn_end(count):
+    folder = fresh(n3=NEWEST[:count])
+    server = Started(folder).listens()
+    expect(server.ask("GET", "/state/a"), (200, S2), f"{count} bytes")
+    expect(server.ask("LOCK", "/state/a", A), (200, b""), "the lock that was torn was never acknowledged")
+    server.kill()
 
 
 def check_a_torn_end_is_left_out():
-    for count in range(len(NEWEST) - len(LOCK) + 1, len(NEWEST)):
-        folder = fresh(n3=NEWEST[:count])
-        server = Started(folder).listens()
-        expect(server.ask("GET", "/state/a"), (200, S2), f"{count} bytes")
-        expect(server.ask("LOCK", "/state/a", A), (200, b""), "the lock that was torn was never acknowledged")
-        server.kill()
+    at_once(start_over_a_torn_end, range(len(NEWEST) - len(LOCK) + 1, len(NEWEST), 4))
 
 
 def check_two_journals_that_part_stop_the_start():
-    for other, wanted in [(SHORT + PUSH2 + PUSH3, 6), (SHORT + PUSH2, 6)]:
-        folder = fresh(n3=other, n4=NEWEST)
-        before = all_of(folder)
-        expect(run(START, folder)[0], wanted, "both went on from one place")
-        expect(all_of(folder), before, "nothing is changed")
-    folder = fresh(n3=NEWEST, n4=SHORT)
-    expect_newest(Started(folder))
-    expect(named(4) in " ".join(all_of(folder)), False, "one without a change is the beginning of the other")
+    folder = fresh(n3=SHORT + PUSH2 + PUSH3, n4=NEWEST)
+    before = all_of(folder)
+    status, errors = run(START, folder)
+    expect((status, "Nothing is started" in errors), (6, True), f"both went on from one place: {errors}")
+    expect(all_of(folder), before, "nothing is changed")
+    for other in (SHORT, SHORT + PUSH2, NEWEST):
+        folder = fresh(n3=NEWEST, n4=other)
+        expect_newest(Started(folder))
+        expect(len(journals(folder)), 2, "one that is the beginning of the other isn't needed")
 
 
 def check_names_of_others_stop_the_start():

@@ -1,4 +1,5 @@
 """Runs the scripts of deploy/ on folders of their own, and asks the servers that they start."""
+import concurrent.futures
 import http.client
 import os
 import signal
@@ -13,7 +14,7 @@ from stdio_program import PROGRAM, S1, S2, SECONDS, TOP, Talk, expect
 FOLDER = tempfile.TemporaryDirectory(prefix="tfstated-")
 START, COPY = str(TOP / "deploy" / "start.sh"), str(TOP / "deploy" / "copy.sh")
 LOOPBACK = "127.0.0.1"
-NUMBER = iter(range(10**6))
+NUMBER, GIVEN = iter(range(10**6)), set()
 A, B = b'{"ID":"A" ,"Who":""}', b'{"ID":"B"}'
 S3 = S1.replace(b"1 ", b"3 ")
 PUSH1, PUSH2, PUSH3 = (record_text(3, b"a", push_content(b"", text)) for text in (S1, S2, S3))
@@ -48,10 +49,20 @@ def all_of(folder):
 
 
 def free_port():
-    """A port of the loopback that nobody uses at this moment."""
-    with socket.socket() as probe:
-        probe.bind((LOOPBACK, 0))
-        return probe.getsockname()[1]
+    """A port of the loopback that nobody uses at this moment, and that this didn't give before."""
+    while True:
+        with socket.socket() as probe:
+            probe.bind((LOOPBACK, 0))
+            port = probe.getsockname()[1]
+        if port not in GIVEN:
+            GIVEN.add(port)
+            return port
+
+
+def at_once(work, cases):
+    """Does the work of each case, of a few at once; fails where one does."""
+    with concurrent.futures.ThreadPoolExecutor(8) as pool:
+        return list(pool.map(work, cases))
 
 
 def surroundings(**variables):

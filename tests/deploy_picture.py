@@ -1,0 +1,58 @@
+"""Checks the picture of a state and of the answer to an impact query: the example of docs/PICTURE.md, and odd addresses."""
+import shutil
+import subprocess
+import sys
+import tempfile
+from pathlib import Path
+
+from picture import picture
+from stdio_program import TOP, checks_in, expect, run, run_checks
+
+PAGE = (TOP / "docs" / "PICTURE.md").read_text()
+
+
+def block(title):
+    """The text of the block of the page that comes after a line."""
+    return PAGE.split(title, 1)[1].split("```", 2)[1].split("\n", 1)[1]
+
+
+def answered(text, query):
+    """The body of the program's answer to a query over a state."""
+    body = text.encode()
+    push = b"POST /state/a HTTP/1.1\r\nHost: h\r\nContent-Length: %d\r\n\r\n" % len(body) + body
+    output = run(push + f"GET /impact/a/any?{query} HTTP/1.1\r\nHost: h\r\n\r\n".encode())[0]
+    return output.rsplit(b"\r\n\r\n", 1)[1].decode()
+
+
+def check_the_example_of_the_page():
+    state, answer, drawn = block("The state `state.json`"), block("The answer `answer.json`"), block("The picture `picture.dot`")
+    expect(answered(state, "of=aws_vpc.main"), answer.strip(), "what the program answers")
+    with tempfile.TemporaryDirectory(prefix="tfstated-") as folder:
+        paths = [Path(folder) / "state.json", Path(folder) / "answer.json"]
+        for path, text in zip(paths, (state, answer)):
+            path.write_text(text)
+        made = subprocess.run([sys.executable, TOP / "tests" / "picture.py", *paths], capture_output=True, check=True).stdout.decode()
+    expect(made, drawn)
+
+
+def check_odd_addresses_are_drawn():
+    resource = {"mode": "data", "type": "t", "name": "a", "module": 'module.m["x.\\"y"]', "instances": [{"index_key": 'q"\n\\'}, {"index_key": 1}]}
+    other = {"mode": "managed", "type": "t", "name": "b", "instances": [{"dependencies": ["module.m.data.t.a", "t.none"], "deposed": "d"}]}
+    lines = list(picture({"resources": [resource, other]}, {"instances": ["t.b (deposed d)"]}))
+    expect(sum("->" in line for line in lines), 2, lines)
+    expect('  "t.b (deposed d)" [fillcolor=orange];' in lines, True, lines)
+    if shutil.which("dot"):
+        subprocess.run(["dot", "-Tsvg"], input="\n".join(lines).encode(), capture_output=True, check=True)
+
+
+def check_an_answer_of_another_state_is_refused():
+    try:
+        list(picture({}, {"instances": ["t.a"]}))
+    except ValueError as fault:
+        expect("t.a" in str(fault), True)
+        return
+    raise AssertionError("it is drawn")
+
+
+if __name__ == "__main__":
+    sys.exit(run_checks(checks_in(globals())))
