@@ -1,6 +1,6 @@
 # What a developer runs. `make` alone lists it.
 
-ifneq ($(filter-out help lint,$(MAKECMDGOALS)),)
+ifneq ($(filter-out help lint $(if $(TFSTATED),serve deploy-test),$(MAKECMDGOALS)),)
 ifeq ($(shell command -v rt 2>/dev/null),)
 $(error the command rt of the Rattle kit is missing: put the kit's folder bin on the PATH)
 endif
@@ -9,19 +9,24 @@ endif
 # Stops a target that needs a crate where CRATE names none.
 crate = $(if $(and $(CRATE),$(wildcard crates/$(CRATE)/src)),,$(error name a crate of crates/, as in: make $@ CRATE=tfs_rules))
 
-.PHONY: help run test check edits blackbox bench lint
+.PHONY: help run serve test check edits blackbox deploy-test bench lint
 
 help:
 	@echo 'make run                       build the program out of proved crates and run its main job'
+	@echo 'make serve                     serve on 127.0.0.1:8080, with journals in ./journal/, until it is stopped'
 	@echo 'make test                      prove and test everything from nothing; docs/GATE.md says how long it takes'
 	@echo 'make check CRATE=tfs_rules     prove one crate, over what earlier runs proved'
 	@echo 'make edits CRATE=tfs_rules     try the must-fail edits of one crate; one of them with EDIT=name'
 	@echo 'make blackbox                  check the built program from outside; one check with CHECK=locks'
+	@echo 'make deploy-test               test starts, standbys and nginx as deploy/ has them; nginx has to be installed'
 	@echo 'make bench                     run the benchmarks; one of them with BENCH=planes'
 	@echo 'make lint                      look for faults in Python and shell files, without running them'
 
 run:
 	@python3 tests/main_job.py
+
+serve:
+	@exec python3 tests/serve.py $(ADDRESS) $(WORKERS)
 
 test:
 	@python3 tests/gate.py
@@ -34,6 +39,9 @@ edits:
 
 blackbox:
 	@python3 tests/blackbox.py $(CHECK)
+
+deploy-test:
+	@python3 tests/deploy.py
 
 bench:
 	@python3 tests/bench.py $(BENCH)

@@ -30,7 +30,7 @@ take_lock() {
         exec 9>lock
         flock -n 9 || stop 1 "another start, server or copy holds the lock of $folder"
     elif [ "${TFSTATED_UNLOCKED:-}" != yes ]; then
-        stop 6 "there is no command flock. TFSTATED_UNLOCKED=yes goes on without a lock: two servers on one folder may then lose changes"
+        stop 6 "there is no command flock. TFSTATED_UNLOCKED=yes goes on without: two servers on one folder may then lose changes"
     fi
 }
 
@@ -56,8 +56,8 @@ begins_with() {
     head -c "$((size))" "$1" | cmp -s - "$2"
 }
 
-# Reads a journal by `check`: $base is the position of its base, $position that of its last record, and $end is `whole`, `torn`,
-# `torn-base` (its base isn't whole, or not even its header), `damaged`, `unlawful` or `unread`; $line is the last line of `check`.
+# Reads a journal by `check`: $base is the position of its base, $position that of its last record, $end is `whole`, `torn`,
+# `torn-base` (its base or its header isn't whole), `damaged`, `unlawful` or `unread`; $line is the last line of `check`.
 read_journal() {
     base=0 records=0 end=unread line=
     eval "$("$program" check "$1" </dev/null | awk '

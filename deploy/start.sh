@@ -92,14 +92,14 @@ refuse_parting() {
     while read -r base position file; do
         if [ -z "$file" ] || [ "$file" = "$chosen" ]; then continue; fi
         [ "$position" -eq "$base" ] || [ "$position" -le "$chosen_base" ] || begins_with "$chosen" "$file" ||
-            stop 6 "$file has changes up to position $position, and $chosen goes on from $chosen_base: move one of them away. Nothing is started"
+            stop 6 "$file has changes up to $position, and $chosen goes on from $chosen_base: move one away. Nothing is started"
     done <<END
 $journals
 END
 }
 
-# Clears the folder of what isn't needed for the start: journals that the chosen one goes on from are kept in the folder `old`, and
-# one of whose bytes it has all is no more than a copy of its beginning.
+# Clears the folder of what isn't needed for the start: journals that the chosen one goes on from are kept in the folder `old`; one
+# of whose bytes it has all is no more than a copy of its beginning.
 put_away() {
     mkdir -p old
     while read -r base position file; do

@@ -1,5 +1,6 @@
-"""Runs the start script of deploy/ on folders of journals: kills at each step of a start, and files that are torn, damaged, unlawful or
-on a full disk. No change that was acknowledged may be missing afterwards, and nothing that a person has to look at is passed over."""
+"""Runs the start script of deploy/ on folders of journals: kills at each step of a start, and files that are torn, damaged,
+unlawful or on a full disk. No change that was acknowledged may be missing afterwards, and nothing is passed over that a person has to look
+at."""
 import os
 import resource
 import shutil
@@ -9,12 +10,12 @@ import sys
 from pathlib import Path
 
 from journal_reader import read_journal
-from started import (A, B, COPY, LOCK, NEWEST, PUSH1, PUSH2, PUSH3, REBASED, S1, S2, S3, SHORT, START, Started, all_of, at_once, expect_newest,
-                     free_port, fresh, journals, named, run)
+from started import (A, B, COPY, LOCK, NEWEST, PUSH1, PUSH2, PUSH3, REBASED, S1, S2, S3, SHORT, START, Started, all_of, at_once,
+                     expect_newest, free_port, fresh, journals, named, run)
 from stdio_program import PROGRAM, checks_in, expect, run_checks
 
 STEP = r"""#!/bin/sh
-# Runs the command of its own name, or kills the start before it where it is the command whose turn it is. The last turn is the server's.
+# Runs the command of its own name, or kills the start before it where its turn is asked for. The last turn is the server's.
 if [ ! -e "$STEPS/served" ]; then
     count=$(($(cat "$STEPS/count") + 1))
     echo "$count" >"$STEPS/count"
@@ -168,8 +169,9 @@ def refused_start(case):
 def check_what_cant_be_gone_on_with_stops_the_start():
     changed = NEWEST[:60] + bytes([NEWEST[60] ^ 1]) + NEWEST[61:]
     late = NEWEST[:-1] + bytes([NEWEST[-1] ^ 1])
-    table = [("a base", changed, 4), ("the last record", late, 4), ("a header", b"TFJ3\n", 4), ("a lower serial", SHORT + PUSH2 + PUSH1, 5),
-             ("a write without the lock", NEWEST + PUSH3, 5), ("part of a base", NEWEST[:50], 3), ("no bytes", b"", 3), ("part of a header", b"TF", 3)]
+    table = [("a base", changed, 4), ("the last record", late, 4), ("a header", b"TFJ3\n", 4),
+             ("a lower serial", SHORT + PUSH2 + PUSH1, 5), ("a write without the lock", NEWEST + PUSH3, 5),
+             ("part of a base", NEWEST[:50], 3), ("no bytes", b"", 3), ("part of a header", b"TF", 3)]
     others = [{}, {"n3": SHORT}, {"n3": SHORT, "n5": REBASED}, {"n3": SHORT, "b4": b"TFJ1\n" + SHORT[5:]}]
     cases = [(about, {**other, "n4": data}, wanted) for about, data, wanted in table for other in others]
     at_once(refused_start, [case for case in cases if not ("b4" in case[1] and case[1]["b4"].startswith(case[1]["n4"]))])

@@ -1,5 +1,5 @@
-"""Runs the tests of deploy/: those of the start script, of copies and standbys, and of nginx, which has to be installed. The last line is
-`N passed, M failed`."""
+"""Runs the tests of deploy/: those of the start script, of copies and standbys, and of nginx, which has to be installed, and of
+Terraform, where it is. The last line is `N passed, M failed`."""
 import shutil
 import sys
 
@@ -7,14 +7,19 @@ from gate import Screen, run, script
 from repository import TOP
 
 TESTS = ["check_start.py", "deploy_standby.py", "deploy_picture.py", "deploy_nginx.py"]
+OF_TERRAFORM = "deploy_terraform.py"
 
 
 def main():
     missing = [name for name in ("nginx", "openssl") if not shutil.which(name)]
     if missing:
         sys.exit(f"deploy-test: {' and '.join(missing)} isn't installed")
-    screen = Screen()
-    passed, failed = map(sum, zip(*(run(script(TOP / "tests" / name), screen)[0] for name in TESTS)))
+    screen, tests = Screen(), list(TESTS)
+    if shutil.which("terraform"):
+        tests.append(OF_TERRAFORM)
+    else:
+        screen.show(f"terraform isn't installed: {OF_TERRAFORM} is left out")
+    passed, failed = map(sum, zip(*(run(script(TOP / "tests" / name), screen)[0] for name in tests)))
     print(f"{passed} passed, {failed} failed", flush=True)
     return 1 if failed else 0
 

@@ -1,5 +1,5 @@
-"""Runs the setup of deploy/ with a real nginx: TLS, passwords, bodies of 16 MiB, locks, bodies in chunks, clients that are slow, and names
-that are spread over two servers. Where nginx or openssl isn't installed it says so in one line and fails."""
+"""Runs the setup of deploy/ with a real nginx: TLS, passwords, locks, bodies of 16 MiB and in chunks, clients that are slow, and
+names that are spread over two servers. Where nginx or openssl isn't installed it says so in one line and fails."""
 import base64
 import contextlib
 import hashlib
@@ -55,7 +55,8 @@ def make_secrets():
     """A certificate of this machine, its key, and a file of passwords."""
     subject = ["-subj", "/CN=tfstated.example.com", "-addext", f"subjectAltName=IP:{LOOPBACK}"]
     files = ["-keyout", ROOM / "key.pem", "-out", ROOM / "certificate.pem"]
-    quiet("openssl", "req", "-x509", "-newkey", "ec", "-pkeyopt", "ec_paramgen_curve:prime256v1", "-nodes", "-days", "2", *subject, *files)
+    key = ["-newkey", "ec", "-pkeyopt", "ec_paramgen_curve:prime256v1", "-nodes"]
+    quiet("openssl", "req", "-x509", *key, "-days", "2", *subject, *files)
     line = f"{USER}:{quiet('openssl', 'passwd', '-6', PASSWORD).decode()}"
     (ROOM / "passwords").write_text(line)
 
@@ -151,7 +152,8 @@ def check_passwords_are_asked_for_over_tls():
 
 def check_changes_locks_and_queries_pass():
     with served() as (server, proxy):
-        resources = [{"mode": "managed", "type": "t", "name": name, "instances": [{"dependencies": needs}]} for name, needs in (("a", []), ("b", ["t.a"]))]
+        resources = [{"mode": "managed", "type": "t", "name": name, "instances": [{"dependencies": needs}]}
+                     for name, needs in (("a", []), ("b", ["t.a"]))]
         text = json.dumps({"version": 4, "serial": 1, "lineage": "L1", "resources": resources}).encode()
         table = [
             ("LOCK", "/state/a", A, (200, b"")), ("LOCK", "/state/a", B, (423, A)), ("POST", "/state/a", text, (423, A)),
@@ -159,7 +161,8 @@ def check_changes_locks_and_queries_pass():
             ("GET", "/impact/a/any?of=t.a", None, (200, b'{"instances":["t.b"],"position":2,"serial":1}')),
             ("GET", "/impact/a/all?" + "&".join(["of=t." + "n" * 120] * 64), None, (404, b'{"error":"UnknownAddress"}')),
             ("UNLOCK", "/state/a", B, (423, A)), ("UNLOCK", "/state/a", A, (200, b"")), ("LOCK", "/state/a", A, (200, b"")),
-            ("UNLOCK", "/state/a", b"", (200, b"")), ("DELETE", "/state/a", None, (200, b"")), ("GET", "/state/a", None, (404, b'{"error":"NoState"}')),
+            ("UNLOCK", "/state/a", b"", (200, b"")), ("DELETE", "/state/a", None, (200, b"")),
+            ("GET", "/state/a", None, (404, b'{"error":"NoState"}')),
             ("GET", "/state/a%20b", None, (400, b'{"error":"BadName"}')), ("GET", "/state//a", None, (404, b'{"error":"NoRoute"}')),
             ("PUT", "/state/a", S1, (405, b'{"error":"MethodNotAllowed"}')), ("HEAD", "/state/a", None, (405, b"")),
         ]
@@ -184,7 +187,7 @@ def check_bodies_in_chunks_pass():
     with served() as (server, proxy):
         largest = state_of(MAX_BODY)
         table = [("one", [S1], S1), ("each byte", [bytes([byte]) for byte in S1], S1),
-                 ("70,000 chunks, more than the server takes", [state_of(70000)[place : place + 1] for place in range(70000)], state_of(70000)),
+                 ("70,000 chunks, more than the server takes", [bytes([byte]) for byte in state_of(70000)], state_of(70000)),
                  ("the largest", [largest[place : place + 65536] for place in range(0, MAX_BODY, 65536)], largest)]
         for number, (about, pieces, text) in enumerate(table):
             expect(proxy.ask("POST", f"/state/a{number}", iter(pieces)), (200, b""), about)

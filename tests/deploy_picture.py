@@ -25,19 +25,22 @@ def answered(text, query):
 
 
 def check_the_example_of_the_page():
-    state, answer, drawn = block("The state `state.json`"), block("The answer `answer.json`"), block("The picture `picture.dot`")
+    state, answer, drawn = map(block, ("The state `state.json`", "The answer `answer.json`", "The picture `picture.dot`"))
     expect(answered(state, "of=aws_vpc.main"), answer.strip(), "what the program answers")
     with tempfile.TemporaryDirectory(prefix="tfstated-") as folder:
         paths = [Path(folder) / "state.json", Path(folder) / "answer.json"]
         for path, text in zip(paths, (state, answer)):
             path.write_text(text)
-        made = subprocess.run([sys.executable, TOP / "tests" / "picture.py", *paths], capture_output=True, check=True).stdout.decode()
+        words = [sys.executable, TOP / "tests" / "picture.py", *paths]
+        made = subprocess.run(words, capture_output=True, check=True).stdout.decode()
     expect(made, drawn)
 
 
 def check_odd_addresses_are_drawn():
-    resource = {"mode": "data", "type": "t", "name": "a", "module": 'module.m["x.\\"y"]', "instances": [{"index_key": 'q"\n\\'}, {"index_key": 1}]}
-    other = {"mode": "managed", "type": "t", "name": "b", "instances": [{"dependencies": ["module.m.data.t.a", "t.none"], "deposed": "d"}]}
+    instances = [{"index_key": 'q"\n\\'}, {"index_key": 1}]
+    resource = {"mode": "data", "type": "t", "name": "a", "module": 'module.m["x.\\"y"]', "instances": instances}
+    instance = {"dependencies": ["module.m.data.t.a", "t.none"], "deposed": "d"}
+    other = {"mode": "managed", "type": "t", "name": "b", "instances": [instance]}
     lines = list(picture({"resources": [resource, other]}, {"instances": ["t.b (deposed d)"]}))
     expect(sum("->" in line for line in lines), 2, lines)
     expect('  "t.b (deposed d)" [fillcolor=orange];' in lines, True, lines)

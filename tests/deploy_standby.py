@@ -1,4 +1,4 @@
-"""Copies the journal of a server in the middle of writes by the script of deploy/, kills the server, and starts another one from the
+"""Copies the journal of a server in the middle of writes by the script of deploy/, kills the server, and starts another from the
 copy: it has all that was acknowledged before the last copy began, and goes on."""
 import http.client
 import json
@@ -34,8 +34,9 @@ class Writers:
 
     def __init__(self, server, acknowledged):
         self.acknowledged = acknowledged
-        self.threads = [threading.Thread(target=push_on, args=(server.port, f"n{number}", acknowledged, acknowledged.get(f"n{number}", 0) + 1))
-                        for number in range(3)]
+        firsts = {f"n{number}": acknowledged.get(f"n{number}", 0) + 1 for number in range(3)}
+        cases = [(server.port, name, acknowledged, first) for name, first in firsts.items()]
+        self.threads = [threading.Thread(target=push_on, args=case) for case in cases]
         for thread in self.threads:
             thread.start()
 
@@ -73,7 +74,7 @@ def check_a_standby_takes_over_from_a_copy():
         second = Started(second_folder).listens()
         found = {name: serial_at(second, name) for name in before}
         for name, serial in before.items():
-            expect(found[name] >= serial, True, f"turn {turn}: {name} has {found[name]}, {serial} was acknowledged before the copy")
+            expect(found[name] >= serial, True, f"turn {turn}: {name} has {found[name]}; acknowledged before the copy: {serial}")
             expect(found[name] <= acknowledged[name] + 1, True, f"turn {turn}: {name} has no more than was asked for")
         again = Writers(second, found)
         again.wait_for(3)

@@ -19,7 +19,8 @@ def arrows(instances):
     named = {}
     for instance in instances:
         named.setdefault(instance.configuration, []).append(instance.address)
-    return [(needed, instance.address) for instance in instances for text in sorted(instance.dependencies) for needed in named.get(text, [])]
+    needs = [(text, instance.address) for instance in instances for text in sorted(instance.dependencies)]
+    return [(needed, address) for text, address in needs for needed in named.get(text, [])]
 
 
 def picture(state, answer=None):

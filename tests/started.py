@@ -25,7 +25,7 @@ REBASED = b"TFJ2\n" + base_text(3, [(b"a", B, S2)])
 
 
 def fresh(**files):
-    """A folder that no check has used, with journals in it: `n3` is the journal of number 3, `b3` the base that it was made from."""
+    """A folder that no check has used, with journals in it: `n3` is the journal of number 3, `b3` its file `.base`."""
     folder = Path(FOLDER.name) / f"folder-{next(NUMBER)}"
     folder.mkdir()
     for name, content in files.items():
