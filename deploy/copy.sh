@@ -4,8 +4,8 @@
 #   copy.sh FROM TO
 #
 # A copy is read by `check` before it takes its name in TO, and never replaces one that isn't the beginning of it. Status: 0; 3
-# where no journal has a whole base; 4 or 5 where the newest one is damaged or unlawful; 6 where TO has another one of that name; 1
-# or 2 otherwise. TO keeps what it had where the status isn't 0.
+# where no journal has a whole base; 4 or 5 where the newest one is damaged or unlawful; 6 where TO has another one of that
+# name; 1 or 2 otherwise. TO keeps what it had where the status isn't 0.
 set -eu
 LC_ALL=C
 export LC_ALL

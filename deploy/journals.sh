@@ -27,7 +27,8 @@ stop() {
 # Takes the lock of this folder, which the process keeps until it ends, also where it becomes another program.
 take_lock() {
     if command -v flock >/dev/null; then
-        exec 9>lock
+        (: >>lock) 2>/dev/null || stop 1 "the file lock can't be made in $folder"
+        exec 9>>lock
         flock -n 9 || stop 1 "another start, server or copy holds the lock of $folder"
     elif [ "${TFSTATED_UNLOCKED:-}" != yes ]; then
         stop 6 "there is no command flock. TFSTATED_UNLOCKED=yes goes on without: two servers on one folder may then lose changes"
@@ -67,9 +68,11 @@ read_journal() {
             split(line, words, " ")
             printf "base=%s records=%d end=%s line=\"%s\"", base == "" ? "0" : base, NR - rows - 1, words[1], line } }')"
     position=$((base + records))
-    header=
-    IFS= read -r header <"$1" || :
-    case $line,$header in
-    "torn 0",* | "torn 5,TFJ2") end=torn-base ;;
+    case $line in
+    "torn 0") end=torn-base ;;
+    "torn 5")
+        IFS= read -r header <"$1"
+        [ "$header" != TFJ2 ] || end=torn-base
+        ;;
     esac
 }

@@ -98,10 +98,11 @@ $journals
 END
 }
 
-# Clears the folder of what isn't needed for the start: journals that the chosen one goes on from are kept in the folder `old`; one
-# of whose bytes it has all is no more than a copy of its beginning.
+# Clears the folder of what isn't needed for the start: journals that the chosen one goes on from are kept in the folder `old`;
+# one of whose bytes it has all is no more than a copy of its beginning.
 put_away() {
     mkdir -p old
+    sync_all "$chosen"
     while read -r base position file; do
         if [ -z "$file" ] || [ "$file" = "$chosen" ]; then continue; fi
         if begins_with "$chosen" "$file"; then

@@ -1,6 +1,6 @@
 """Runs the start script of deploy/ on folders of journals: kills at each step of a start, and files that are torn, damaged,
-unlawful or on a full disk. No change that was acknowledged may be missing afterwards, and nothing is passed over that a person has to look
-at."""
+unlawful or on a full disk. No change that was acknowledged may be missing afterwards, and what a person has to look at is never
+passed over."""
 import os
 import resource
 import shutil

@@ -163,7 +163,8 @@ def check_changes_locks_and_queries_pass():
             ("UNLOCK", "/state/a", B, (423, A)), ("UNLOCK", "/state/a", A, (200, b"")), ("LOCK", "/state/a", A, (200, b"")),
             ("UNLOCK", "/state/a", b"", (200, b"")), ("DELETE", "/state/a", None, (200, b"")),
             ("GET", "/state/a", None, (404, b'{"error":"NoState"}')),
-            ("GET", "/state/a%20b", None, (400, b'{"error":"BadName"}')), ("GET", "/state//a", None, (404, b'{"error":"NoRoute"}')),
+            ("GET", "/state/a%20b", None, (400, b'{"error":"BadName"}')),
+            ("GET", "/state//a", None, (404, b'{"error":"NoRoute"}')),
             ("PUT", "/state/a", S1, (405, b'{"error":"MethodNotAllowed"}')), ("HEAD", "/state/a", None, (405, b"")),
         ]
         for method, target, body, wanted in table:
@@ -238,22 +239,21 @@ def check_a_server_that_is_away_is_told_and_comes_back():
 def check_names_are_spread_and_stay_where_they_are():
     folders, port = [fresh(n1=b"TFJ1\n"), fresh(n1=b"TFJ1\n")], free_port()
     servers = [Started(folder).listens() for folder in folders]
-    names = [f"net-{number}.prod" for number in range(40)] + ["moved"]
+    names = [f"net-{number}.prod" for number in range(20)] + ["moved"]
     text = spread_site([server.port for server in servers], port, placed="moved tfstated_2;")
     with Nginx(text, port) as proxy:
-        for body in (S1, S2):
-            for name in names:
-                expect(proxy.ask("POST", f"/state/{name}?x=/state/{name}-", body), (200, b""), name)
         for name in names:
-            expect(proxy.ask("GET", f"/state/{name}"), (200, S2), name)
+            expect(proxy.ask("POST", f"/state/{name}?x=/state/{name}-", S1), (200, b""), name)
+        for name in names:
             expect(proxy.ask("GET", f"/impact/{name}/any?of=t.a"), (404, b'{"error":"UnknownAddress"}'), name)
+            expect(proxy.ask("GET", f"/state/{name}"), (200, S1), name)
         expect(proxy.ask("GET", "/state/%61")[0], 400)
     for server in servers:
         server.kill()
     kept = [{name for _, name, _ in read_journal(journals(folder)[2])[3]} for folder in folders]
     expect(kept[0] | kept[1], set(names))
     expect(kept[0] & kept[1], set(), "no name is on both")
-    expect((min(map(len, kept)) > 5, "moved" in kept[1]), (True, True), kept)
+    expect((min(map(len, kept)) > 3, "moved" in kept[1]), (True, True), kept)
 
 
 if __name__ == "__main__":

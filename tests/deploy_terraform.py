@@ -7,7 +7,7 @@ import subprocess
 import sys
 
 from deploy_nginx import PASSWORD, ROOM, USER, make_secrets, served
-from started import A, LOOPBACK, fresh
+from started import LOOPBACK, fresh
 from stdio_program import SECONDS, checks_in, expect, run_checks
 
 BACKEND = """terraform {{
@@ -65,16 +65,15 @@ def check_terraform_moves_applies_and_locks():
         expect(json.loads(server.ask("GET", "/state/first")[1])["serial"] > state["serial"], True)
         answer = json.loads(proxy.ask("GET", "/impact/first/any?of=terraform_data.a")[1])
         expect(answer["instances"], ["terraform_data.b"])
-        lock = A.replace(b'"Who":""', b'"Who":"somebody@somewhere","Operation":"apply"')
-        expect(proxy.ask("LOCK", "/state/first", lock), (200, b""))
+        expect(proxy.ask("LOCK", "/state/first", b'{"ID":"somebody"}'), (200, b""))
         good, text = project.run("plan")
-        expect((good, "somebody@somewhere" in text), (False, True), text)
-        project.do("force-unlock", "-force", "A")
+        expect((good, "already locked: ID=somebody" in text), (False, True), text)
+        project.do("force-unlock", "-force", "somebody")
         expect("No changes" in project.do("plan"), True, "the lock was cleared")
         project.name_backend(proxy.port, "second.prod")
         project.do("init", "-migrate-state", "-force-copy")
         expect("No changes" in project.do("plan"), True, "the state was moved from one address to another")
-        expect(server.ask("UNLOCK", "/state/second.prod", A)[0], 200, "no lock is left")
+        expect(server.ask("LOCK", "/state/second.prod", b'{"ID":"after"}')[0], 200, "no lock is left")
 
 
 if __name__ == "__main__":

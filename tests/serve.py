@@ -1,5 +1,5 @@
-"""Builds the program where it is older than its sources, and serves on 127.0.0.1:8080 by the start script of deploy/, with journals
-in the folder `journal` at the top of the repository, until it is stopped. Arguments replace the address and the workers."""
+"""Builds the program where it is older than its sources, and serves on 127.0.0.1:8080 by the start script of deploy/, with
+journals in the folder `journal` at the top of the repository, until it is stopped. Arguments replace address and workers."""
 import os
 import subprocess
 import sys
