@@ -307,28 +307,44 @@ def check_a_server_that_cant_write_its_base_loses_nothing():
     expect((again.ask("GET", "/state/a"), again.ask("LOCK", "/state/a", A)), ((200, big), (423, B)))
 
 
+def fill(path, pages):
+    """Fills a disk by a file, but for so many pages."""
+    with open(path, "wb", buffering=0) as file:
+        try:
+            while file.write(bytes(4096)):
+                pass
+        except OSError:
+            pass
+        file.truncate(max(0, file.tell() - 4096 * pages))
+
+
+def start_on_a_full_disk(folder, pages):
+    """Whether a start fails on a disk with so many pages left. What is acknowledged there is there when the disk has room."""
+    fill(folder / "filled", pages)
+    server = Started(folder)
+    if server.line:
+        expect_newest(server)
+        changed = S3[:-1] + b',"x":"' + b"y" * 70000 + b'"}'
+        expect(server.ask("POST", "/state/a?ID=B", changed)[0], 500, "a change with no room for it")
+    server.kill()
+    (folder / "filled").unlink()
+    again = Started(folder)
+    expect(again.listens().ask("GET", "/state/a"), (200, S2))
+    expect_newest(again)
+    again.kill()
+    return not server.line
+
+
 def check_a_full_disk_loses_nothing():
-    """Where this isn't allowed to make a small file system, the checks with files that can't grow stand for it."""
+    """Where a small file system can't be made, the checks with files that can't grow stand for this one."""
     folder = fresh()
     made = subprocess.run(["mount", "-t", "tmpfs", "-o", "size=64k", "none", str(folder)], stderr=subprocess.DEVNULL, check=False)
     if made.returncode:
         return
     try:
         (folder / f"{named(1)}.tfj").write_bytes(NEWEST)
-        for left in (0, 1):
-            fill = folder / "filled"
-            with open("/dev/zero", "rb") as zeros, open(fill, "wb", buffering=0) as file:
-                try:
-                    while file.write(zeros.read(4096)):
-                        pass
-                except OSError:
-                    pass
-            os.truncate(fill, max(0, fill.stat().st_size - 4096 * left))
-            expect(Started(folder).end()[0] != 0, True, "nothing is started")
-            fill.unlink()
-            server = Started(folder)
-            expect_newest(server)
-            server.kill()
+        failed = [start_on_a_full_disk(folder, pages) for pages in (0, 0, 1, 1, 2)]
+        expect(True in failed, True, "a start fails where nothing is left")
     finally:
         subprocess.run(["umount", "-l", str(folder)], check=False)
 

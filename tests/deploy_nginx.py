@@ -133,7 +133,7 @@ def served(workers="4"):
 
 def state_of(size):
     """The text of a state of so many bytes."""
-    return S1[:-1] + b',"x":"' + b"y" * (size - len(S1) - 8) + b'"}'
+    return S1[:-1] + b',"x":"' + b"y" * (size - len(S1) - 7) + b'"}'
 
 
 def check_passwords_are_asked_for_over_tls():
@@ -184,18 +184,24 @@ def check_bodies_of_16_mebibytes_pass():
         expect(server.ask("GET", "/state/b")[0], 404, "one byte more isn't passed on")
 
 
+def chunked(pieces):
+    """A body in chunks (RFC 9112, section 7.1)."""
+    return b"".join(b"%x\r\n%b\r\n" % (len(piece), piece) for piece in pieces) + b"0\r\n\r\n"
+
+
 def check_bodies_in_chunks_pass():
     with served() as (server, proxy):
         largest = state_of(MAX_BODY)
         table = [("one", [S1], S1), ("each byte", [bytes([byte]) for byte in S1], S1),
                  ("70,000 chunks, more than the server takes", [bytes([byte]) for byte in state_of(70000)], state_of(70000)),
                  ("the largest", [largest[place : place + 65536] for place in range(0, MAX_BODY, 65536)], largest)]
+        headers = {**WITH_PASSWORD, "Transfer-Encoding": "chunked"}
         for number, (about, pieces, text) in enumerate(table):
-            expect(proxy.ask("POST", f"/state/a{number}", iter(pieces)), (200, b""), about)
+            expect(proxy.ask("POST", f"/state/a{number}", chunked(pieces), headers), (200, b""), about)
             status, body = server.ask("GET", f"/state/a{number}")
             expect((status, body == text), (200, True), about)
-        expect(proxy.ask("LOCK", "/state/l", iter([A[:5], A[5:]])), (200, b""))
-        expect(proxy.ask("UNLOCK", "/state/l", iter([])), (200, b""), "a forced unlock with no bytes in chunks")
+        expect(proxy.ask("LOCK", "/state/l", chunked([A[:5], A[5:]]), headers), (200, b""))
+        expect(proxy.ask("UNLOCK", "/state/l", chunked([]), headers), (200, b""), "a forced unlock with no bytes in chunks")
 
 
 def check_clients_that_wait_hold_no_worker():

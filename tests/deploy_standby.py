@@ -13,7 +13,7 @@ from stdio_program import SECONDS, checks_in, expect, run_checks
 
 
 def state_of(serial):
-    return S1.replace(b"1 ", b"%d " % serial)[:-1] + b',"x":"' + b"y" * 2000 + b'"}'
+    return S1.replace(b"1 ", b"%d " % serial)[:-1] + b',"x":"' + b"y" * 500 + b'"}'
 
 
 def push_on(port, name, acknowledged, first=1):
@@ -23,6 +23,7 @@ def push_on(port, name, acknowledged, first=1):
         while ask_over(connection, "POST", f"/state/{name}", state_of(serial))[0] == 200:
             acknowledged[name] = serial
             serial += 1
+            time.sleep(0.02)
     except (OSError, http.client.HTTPException):
         pass
     finally:
@@ -60,12 +61,12 @@ def serial_at(server, name):
 
 
 def check_a_standby_takes_over_from_a_copy():
-    for turn in range(3):
+    for turn in range(2):
         first_folder, second_folder, acknowledged = fresh(n1=b"TFJ1\n"), fresh(), {}
         first = Started(first_folder).listens()
         writers, before = Writers(first, acknowledged), {}
-        for _ in range(3):
-            writers.wait_for(5)
+        for _ in range(2):
+            writers.wait_for(3)
             before = dict(acknowledged)
             expect(run(COPY, first_folder, second_folder)[0], 0, f"turn {turn}")
         time.sleep(random.random() / 10)
@@ -85,7 +86,7 @@ def check_a_standby_takes_over_from_a_copy():
 def check_a_copy_that_is_underway_when_the_server_is_killed_is_good_or_not_kept():
     """The first is killed while its file is copied, at many moments."""
     first_folder, second_folder, acknowledged, before, copied = fresh(n1=b"TFJ1\n"), fresh(), {}, {}, 0
-    for turn in range(6):
+    for turn in range(4):
         first = Started(first_folder).listens()
         writers = Writers(first, acknowledged)
         writers.wait_for(3)
