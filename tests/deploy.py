@@ -6,7 +6,7 @@ import sys
 from gate import Screen, run, script
 from repository import TOP
 
-TESTS = ["check_start.py", "deploy_standby.py", "deploy_picture.py", "deploy_nginx.py"]
+TESTS = ["check_start.py", "deploy_standby.py", "deploy_pages.py", "deploy_nginx.py"]
 OF_TERRAFORM = "deploy_terraform.py"
 
 

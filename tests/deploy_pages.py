@@ -1,4 +1,6 @@
-"""Checks the picture of a state and of the answer to an impact query: the example of docs/PICTURE.md, and odd addresses."""
+"""Checks the picture of a state and of the answer to an impact query, by the example of docs/PICTURE.md and by odd addresses, and
+that deploy/README.md has a line for each refusal and each fault."""
+import re
 import shutil
 import subprocess
 import sys
@@ -8,7 +10,7 @@ from pathlib import Path
 from picture import picture
 from stdio_program import TOP, checks_in, expect, run, run_checks
 
-PAGE = (TOP / "docs" / "PICTURE.md").read_text()
+PAGE, FORMATS, DEPLOY = ((TOP / path).read_text() for path in ("docs/PICTURE.md", "docs/FORMATS.md", "deploy/README.md"))
 
 
 def block(title):
@@ -34,6 +36,18 @@ def check_the_example_of_the_page():
         words = [sys.executable, TOP / "tests" / "picture.py", *paths]
         made = subprocess.run(words, capture_output=True, check=True).stdout.decode()
     expect(made, drawn)
+
+
+def check_each_refusal_and_each_fault_has_a_line():
+    section = FORMATS.split("\n## Refusals\n")[1].split("\n## ")[0]
+    refusals = set(re.findall(r"^\| [0-9]+ \| (\w+) \| ([0-9]{3}) \|", section, re.M))
+    expect(len(refusals), 29, "refusals of docs/FORMATS.md")
+    expect(set(re.findall(r"^\| (\w+) \| ([0-9]{3}) \|", DEPLOY, re.M)), refusals)
+    rows = re.findall(r"^\| `(?:rebase|serve)` \| (Cannot.*) \|$", FORMATS, re.M)
+    faults = set(re.findall(r"[A-Z]\w+", " ".join(rows)))
+    expect(len(faults) > 10, True, faults)
+    told = set(re.findall(r"\w+", " ".join(re.findall(r"^\| ([A-Z]\w+(?:, \w+)*) \|", DEPLOY, re.M))))
+    expect(faults - told, set(), "faults without a line")
 
 
 def check_odd_addresses_are_drawn():
