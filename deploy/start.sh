@@ -137,8 +137,9 @@ make_base() {
 }
 
 # Makes the name of the new journal durable as soon as it is there, or gives up where the program has ended. It runs beside the
-# program, which syncs what it writes itself.
+# program, which syncs what it writes itself, and keeps neither the lock nor what the program writes to.
 sync_new_name() {
+    exec 9>&- </dev/null >/dev/null 2>&1
     until [ -e "$new.tfj" ]; do
         kill -0 "$$" 2>/dev/null || return 0
         sleep 0.02 2>/dev/null || sleep 1
@@ -153,7 +154,7 @@ serve() {
     put_away
     make_base
     say "going on from $chosen at position $chosen_position, in $folder/$new.tfj"
-    (sync_new_name 9>&- >/dev/null 2>&1 &)
+    (sync_new_name &)
     exec "$program" serve "$1" "$2" "$new.tfj" "$new.base"
 }
 

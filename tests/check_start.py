@@ -371,7 +371,7 @@ def check_copies_are_read_before_they_are_kept():
 def check_a_copy_only_grows():
     target = fresh(n2=NEWEST[:-3])
     expect(run(COPY, fresh(n2=NEWEST), target)[0], 0)
-    for other in (SHORT + PUSH2, SHORT + LOCK + PUSH2, REBASED):
+    for other in (SHORT + PUSH2, SHORT + LOCK, REBASED):
         status, errors = run(COPY, fresh(n2=other), target)
         expect((status, journals(target)), (6, {2: NEWEST}), errors)
     expect(run(COPY, target, target)[0], 2, "onto itself")
