@@ -14,7 +14,7 @@ import sys
 import time
 from pathlib import Path
 
-from started import A, B, FOLDER, LOOPBACK, S1, S2, Started, ask_over, free_port, fresh, journals
+from started import A, B, FOLDER, LOOPBACK, S1, Started, ask_over, free_port, fresh, journals
 from journal_reader import read_journal
 from stdio_program import SECONDS, TOP, Talk, checks_in, expect, run_checks
 
