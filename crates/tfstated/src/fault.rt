@@ -9,7 +9,7 @@ use tfs_serve::RunFault;
 use tfs_table::OpenFault;
 
 /// Tells the name of a fault on standard error. Where that can't be written, nothing else can be told.
-fn print_fault(rt: &impl Eprint, name: &str) {
+pub(crate) fn print_fault(rt: &impl Eprint, name: &str) {
     let _ = eprintln!(rt; "tfstated: {name}");
 }
 

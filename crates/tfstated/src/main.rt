@@ -1,5 +1,5 @@
-//! The program `tfstated`: a server for the state of Terraform. So far it has the commands `stdio`, a conversation over standard
-//! input and output, `check` and `rebase`, which read a journal's file.
+//! The program `tfstated`: a server for the state of Terraform. Its commands are `serve`, workers over a listener, `stdio`, a
+//! conversation over standard input and output, and `check` and `rebase`, which read a journal's file.
 #![tactic(auto)]
 
 use crate::command::Command;
@@ -9,6 +9,7 @@ mod check;
 mod command;
 mod fault;
 mod rebase;
+mod serve;
 mod stdio;
 
 fn main(rt: HostRuntime) -> ExitCode {
@@ -16,6 +17,7 @@ fn main(rt: HostRuntime) -> ExitCode {
         Some(Command::Stdio) => stdio::run(&rt),
         Some(Command::Check(file)) => check::run(&rt, file.as_str()),
         Some(Command::Rebase(old, new)) => rebase::run(&rt, old.as_str(), new.as_str()),
+        Some(Command::Serve(asked)) => serve::run(&rt, &asked),
         None => {
             command::print_usage(&rt);
             ExitCode::from(2)

@@ -1,0 +1,4 @@
+pub mod Captures
+pub mod Later
+pub mod Reaching
+pub mod Steps

@@ -1,0 +1,19 @@
+//! Workers: conversations over the sessions of a shared table, on connections to one listener.
+#![tactic(auto)]
+
+mod connection;
+mod gate;
+mod gated;
+mod serving;
+mod session_desk;
+mod worker;
+
+pub use connection::{MAX_REQUEST_SECONDS, MAX_WAIT_SECONDS};
+pub use gate::{Gate, Open};
+pub use gated::Gated;
+pub use serving::{AcceptFault, work};
+pub use session_desk::{MAX_BYTES_AT_ONCE, Service, SessionDesk};
+pub use worker::{Worker, work_all};
+
+#[cfg(test)]
+mod tests;

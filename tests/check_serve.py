@@ -1,0 +1,217 @@
+"""Runs `tfstated serve` and talks to it over sockets: its faults, what clients that go away leave, journals that are gone on with,
+the order of syncing and replying, and bodies that are meant to take all memory."""
+import os
+import resource
+import shutil
+import signal
+import socket
+import subprocess
+import sys
+import threading
+import time
+from pathlib import Path
+
+from serve_program import FOLDER, LOOPBACK, Server, asked, entries_of, free_port, fresh, reply_of, run, state
+from stdio_program import S1, S2, USAGE, checks_in, expect, request_text, run_checks
+
+A, B = b'{"ID":"A" ,"Who":""}', b'{"ID":"B"}'
+
+
+def fault(name, status=1):
+    """How a run that ends by a fault ends."""
+    return b"", status, f"tfstated: {name}\n".encode()
+
+
+def check_it_serves_changes_reads_and_impact():
+    server = Server()
+    with server.connect() as connection:
+        expect(asked(connection, "GET", "/state/a"), (404, b'{"error":"NoState"}'))
+        text = state(2, ("a", "x.y"), ("b", "t.a"), ("c", "t.b"))
+        expect(asked(connection, "POST", "/state/a", text), (200, b""))
+        expect(asked(connection, "GET", "/state/a"), (200, text))
+        answer = b'{"instances":["t.b","t.c"],"position":1,"serial":2}'
+        expect(asked(connection, "GET", "/impact/a/any?of=t.a"), (200, answer))
+        expect(asked(connection, "LOCK", "/state/a", A), (200, b""))
+        expect(server.ask("LOCK", "/state/a", B), (423, A))
+        expect(server.ask("GET", "/state/a"), (200, text))
+        expect(asked(connection, "UNLOCK", "/state/a", A), (200, b""))
+    kinds = [(kind, name) for kind, name, _ in entries_of(server.kill())]
+    expect(kinds, [("push", "a"), ("lock", "a"), ("unlock", "a")])
+
+
+def check_wrong_arguments_show_the_usage():
+    address, new = f"{LOOPBACK}:{free_port()}", fresh()
+    for workers in ["0", "17", "01", "+1", "", "1.0", "-1", "x", " 1"]:
+        expect(run("serve", address, workers, new), (b"", 2, USAGE), workers)
+    for words in [("serve",), ("serve", address), ("serve", address, "1"), ("serve", address, "1", new, "a", "b")]:
+        expect(run(*words), (b"", 2, USAGE), words)
+    expect(Path(new).exists(), False, "nothing was made")
+
+
+def check_the_first_fault_ends_it():
+    address = f"{LOOPBACK}:{free_port()}"
+    expect(run("serve", address, "1", fresh(), fresh()), fault("CannotRead"))
+    expect(run("serve", address, "1", fresh(b"")), fault("CannotCreate"))
+    expect(run("serve", address, "1", fresh() + "/inside"), fault("CannotCreate"))
+    with socket.create_server((LOOPBACK, 0)) as taken:
+        expect(run("serve", f"{LOOPBACK}:{taken.getsockname()[1]}", "1", fresh()), fault("CannotBind"))
+    expect(run("serve", "nowhere", "1", fresh()), fault("CannotBind"))
+    with open("/dev/full", "wb", buffering=0) as full:
+        ran = run("serve", address, "1", fresh(), stdout=full)
+        expect(ran[1:], fault("Write")[1:])
+
+
+def check_old_journals_are_gone_on_with_or_refused():
+    first = Server()
+    expect(first.ask("POST", "/state/a", S1), (200, b""))
+    expect(first.ask("LOCK", "/state/a", B), (200, b""))
+    whole = first.kill()
+    address = f"{LOOPBACK}:{free_port()}"
+    changed = whole[:40] + bytes([whole[40] ^ 1]) + whole[41:]
+    expect(run("serve", address, "1", fresh(), fresh(changed)), fault("Damaged", 4))
+    expect(run("serve", address, "1", fresh(), fresh(whole[:20])), fault("TornBase", 3))
+    later = Server()
+    expect(later.ask("POST", "/state/a", S2), (200, b""))
+    unlawful = later.kill() + whole[31:]
+    expect(run("serve", address, "1", fresh(), fresh(unlawful)), fault("Unlawful", 5))
+    again = Server(old=fresh(whole))
+    expect(again.ask("GET", "/state/a"), (200, S1))
+    expect(again.ask("LOCK", "/state/a", A), (423, B))
+    expect(again.kill(), whole, "the new file has the old text")
+    torn = Server(old=fresh(whole[:-1]))
+    expect(torn.ask("LOCK", "/state/a", A), (200, b""), "the torn lock is gone")
+
+
+def check_a_client_that_goes_away_ends_its_connection_alone():
+    server = Server(workers=1)
+    for count in (0, 1, 20, 60, 96):
+        with server.connect() as connection:
+            connection.sendall(request_text("POST", "/state/a", S1)[:count])
+        expect(server.ask("GET", "/state/b")[0], 404, f"after {count} bytes")
+    with server.connect() as connection:
+        connection.setsockopt(socket.SOL_SOCKET, socket.SO_LINGER, b"\1\0\0\0\0\0\0\0")
+        connection.sendall(request_text("GET", "/state/a") * 100)
+    expect(server.ask("GET", "/state/b")[0], 404, "after a reset")
+
+
+def check_a_silent_client_is_left_after_ten_seconds():
+    server = Server(workers=1)
+    with server.connect() as silent, server.connect() as waiting:
+        began = time.monotonic()
+        waiting.sendall(request_text("GET", "/state/a"))
+        expect(silent.recv(1), b"", "the silent connection is closed")
+        with waiting.makefile("rb") as file:
+            expect(reply_of(file)[0], 404)
+        expect(5 < time.monotonic() - began < 20, True, "about ten seconds")
+
+
+def limit_file_size():
+    """Lets files grow to 300 bytes, and takes the signal away that would tell."""
+    signal.signal(signal.SIGXFSZ, signal.SIG_IGN)
+    resource.setrlimit(resource.RLIMIT_FSIZE, (300, 300))
+
+
+def check_a_full_file_stops_changes_alone():
+    server = Server(preexec_fn=limit_file_size)
+    done = 0
+    while (reply := server.ask("POST", "/state/a", S1))[0] == 200:
+        done += 1
+    expect(reply, (500, b'{"error":"JournalFault"}'))
+    expect(server.ask("LOCK", "/state/a", A), (503, b'{"error":"JournalStopped"}'))
+    expect(server.ask("GET", "/state/a"), (200, S1))
+    expect(server.ask("GET", "/impact/a/any?of=t.a"), (404, b'{"error":"UnknownAddress"}'))
+    data = server.kill()
+    expect(len(data), 300)
+    expect(len(entries_of(data)), done, "each acknowledged change")
+    again = Server(old=fresh(data))
+    expect(again.ask("GET", "/state/a"), (200, S1))
+
+
+def calls_in(trace):
+    """The calls that a trace has told so far, in order."""
+    lines = os.read(trace, 65536).decode().splitlines()
+    return [(name, int(descriptor)) for name, descriptor in map(str.split, lines)]
+
+
+def traced():
+    """The library that tells the calls that write or sync, built out of trace_calls.c."""
+    expect(shutil.which("gcc") is not None, True, "gcc, which builds tests/trace_calls.c, is there")
+    library = fresh()
+    source = Path(__file__).resolve().parent / "trace_calls.c"
+    subprocess.run(["gcc", "-O1", "-Wall", "-shared", "-fPIC", "-o", library, str(source), "-ldl"], check=True)
+    return library
+
+
+def check_an_accepted_change_is_synced_before_its_reply():
+    reading, writing = os.pipe()
+    server = Server(workers=1, env={"LD_PRELOAD": traced(), "TRACE": str(writing)}, pass_fds=[writing])
+    synced = [call for call in calls_in(reading) if call[0] in ("fsync", "fdatasync")]
+    file = synced[0][1]
+    expect(set(synced), {("fdatasync", file)}, "the header is synced")
+    with server.connect() as connection:
+        expect(asked(connection, "GET", "/state/a")[0], 404)
+        ((_, near),) = calls_in(reading)
+        changes = [("POST", S1), ("LOCK", B), ("UNLOCK", B), ("POST", S2), ("DELETE", b"")]
+        for method, body in changes:
+            expect(asked(connection, method, "/state/a", body), (200, b""), method)
+            calls = calls_in(reading)
+            expect(calls[:2], [("write", file), ("fdatasync", file)], method)
+            expect({descriptor for _, descriptor in calls[2:]}, {near}, f"the reply to {method} comes last")
+        expect(asked(connection, "POST", "/state/a", b"abc")[0], 400)
+        expect({descriptor for _, descriptor in calls_in(reading)}, {near}, "a refused change writes only its reply")
+    os.close(reading)
+    os.close(writing)
+
+
+def limit_memory():
+    """Limits the address space to 6 GB."""
+    resource.setrlimit(resource.RLIMIT_AS, (6 * 10**9, 6 * 10**9))
+
+
+def push_large(server, text, statuses):
+    """Pushes a text, and keeps the status of the reply; none where the connection ends without one."""
+    try:
+        reply = server.ask("POST", "/state/large", text)
+    except OSError:
+        reply = None
+    statuses.append(reply and reply[0])
+
+
+def check_sixteen_hostile_bodies_end_nothing():
+    server = Server(workers=16, preexec_fn=limit_memory)
+    text = b"[" + b'{"":0},' * ((16 << 20) // 7 - 1) + b"{}]"
+    statuses = []
+    threads = [threading.Thread(target=push_large, args=(server, text, statuses)) for _ in range(16)]
+    for thread in threads:
+        thread.start()
+    for thread in threads:
+        thread.join()
+    expect(set(statuses) <= {200, 400, 503}, True, statuses)
+    expect(server.ask("POST", "/state/a", S1), (200, b""))
+    expect(server.process.poll(), None)
+
+
+def check_a_long_module_path_is_taken_and_its_answer_is_not():
+    server = Server(workers=2, preexec_fn=limit_memory)
+    module = "module." + "m" * (8 << 20)
+    instances = ",".join('{"index_key":%d,"dependencies":["t.a"]}' % number for number in range(4095))
+    text = state(1, ("a",))[:-2] + b', {"module":"%s","mode":"managed","type":"t","name":"n","instances":[%s]}]}' % (
+        module.encode(), instances.encode())
+    expect(server.ask("POST", "/state/a", text), (200, b""))
+    expect(server.ask("GET", "/impact/a/any?of=t.a"), None, "an answer of 34 GB")
+    expect(server.ask("GET", "/state/a"), (200, text))
+    expect(server.process.poll(), None)
+
+
+def check_two_sessions_work_at_once():
+    server = Server(workers=2)
+    with server.connect() as idle:
+        idle.sendall(b"GET /state/a HTTP/1.1\r\n")
+        expect(server.ask("GET", "/state/a")[0], 404, "beside an unfinished request")
+        idle.sendall(b"Host: h\r\n\r\n")
+        with idle.makefile("rb") as file:
+            expect(reply_of(file)[0], 404)
+
+
+if __name__ == "__main__":
+    sys.exit(run_checks(checks_in(globals())))

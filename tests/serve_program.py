@@ -1,0 +1,96 @@
+"""Runs the built program as a server, for the checks: on a port that is free and a journal of its own."""
+import json
+import socket
+import subprocess
+import tempfile
+from pathlib import Path
+
+from journal_reader import read_journal
+from stdio_program import PROGRAM, SECONDS, Talk, expect, request_text
+
+FOLDER = tempfile.TemporaryDirectory(prefix="tfstated-")
+LOOPBACK = "127.0.0.1"
+NUMBER = iter(range(10**6))
+
+
+def fresh(content=None):
+    """A path in the folder that no check has used; with a content, a file of it is there."""
+    path = Path(FOLDER.name) / f"journal-{next(NUMBER)}"
+    if content is not None:
+        path.write_bytes(content)
+    return str(path)
+
+
+def free_port():
+    """A port of the loopback that nobody uses at this moment."""
+    with socket.socket() as probe:
+        probe.bind((LOOPBACK, 0))
+        return probe.getsockname()[1]
+
+
+class Server:
+    """The running server on a journal of its own, which is new or goes on from an old one."""
+
+    def __init__(self, workers=2, old=None, **how):
+        self.address, self.new = f"{LOOPBACK}:{free_port()}", fresh()
+        words = [PROGRAM, "serve", self.address, str(workers), self.new, *([old] if old else [])]
+        self.process = subprocess.Popen(words, stdin=subprocess.DEVNULL, stdout=subprocess.PIPE, stderr=subprocess.PIPE, **how)
+        Talk.started.append(self.process)
+        expect(self.process.stdout.readline(), f"listening {self.address}\n".encode(), "the first line")
+
+    def connect(self):
+        host, port = self.address.split(":")
+        connection = socket.create_connection((host, int(port)), timeout=SECONDS)
+        connection.setsockopt(socket.IPPROTO_TCP, socket.TCP_NODELAY, 1)
+        return connection
+
+    def ask(self, method, target, body=b"", more=""):
+        """The status and the body of the reply to one request, on a connection of its own."""
+        with self.connect() as connection:
+            return asked(connection, method, target, body, more)
+
+    def kill(self):
+        """Kills the server, and waits until it is gone: its journal's bytes."""
+        self.process.kill()
+        self.process.communicate()
+        return Path(self.new).read_bytes()
+
+
+def reply_of(file):
+    """The status and the body of the next reply; none where the connection ends before it is whole."""
+    line = file.readline()
+    if not line.endswith(b"\r\n"):
+        return None
+    length = None
+    while (field := file.readline()) not in (b"\r\n", b""):
+        if field.lower().startswith(b"content-length:"):
+            length = int(field.split(b":")[1])
+    body = file.read(length) if length is not None else None
+    return (int(line.split()[1]), body) if body is not None and len(body) == length else None
+
+
+def asked(connection, method, target, body=b"", more=""):
+    """The status and the body of the reply to one request."""
+    connection.sendall(request_text(method, target, body, more))
+    with connection.makefile("rb") as file:
+        return reply_of(file)
+
+
+def run(*words, **how):
+    """Runs the program, which is to end by itself: what it wrote, its status, and what it wrote on standard error."""
+    how = {"stdout": subprocess.PIPE, **how}
+    ran = subprocess.run([PROGRAM, *words], stderr=subprocess.PIPE, stdin=subprocess.DEVNULL, timeout=SECONDS, check=False, **how)
+    return ran.stdout, ran.returncode, ran.stderr
+
+
+def state(serial, *resources):
+    """A state's text, with resources of type t, each with its dependencies."""
+    listed = [{"mode": "managed", "type": "t", "name": name, "instances": [{"dependencies": needs}]} for name, *needs in resources]
+    return json.dumps({"version": 4, "serial": serial, "lineage": "L1", "resources": listed}).encode()
+
+
+def entries_of(data):
+    """The entries of a journal's bytes, which are whole or torn."""
+    _, _, _, entries, end = read_journal(data)
+    expect(end.split()[0] in ("whole", "torn"), True, f"the journal's end: {end}")
+    return entries
