@@ -11,7 +11,7 @@ import threading
 import time
 from pathlib import Path
 
-from serve_program import FOLDER, LOOPBACK, Server, asked, entries_of, free_port, fresh, reply_of, run, state
+from serve_program import LOOPBACK, Server, asked, entries_of, free_port, fresh, reply_of, run, state
 from stdio_program import S1, S2, USAGE, checks_in, expect, request_text, run_checks
 
 A, B = b'{"ID":"A" ,"Who":""}', b'{"ID":"B"}'
@@ -103,6 +103,26 @@ def check_a_silent_client_is_left_after_ten_seconds():
         with waiting.makefile("rb") as file:
             expect(reply_of(file)[0], 404)
         expect(5 < time.monotonic() - began < 20, True, "about ten seconds")
+
+
+def check_a_slow_request_is_ended_after_a_minute():
+    server = Server(workers=2)
+    with server.connect() as slow:
+        slow.settimeout(2)
+        began = time.monotonic()
+        slow.sendall(b"GET /state/a HTTP/1.1\r\nX: ")
+        try:
+            while time.monotonic() - began < 90:
+                slow.sendall(b"x")
+                try:
+                    expect(slow.recv(1), b"", "no reply")
+                    break
+                except socket.timeout:
+                    pass
+        except ConnectionError:
+            pass
+        expect(55 < time.monotonic() - began < 75, True, "about a minute")
+    expect(server.ask("GET", "/state/a")[0], 404)
 
 
 def limit_file_size():

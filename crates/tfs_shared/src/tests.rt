@@ -7,9 +7,11 @@ use std::alloc::{AllocError, Global};
 use std::marker::Brand;
 use std::process::Abort;
 use std::sync::Wait;
+use std::sync::atomic::AtomicU64;
 use std::sync::ledger::Blank;
 use std::test::Fail;
 use std::thread::Threads;
+use std::time::Clock;
 use tfs_calls::{Bytes, Draft, Kind, Query, Raw, Text, Texts};
 use tfs_journal::Sink;
 use tfs_rules::Name;
@@ -17,7 +19,9 @@ use tfs_state::MAX_STATE_BYTES;
 use tfs_table::Table;
 
 mod calls;
+mod races;
 mod threads;
+mod waits;
 
 /// Resources with one instance each.
 const A: &str =
@@ -31,7 +35,7 @@ const C: &str =
 
 /// What is done with the sessions of a shared table.
 #[derive(Clone, Copy)]
-enum Scene {
+enum Scene<'f> {
     /// Two sessions call one after another.
     Calls,
     /// The sink fails under two sessions.
@@ -40,14 +44,20 @@ enum Scene {
     Changes,
     /// One session makes a hundred changes, and another one asks meanwhile.
     Queries,
+    /// All sessions push the same states.
+    Races,
+    /// Each session locks names of its own, which are as many as a table takes.
+    Names,
+    /// The sink waits, and another session asks meanwhile and sets the sink's flag.
+    Waits(&'f AtomicU64),
 }
 
 /// A scene with the sessions of a table, which is gathered afterwards; how many entries it has then.
-fn played<K: Sink + Send + Drop, R: Threads + Wait + Abort + Alloc<A = Global> + Sync>(
+fn played<K: Sink + Send + Drop, R: Threads + Wait + Clock + Abort + Alloc<A = Global> + Sync>(
     rt: &R,
     table: Table<K>,
     number: usize,
-    scene: Scene,
+    scene: Scene<'_>,
 ) -> Result<usize, Fail>
     requires { (1 ≤ number) × (number ≤ 16) }
 {
@@ -64,12 +74,12 @@ fn played<K: Sink + Send + Drop, R: Threads + Wait + Abort + Alloc<A = Global> +
 fn play<
     J: Naming + Send + Sync,
     K: Sink + Send + Drop,
-    R: Threads + Wait + Abort + Alloc<A = Global> + Sync,
+    R: Threads + Wait + Clock + Abort + Alloc<A = Global> + Sync,
 >(
     rt: &R,
     table: Table<K>,
     number: usize,
-    scene: Scene,
+    scene: Scene<'_>,
     blank: Blank,
     opened: Opened,
 ) -> Result<usize, Fail>
@@ -86,6 +96,9 @@ fn play<
         Scene::Faults => calls::a_fault(rt, &shared, sessions.as_mut_slice()),
         Scene::Changes => threads::changes(rt, &shared, sessions.as_mut_slice()),
         Scene::Queries => threads::queries(rt, &shared, sessions.as_mut_slice()),
+        Scene::Races => races::pushes(rt, &shared, sessions.as_mut_slice()),
+        Scene::Names => races::locks(rt, &shared, sessions.as_mut_slice()),
+        Scene::Waits(flag) => waits::waits(rt, &shared, sessions.as_mut_slice(), flag),
     };
     let last = sessions.pop().expect(rt, "a session");
     let strangers = gather(rt, shared, sessions).err();
@@ -123,6 +136,13 @@ fn push_of(rt: &(impl Alloc<A = Global> + Abort), state: &str) -> Result<Draft, 
     assert!(rt; state.len() <= MAX_STATE_BYTES);
     let body = Bytes::new(state.as_bytes().to_vec(rt.alloc())?);
     let draft = Draft::read(rt.alloc(), Raw::Push(None, body));
+    Ok(draft.ok().expect(rt, "a draft"))
+}
+
+/// A lock by B.
+fn lock_of(rt: &(impl Alloc<A = Global> + Abort)) -> Result<Draft, AllocError> {
+    let body = Bytes::new("{\"ID\":\"B\"}".as_bytes().to_vec(rt.alloc())?);
+    let draft = Draft::read(rt.alloc(), Raw::Lock(body));
     Ok(draft.ok().expect(rt, "a draft"))
 }
 

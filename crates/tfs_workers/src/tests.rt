@@ -21,11 +21,18 @@ use tfs_shared::{Naming, Opened, Session, Shared, share};
 use tfs_table::Table;
 
 /// A push of three resources, the second of which depends on the first, and the third on the second.
-const PUSH: &str =
-    "POST /state/a HTTP/1.1\r\nHost: h\r\nContent-Length: 293\r\nConnection: close\r\n\r\n{\"version\":4,\"serial\":2,\"lineage\":\"L1\",\"resources\":[{\"mode\":\"managed\",\"type\":\"t\",\"name\":\"a\",\"instances\":[{\"dependencies\":[\"x.y\"]}]},{\"mode\":\"managed\",\"type\":\"t\",\"name\":\"b\",\"instances\":[{\"dependencies\":[\"t.a\"]}]},{\"mode\":\"managed\",\"type\":\"t\",\"name\":\"c\",\"instances\":[{\"dependencies\":[\"t.b\"]}]}]}";
+const PUSH: [&str; 5] = [
+    "POST /state/a HTTP/1.1\r\nHost: h\r\nContent-Length: 293\r\nConnection: close\r\n\r\n",
+    "{\"version\":4,\"serial\":2,\"lineage\":\"L1\",\"resources\":[",
+    "{\"mode\":\"managed\",\"type\":\"t\",\"name\":\"a\",\"instances\":[{\"dependencies\":[\"x.y\"]}]},",
+    "{\"mode\":\"managed\",\"type\":\"t\",\"name\":\"b\",\"instances\":[{\"dependencies\":[\"t.a\"]}]},",
+    "{\"mode\":\"managed\",\"type\":\"t\",\"name\":\"c\",\"instances\":[{\"dependencies\":[\"t.b\"]}]}]}",
+];
 
 /// What a change of the first resource reaches.
-const ASK: &str = "GET /impact/a/any?of=t.a HTTP/1.1\r\nHost: h\r\nConnection: close\r\n\r\n";
+const ASK: [&str; 1] = [
+    "GET /impact/a/any?of=t.a HTTP/1.1\r\nHost: h\r\nConnection: close\r\n\r\n",
+];
 
 const OK: &str = "HTTP/1.1 200 OK\r\nConnection: close\r\n";
 
@@ -143,8 +150,8 @@ fn push_and_ask<
     }
     let first = workers.as_mut_slice().get_mut(0).expect(rt, "a worker");
     push(rt, shared, &listener, address, &mut first.session)?;
-    let one = sent(rt, address, ASK).ok().expect(rt, "a connection");
-    let other = sent(rt, address, ASK).ok().expect(rt, "a connection");
+    let one = sent(rt, address, &ASK).ok().expect(rt, "a connection");
+    let other = sent(rt, address, &ASK).ok().expect(rt, "a connection");
     work_all(rt, rt.alloc(), &listener, workers.as_mut_slice(), shared);
     for worker in workers.as_slice() {
         assert!(rt; worker.gate.met && !worker.failed);
@@ -169,7 +176,7 @@ fn push<
     address: SocketAddr,
     session: &mut Session<J>,
 ) -> Result<(), Fail> {
-    let stream = sent(rt, address, PUSH).ok().expect(rt, "a connection");
+    let stream = sent(rt, address, &PUSH).ok().expect(rt, "a connection");
     let come = AtomicU64::new(0);
     let turn = Mutex::new(());
     let service = Service {
@@ -194,13 +201,15 @@ fn push<
     Ok(())
 }
 
-/// A connection on which a text was sent.
+/// A connection on which texts were sent.
 fn sent<R: Net<Stream = TcpStream>>(
     rt: &R,
     address: SocketAddr,
-    text: &str,
+    texts: &[&str],
 ) -> io::Result<TcpStream> {
     let mut stream = TcpStream::connect(rt, address)?;
-    stream.write_all(text.as_bytes())?;
+    for text in texts {
+        stream.write_all(text.as_bytes())?;
+    }
     Ok(stream)
 }
