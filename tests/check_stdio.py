@@ -276,7 +276,7 @@ def check_input_and_output_that_fail_are_faults():
 def check_other_arguments_print_the_usage():
     others = [
         ("",), ("stdin",), ("stdio", ""), ("stdio", "stdio"), ("Stdio",), ("stdio ",), ("--help",), (b"\xff",),
-        ("stdio", b"\xff"), ("serve", "127.0.0.1:0", "1", "new"),
+        ("stdio", b"\xff"), ("serve", "127.0.0.1:0", "1"),
     ]
     for arguments in others:
         expect(run(PUSH_AND_GET, *arguments), (b"", 2, USAGE), arguments)

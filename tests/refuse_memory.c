@@ -1,12 +1,14 @@
 /* Preloaded into the program: counts its requests for memory, and refuses those from REFUSE_FROM to REFUSE_TO, counted
    from 1. A request counts where its caller's code is the program's own; what the loader and the C library ask for is
-   counted apart and never refused. At the end both counts are written to the descriptor COUNTS. */
+   counted apart and never refused. At the end both counts are written to the descriptor COUNTS, also where the program ends
+   by _exit, as one with threads does. */
 #define _GNU_SOURCE
 #include <errno.h>
 #include <link.h>
 #include <stdint.h>
 #include <stdio.h>
 #include <stdlib.h>
+#include <sys/syscall.h>
 #include <unistd.h>
 
 void *__libc_malloc(size_t);
@@ -45,7 +47,15 @@ __attribute__((constructor)) static void begin(void) {
 __attribute__((destructor)) static void end(void) {
     char text[64];
     int length = snprintf(text, sizeof text, "%ld %ld\n", own, others);
+    if (counts < 0) return;
     if (write(counts, text, length) != length) abort();
+    counts = -1;
+}
+
+void _exit(int status) {
+    end();
+    syscall(SYS_exit_group, status);
+    __builtin_unreachable();
 }
 
 /* Whether a request from this place in the code is refused. */
