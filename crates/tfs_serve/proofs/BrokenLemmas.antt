@@ -1,5 +1,5 @@
 -- Laws of conversations that a fault breaks off.
-use Rattle.std.proofs.Common.{◌≡◌, ◌<◌, ℕ, List, [], ◌∷◌, ◌++◌, length, drop, Option}
+use Rattle.std.proofs.Common.{◌≡◌, ◌<◌, ℕ, List, [], ◌∷◌, ◌++◌, length, drop, Option, Some}
 use Rattle.std.proofs.Common.{refl, sym, ◌∙◌, inl, inr}
 use Rattle.std.proofs.Common.{append-nil}
 use Rattle.std.specs.Io.KnownBytes.{Consumes}
@@ -11,13 +11,14 @@ use Rattle.tfs_framing.specs.Request.{RequestValue}
 use Rattle.tfs_framing.specs.Form.{form_of}
 use Rattle.tfs_framing.specs.Framing.{BeginsWith, AreWanted, framing_refusal}
 use Rattle.tfs_http.specs.ReplyText.{reply_text}
-use Rattle.tfs_serve.specs.Conversation.{AnswersRequest, Exchange, ComesInReads, LeftOver, MayGoOn}
+use Rattle.tfs_serve.specs.Conversation.{AnswersRequest, Exchange, Course, ComesInReads, MayGoOn}
 use Rattle.tfs_serve.specs.Conversation.{closing_form}
-use Rattle.tfs_serve.specs.Turns.{WritesPart, FailsReading, Moment, moment, HasBroken}
+use Rattle.tfs_serve.specs.Turns.{WritesPart, FailsReading, Moment, moment, course_of, HasBroken}
 use Rattle.tfs_serve.specs.declared.fault.ServeFault.{ServeFault}
 use Rattle.tfs_serve.specs.declared.fault.ServeFault.TheVariants.{NoMemory}
-use Rattle.tfs_serve.proofs.FaultLemmas.{comes_reading, comes_writing}
-use Rattle.tfs_serve.proofs.ConversationLemmas.{still_unfinished, moved_nowhere, moved_reading, moved_writing, serves_one}
+use Rattle.tfs_serve.proofs.CourseLemmas.{takes_none, takes_refusal, takes_one}
+use Rattle.tfs_serve.proofs.FaultLemmas.{between_messages, comes_reading, comes_writing}
+use Rattle.tfs_serve.proofs.ConversationLemmas.{still_unfinished, moved_nowhere, moved_reading, moved_writing}
 
 module _ {S : Type 0} (step : S → Call → ReplyValue → S → Type 0) where
   -- A fault while more was read.
@@ -29,12 +30,11 @@ module _ {S : Type 0} (step : S → Call → ReplyValue → S → Type 0) where
     text = [];
     moved = moved_reading step desk desk from reader writer before after input left more consumed came;
     breaks = record {
-      left = record { rest = left; exchanges = []; last = []; lost = [] };
-      served = [];
-      serves = (sym is, refl, refl);
-      end = inl refl;
-      prefix = refl;
-      comes_at = comes_reading fault left [] before after fails (still_unfinished input left more wanted is w short) refl;
+      course = course_of [] left;
+      lost = [];
+      takes = takes_none step desk (input ++ more) left (sym is);
+      text_is = refl;
+      comes_at = comes_reading fault left before after fails (still_unfinished input left more wanted is w short);
     };
   }
 
@@ -45,12 +45,11 @@ module _ {S : Type 0} (step : S → Call → ReplyValue → S → Type 0) where
     text = [];
     moved = moved_nowhere step a.desk a.desk a.reader a.writer a.reads a.input a.input;
     breaks = record {
-      left = record { rest = a.input; exchanges = []; last = []; lost = [] };
-      served = [];
-      serves = (append-nil a.input, refl, refl);
-      end = inl refl;
-      prefix = refl;
-      comes_at = inl ((refl, refl, refl), may);
+      course = course_of [] a.input;
+      lost = [];
+      takes = takes_none step a.desk (a.input ++ []) a.input (append-nil a.input);
+      text_is = refl;
+      comes_at = inl (between_messages a.input, may);
     };
   }
 
@@ -62,18 +61,18 @@ module _ {S : Type 0} (step : S → Call → ReplyValue → S → Type 0) where
       (moment new reader writer reads left) fault
   broken_answering old new reader into writer reads input left r used reply fault b is answers w =
       let x : Exchange = record { request = r; reply = reply } in
-      let l : LeftOver = record { rest = left; exchanges = x ∷ []; last = []; lost = w.rest } in
+      let text : List ℕ = reply_text reply (form_of r) in
+      let course : Course = course_of (x ∷ []) left in
       record {
         more = [];
         text = w.part;
         moved = moved_writing step old new reader into writer reads input left w.part w.appended;
         breaks = record {
-          left = l;
-          served = reply_text reply (form_of r);
-          serves = serves_one step old new input left r used reply b is answers;
-          end = inl refl;
-          prefix = append-nil (reply_text reply (form_of r)) ∙ w.split;
-          comes_at = comes_writing fault l (reply_text reply (form_of r)) w.part reads reads (inr ([], x, refl, refl, refl)) w.split w.one_of;
+          course = course;
+          lost = w.rest;
+          takes = takes_one step old new input left r used reply b is answers;
+          text_is = append-nil (text ++ []) ∙ append-nil text ∙ w.split;
+          comes_at = comes_writing fault course text w.part w.rest reads reads (inr ([], x, refl, refl, refl)) w.split w.one_of;
         };
       }
 
@@ -83,17 +82,16 @@ module _ {S : Type 0} (step : S → Call → ReplyValue → S → Type 0) where
       → HasBroken step (moment desk reader into reads input) (moment desk reader writer reads input) fault
   broken_refusing desk reader into writer reads input refusal fault is w =
       let text : List ℕ = reply_text (refused (refusal_value refusal)) closing_form in
-      let l : LeftOver = record { rest = input; exchanges = []; last = text; lost = w.rest } in
+      let course : Course = record { exchanges = []; rest = input; refusal = Some refusal } in
       record {
         more = [];
         text = w.part;
         moved = moved_writing step desk desk reader into writer reads input input w.part w.appended;
         breaks = record {
-          left = l;
-          served = [];
-          serves = (append-nil input, refl, refl);
-          end = inr (refl, (refusal, is, refl));
-          prefix = w.split;
-          comes_at = comes_writing fault l text w.part reads reads (inl (refl, λ none. cc)) w.split w.one_of;
+          course = course;
+          lost = w.rest;
+          takes = takes_refusal step desk (input ++ []) input refusal (append-nil input) is;
+          text_is = w.split;
+          comes_at = comes_writing fault course text w.part w.rest reads reads (inl (refusal, refl, refl)) w.split w.one_of;
         };
       }

@@ -11,15 +11,16 @@ use Rattle.tfs_framing.specs.Request.{RequestValue}
 use Rattle.tfs_framing.specs.Form.{form_of}
 use Rattle.tfs_framing.specs.Framing.{BeginsWith, AreWanted, IsUnfinished, framing_refusal}
 use Rattle.tfs_http.specs.ReplyText.{reply_text}
-use Rattle.tfs_framing.proofs.MessageLemmas.{rest_behind}
-use Rattle.tfs_serve.specs.Conversation.{AnswersRequest, Exchange, has_asked, Serves, Ends, IsReadThrough, ComesInReads}
-use Rattle.tfs_serve.specs.Conversation.{closing_form}
-use Rattle.tfs_serve.specs.Turns.{Moment, moment, Moved, Went, HasEnded, HasBroken}
+use Rattle.tfs_serve.specs.Messages.{Stop}
+use Rattle.tfs_serve.specs.Conversation.{AnswersRequest, Exchange, Course, messages_of, closing_form, replies_text, course_text, TakesCourse}
+use Rattle.tfs_serve.specs.Conversation.{IsReadThrough, ComesInReads}
+use Rattle.tfs_serve.specs.Turns.{Moment, moment, Moved, course_of, Went, HasEnded, HasBroken}
 use Rattle.tfs_serve.specs.declared.fault.ServeFault.{ServeFault}
 use Rattle.tfs_serve.specs.declared.ended.Ended.{Ended}
 use Rattle.tfs_serve.specs.declared.ended.Ended.TheVariants.{Clean, Cut, Asked, Refused}
 use Rattle.tfs_serve.proofs.IoLemmas.{appends_more, consumes_more, appends_nothing, consumes_nothing, comes_more, comes_nothing}
-use Rattle.tfs_serve.proofs.FaultLemmas.{asked_behind, comes_later, later}
+use Rattle.tfs_serve.proofs.CourseLemmas.{later, later_text, replies_then, asked_behind, stop_later, takes_then, takes_none, takes_refusal, takes_one}
+use Rattle.tfs_serve.proofs.FaultLemmas.{comes_later}
 
 -- Input that was unfinished, with what was read since, is unfinished while fewer bytes are there than are wanted.
 pub still_unfinished : (input left more : List ℕ) (wanted : ℕ) → left ≡ input ++ more → AreWanted input wanted → length left < wanted → IsUnfinished left
@@ -46,41 +47,16 @@ asked_ends P true end is so = subst (λ (o : Option Ended). IfSome o P) (sym is)
 asked_ends P false end is so = subst (λ (o : Option Ended). IfSome o P) (sym is) tt
 
 module _ {S : Type 0} (step : S → Call → ReplyValue → S → Type 0) where
-  -- What was served and what was served after it, with more bytes, was served.
-  serves_then : (old between new : S) (bytes rest left text later more : List ℕ) (xs ys : List Exchange) → has_asked xs ≡ false
-      → Serves step old bytes xs between rest text → Serves step between (rest ++ more) ys new left later
-      → Serves step old (bytes ++ more) (xs ++ ys) new left (text ++ later)
-  serves_then old between new bytes rest left text later more [] ys goes_on s t =
-      subst (λ (b : List ℕ). Serves step old (b ++ more) ys new left (text ++ later)) (sym s.0)
-      (subst (λ (w : List ℕ). Serves step old (rest ++ more) ys new left (w ++ later)) (sym s.1)
-      (subst (λ (o : S). Serves step o (rest ++ more) ys new left later) s.2 t))
-  serves_then old between new bytes rest left text later more (x ∷ xs) ys goes_on s t =
-      by x.request.close refl goes_on (λ f. serves_then s.5 between new s.1 rest left s.7 later more xs ys f s.9 t)
-    where
-      by : (v : Bool) → x.request.close ≡ v → (v || has_asked xs) ≡ false
-          → (has_asked xs ≡ false → Serves step s.5 (s.1 ++ more) (xs ++ ys) new left (s.7 ++ later))
-          → Serves step old (bytes ++ more) (x ∷ (xs ++ ys)) new left (text ++ later)
-      by true is f behind = let wrong : true ≡ false = f in absurd (cc)
-      by false is f behind = (
-        s.0,
-        s.1 ++ more,
-        ap (λ b. b ++ more) s.2 ∙ append_assoc s.0 s.1 more,
-        s.3,
-        (λ asks. let wrong : true ≡ false = sym asks ∙ is in absurd (cc)),
-        s.5,
-        s.6,
-        s.7 ++ later,
-        ap (λ w. w ++ later) s.8 ∙ append_assoc (reply_text x.reply (form_of x.request)) s.7 later,
-        behind f,
-      )
+  -- A course behind the exchanges of a turn, from the moment at which the turn begins.
+  takes_later : (a b : Moment S) (w : Went step a b) (new : S) (more : List ℕ) (c : Course) → TakesCourse step b.desk new (b.input ++ more) c
+      → TakesCourse step a.desk new (a.input ++ (w.more ++ more)) (later w.served.exchanges c)
+  takes_later a b w new more c t =
+      subst (λ (bytes : List ℕ). TakesCourse step a.desk new bytes (later w.served.exchanges c)) (append_assoc a.input w.more more)
+      (takes_then step a.desk b.desk new (a.input ++ w.more) b.input more w.served.exchanges c w.served.goes_on w.served.takes t)
 
-  -- The same from the moment at which a turn begins.
-  served_later : (a b : Moment S) (w : Went step a b) (new : S) (rest later more : List ℕ) (ys : List Exchange)
-      → Serves step b.desk (b.input ++ more) ys new rest later
-      → Serves step a.desk (a.input ++ (w.more ++ more)) (w.served.0 ++ ys) new rest (w.text ++ later)
-  served_later a b w new rest later more ys t =
-      subst (λ (bytes : List ℕ). Serves step a.desk bytes (w.served.0 ++ ys) new rest (w.text ++ later)) (append_assoc a.input w.more more)
-      (serves_then a.desk b.desk new (a.input ++ w.more) b.input rest w.text later more w.served.0 ys w.served.2 w.served.1 t)
+  -- Its text.
+  text_later : (a b : Moment S) (w : Went step a b) (c : Course) → course_text (later w.served.exchanges c) ≡ w.text ++ course_text c
+  text_later a b w c = later_text w.served.exchanges c ∙ ap (λ t. t ++ course_text c) (sym w.served.text_is)
 
   -- Two turns in a row.
   pub went_then : (a b c : Moment S) → Went step a b → Went step b c → Went step a c
@@ -88,11 +64,13 @@ module _ {S : Type 0} (step : S → Call → ReplyValue → S → Type 0) where
     more = w.more ++ v.more;
     text = w.text ++ v.text;
     moved = moved_then a b c w.more v.more w.text v.text w.moved v.moved;
-    served = (
-      w.served.0 ++ v.served.0,
-      served_later a b w c.desk c.input v.text v.more v.served.0 v.served.1,
-      asked_behind w.served.0 v.served.0 w.served.2 ∙ v.served.2,
-    );
+    served = record {
+      exchanges = w.served.exchanges ++ v.served.exchanges;
+      takes = takes_later a b w c.desk v.more (course_of v.served.exchanges c.input) v.served.takes;
+      goes_on = asked_behind w.served.exchanges v.served.exchanges w.served.goes_on ∙ v.served.goes_on;
+      text_is = ap (λ t. t ++ v.text) w.served.text_is ∙ ap (λ t. replies_text w.served.exchanges ++ t) v.served.text_is
+          ∙ sym (replies_then w.served.exchanges v.served.exchanges);
+    };
   }
 
   -- A turn, and an end.
@@ -105,13 +83,10 @@ module _ {S : Type 0} (step : S → Call → ReplyValue → S → Type 0) where
         moved = moved_then a b c w.more e.more w.text e.text w.moved e.moved;
         through = e.through;
         converses = record {
-          exchanges = w.served.0 ++ d.exchanges;
-          rest = d.rest;
-          served = w.text ++ d.served;
-          last = d.last;
-          serves = served_later a b w c.desk d.rest d.served e.more d.exchanges d.serves;
-          ends = subst (λ (v : Bool). Ends v d.rest d.last ended) (sym (asked_behind w.served.0 d.exchanges w.served.2)) d.ends;
-          whole = ap (λ t. w.text ++ t) d.whole ∙ sym (append_assoc w.text d.served d.last);
+          course = later w.served.exchanges d.course;
+          takes = takes_later a b w c.desk e.more d.course d.takes;
+          stop = stop_later w.served.exchanges d.course ended w.served.goes_on d.stop;
+          text_is = ap (λ t. w.text ++ t) d.text_is ∙ sym (text_later a b w d.course);
         };
       }
 
@@ -124,16 +99,11 @@ module _ {S : Type 0} (step : S → Call → ReplyValue → S → Type 0) where
         text = w.text ++ e.text;
         moved = moved_then a b c w.more e.more w.text e.text w.moved e.moved;
         breaks = record {
-          left = later w.served.0 d.left;
-          served = w.text ++ d.served;
-          serves = served_later a b w c.desk d.left.rest d.served e.more d.left.exchanges d.serves;
-          end = elim d.end [
-            | inl none ↦ inl none
-            | inr end ↦ inr
-                (subst (λ (v : Bool). Ends v d.left.rest d.left.last Refused) (sym (asked_behind w.served.0 d.left.exchanges w.served.2)) end)
-          ];
-          prefix = append_assoc w.text d.served d.left.last ∙ ap (λ t. w.text ++ t) d.prefix ∙ sym (append_assoc w.text e.text d.left.lost);
-          comes_at = comes_later fault w.served.0 d.left a.reads b.reads c.reads w.moved.came.counted w.served.2 d.comes_at;
+          course = later w.served.exchanges d.course;
+          lost = d.lost;
+          takes = takes_later a b w c.desk e.more d.course d.takes;
+          text_is = text_later a b w d.course ∙ ap (λ t. w.text ++ t) d.text_is ∙ sym (append_assoc w.text e.text d.lost);
+          comes_at = comes_later fault w.served.exchanges d.course d.lost a.reads b.reads c.reads w.moved.came.counted w.served.goes_on d.comes_at;
         };
       }
 
@@ -166,7 +136,7 @@ module _ {S : Type 0} (step : S → Call → ReplyValue → S → Type 0) where
     more = [];
     text = [];
     moved = moved_nowhere a.desk a.desk a.reader a.writer a.reads a.input a.input;
-    served = ([], (append-nil a.input, refl, refl), refl);
+    served = record { exchanges = []; takes = takes_none step a.desk (a.input ++ []) a.input (append-nil a.input); goes_on = refl; text_is = refl };
   }
 
   -- More was read.
@@ -176,17 +146,8 @@ module _ {S : Type 0} (step : S → Call → ReplyValue → S → Type 0) where
     more = more;
     text = [];
     moved = moved_reading desk desk from reader writer before after input left more consumed came;
-    served = ([], (sym is, refl, refl), refl);
+    served = record { exchanges = []; takes = takes_none step desk (input ++ more) left (sym is); goes_on = refl; text_is = refl };
   }
-
-  -- One exchange serves the bytes of its message.
-  pub serves_one : (old new : S) (input left : List ℕ) (r : RequestValue) (used : ℕ) (reply : ReplyValue) → BeginsWith input r used → left ≡ drop used input
-      → AnswersRequest step old r reply new
-      → Serves step old (input ++ []) (record { request = r; reply = reply } ∷ []) new left (reply_text reply (form_of r))
-  serves_one old new input left r used reply b is answers =
-      let rest : left ≡ b.rest = rest_behind input left r used b is in
-      let alone = sym (append-nil (reply_text reply (form_of r))) in
-      (b.frame, b.rest, append-nil input ∙ b.parts, b.reads, (λ asks. refl), new, answers, [], alone, (sym rest, refl, refl))
 
   -- A message was answered.
   pub went_answering : (old new : S) (reader into writer : Option (List ℕ)) (reads : ℕ) (input left : List ℕ) (r : RequestValue) (used : ℕ)
@@ -197,7 +158,12 @@ module _ {S : Type 0} (step : S → Call → ReplyValue → S → Type 0) where
     more = [];
     text = reply_text reply (form_of r);
     moved = moved_writing old new reader into writer reads input left (reply_text reply (form_of r)) appended;
-    served = (record { request = r; reply = reply } ∷ [], serves_one old new input left r used reply b is answers, rw goes_on refl);
+    served = record {
+      exchanges = record { request = r; reply = reply } ∷ [];
+      takes = takes_one step old new input left r used reply b is answers;
+      goes_on = rw goes_on refl;
+      text_is = sym (append-nil (reply_text reply (form_of r)));
+    };
   }
 
   -- A message was answered that asks to close.
@@ -211,13 +177,10 @@ module _ {S : Type 0} (step : S → Call → ReplyValue → S → Type 0) where
     moved = moved_writing old new reader into writer reads input left (reply_text reply (form_of r)) appended;
     through = tt;
     converses = record {
-      exchanges = record { request = r; reply = reply } ∷ [];
-      rest = left;
-      served = reply_text reply (form_of r);
-      last = [];
-      serves = serves_one old new input left r used reply b is answers;
-      ends = (rw asks refl, refl);
-      whole = sym (append-nil (reply_text reply (form_of r)));
+      course = course_of (record { request = r; reply = reply } ∷ []) left;
+      takes = takes_one step old new input left r used reply b is answers;
+      stop = (rw asks refl, refl);
+      text_is = sym (append-nil (reply_text reply (form_of r) ++ []) ∙ append-nil (reply_text reply (form_of r)));
     };
   }
 
@@ -235,16 +198,13 @@ module _ {S : Type 0} (step : S → Call → ReplyValue → S → Type 0) where
       | inr p ↦ subst (λ (e : Ended). IsReadThrough e reader) (sym p.0) at_end
     ];
     converses = record {
-      exchanges = [];
-      rest = left;
-      served = [];
-      last = [];
-      serves = (sym is, refl, refl);
-      whole = refl;
-      ends = elim how [
-        | inl p ↦ subst (Ends false left []) (sym p.0) (refl, p.1, refl)
-        | inr p ↦ subst (Ends false left []) (sym p.0) (refl, p.1, still_unfinished input left more wanted is w short, refl)
+      course = course_of [] left;
+      takes = takes_none step desk (input ++ more) left (sym is);
+      stop = elim how [
+        | inl p ↦ subst (Stop (messages_of (course_of [] left))) (sym p.0) (refl, p.1, refl)
+        | inr p ↦ subst (Stop (messages_of (course_of [] left))) (sym p.0) (refl, p.1, still_unfinished input left more wanted is w short, refl)
       ];
+      text_is = refl;
     };
   }
 
@@ -258,12 +218,9 @@ module _ {S : Type 0} (step : S → Call → ReplyValue → S → Type 0) where
     moved = moved_writing desk desk reader into writer reads input input (reply_text (refused (refusal_value refusal)) closing_form) appended;
     through = tt;
     converses = record {
-      exchanges = [];
-      rest = input;
-      served = [];
-      last = reply_text (refused (refusal_value refusal)) closing_form;
-      serves = (append-nil input, refl, refl);
-      ends = (refl, (refusal, is, refl));
-      whole = refl;
+      course = record { exchanges = []; rest = input; refusal = Some refusal };
+      takes = takes_refusal step desk (input ++ []) input refusal (append-nil input) is;
+      stop = (refusal, refl);
+      text_is = refl;
     };
   }

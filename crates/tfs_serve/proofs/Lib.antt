@@ -1,5 +1,7 @@
 pub mod DeskLemmas
 pub mod IoLemmas
+pub mod MessagesLemmas
+pub mod CourseLemmas
 pub mod FaultLemmas
 pub mod ConversationLemmas
 pub mod BrokenLemmas

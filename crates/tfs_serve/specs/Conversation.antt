@@ -1,6 +1,5 @@
--- Conversations: the messages of a list of bytes one after another, the desk's answers, and the texts of the replies.
-use Rattle.std.specs.Prelude.{◌≡◌, ◌≢◌, ◌≤◌, ◌<◌, ◌-◌, ◌*◌, ◌⊎◌, ℕ, Bool, Option, List, [], ◌∷◌, ◌++◌, length, true, false}
-use Rattle.std.specs.List.{list_any}
+-- Conversations: the messages of a list of bytes, the desk's answers to them in turn, and the texts of the replies.
+use Rattle.std.specs.Prelude.{◌≡◌, ◌≢◌, ◌≤◌, ◌<◌, ◌-◌, ◌*◌, ◌⊎◌, ℕ, Bool, Option, Some, None, List, [], ◌∷◌, ◌++◌, length, map, flat_map, true, false}
 use Rattle.std.specs.Io.KnownBytes.{IsAtEnd}
 use Rattle.tfs_calls.specs.declared.call.Call.{Call}
 use Rattle.tfs_calls.specs.declared.refusal.Refusal.{Refusal}
@@ -9,9 +8,10 @@ use Rattle.tfs_calls.specs.Reply.{ReplyValue, refused}
 use Rattle.tfs_framing.specs.declared.form.Form.{Form}
 use Rattle.tfs_framing.specs.Request.{RequestValue}
 use Rattle.tfs_framing.specs.Form.{form_of}
-use Rattle.tfs_framing.specs.Framing.{ReadsMessage, BeginsWith, IsUnfinished, framing_refusal}
+use Rattle.tfs_framing.specs.Framing.{BeginsWith, IsUnfinished}
 use Rattle.tfs_http.specs.Routing.{HasCall, routing_refusal}
 use Rattle.tfs_http.specs.ReplyText.{reply_text}
+use Rattle.tfs_serve.specs.Messages.{Messages, HasMessages, Stop, one_asks}
 use Rattle.tfs_serve.specs.declared.ended.Ended.{Ended}
 use Rattle.tfs_serve.specs.declared.ended.Ended.TheVariants.{Clean, Cut, Asked, Refused}
 use Rattle.tfs_serve.specs.declared.fault.ServeFault.{ServeFault}
@@ -30,35 +30,50 @@ pub record Exchange : Type 0 where
   pub request : RequestValue
   pub reply : ReplyValue
 
--- One of the requests asked to close (RFC 9112, section 9.6).
-abbrev pub has_asked : List Exchange → Bool
-has_asked exchanges = list_any (λ x. x.request.close) exchanges
+-- The requests of exchanges.
+abbrev pub requests_of : List Exchange → List RequestValue
+requests_of exchanges = map (λ x. x.request) exchanges
 
--- The bytes are the messages of the exchanges and a rest; none but the last asks to close; the desk answers them in turn; the
--- text is that of the replies.
-abbrev pub Serves : {S : Type 0} → (S → Call → ReplyValue → S → Type 0) → S → List ℕ → List Exchange → S → List ℕ → List ℕ → Type 0
-Serves step old bytes [] new rest text = (bytes ≡ rest) × (text ≡ []) × (new ≡ old)
-Serves {S} step old bytes (x ∷ xs) new rest text =
-    (frame : List ℕ) × (after : List ℕ) × (bytes ≡ frame ++ after) × ReadsMessage frame x.request × (x.request.close ≡ true → xs ≡ [])
-    × (between : S) × AnswersRequest step old x.request x.reply between
-    × (later : List ℕ) × (text ≡ reply_text x.reply (form_of x.request) ++ later) × Serves step between after xs new rest later
+-- The desk gives the replies of the exchanges in turn.
+abbrev pub Runs : {S : Type 0} → (S → Call → ReplyValue → S → Type 0) → S → List Exchange → S → Type 0
+Runs step old [] new = new ≡ old
+Runs {S} step old (x ∷ xs) new = (between : S) × AnswersRequest step old x.request x.reply between × Runs step between xs new
 
--- So far the bytes were served, up to a rest, and no request asked to close.
-abbrev pub HasServed : {S : Type 0} → (S → Call → ReplyValue → S → Type 0) → S → S → List ℕ → List ℕ → List ℕ → Type 0
-HasServed step old new bytes rest text = (exchanges : List Exchange) × Serves step old bytes exchanges new rest text × (has_asked exchanges ≡ false)
+-- The course of a conversation: its exchanges, the bytes behind their messages, and the refusal of those, if they were refused.
+pub record Course : Type 0 where
+  pub exchanges : List Exchange
+  pub rest : List ℕ
+  pub refusal : Option Refusal
+
+-- Its messages.
+abbrev pub messages_of : Course → Messages
+messages_of c = record { requests = requests_of c.exchanges; rest = c.rest; refusal = c.refusal }
 
 -- The form of a reply after which the conversation ends.
 abbrev pub closing_form : Form
 closing_form = record { close = true; bare = false }
 
--- How a conversation ends with a rest, and the text behind its exchanges: after a request that asked to close, whatever is
--- left; without one, where no bytes are left, or inside a message, with no text; or with the refusal of the message.
-abbrev pub Ends : Bool → List ℕ → List ℕ → Ended → Type 0
-Ends asked rest last Clean = (asked ≡ false) × (rest ≡ []) × (last ≡ [])
-Ends asked rest last Cut = (asked ≡ false) × ¬ (rest ≡ []) × IsUnfinished rest × (last ≡ [])
-Ends asked rest last Asked = (asked ≡ true) × (last ≡ [])
-Ends asked rest last Refused = (asked ≡ false)
-    × ((refusal : Refusal) × framing_refusal rest refusal × (last ≡ reply_text (refused (refusal_value refusal)) closing_form))
+-- The text of the reply of an exchange.
+abbrev pub exchange_text : Exchange → List ℕ
+exchange_text x = reply_text x.reply (form_of x.request)
+
+-- The text of a refusal that ends the conversation, if there is one.
+abbrev pub refusal_text : Option Refusal → List ℕ
+refusal_text None = []
+refusal_text (Some refusal) = reply_text (refused (refusal_value refusal)) closing_form
+
+-- The texts of the replies of exchanges, one after another.
+abbrev pub replies_text : List Exchange → List ℕ
+replies_text exchanges = flat_map exchange_text exchanges
+
+-- The texts of all replies of a course.
+abbrev pub course_text : Course → List ℕ
+course_text c = replies_text c.exchanges ++ refusal_text c.refusal
+
+-- The bytes take this course over the steps of a desk: they have its messages, and the desk gives its replies.
+pub record TakesCourse {S : Type 0} (step : S → Call → ReplyValue → S → Type 0) (old new : S) (bytes : List ℕ) (c : Course) : Type 0 where
+  pub has : HasMessages bytes (messages_of c)
+  pub run : Runs step old c.exchanges new
 
 -- A conversation that ends with the input has a reader that is at its end.
 abbrev pub IsReadThrough : Ended → Option (List ℕ) → Type 0
@@ -69,57 +84,47 @@ IsReadThrough Refused reader = Unit {0}
 
 -- A conversation of these bytes, with this text, which ended so.
 pub record Converses {S : Type 0} (step : S → Call → ReplyValue → S → Type 0) (old new : S) (bytes text : List ℕ) (ended : Ended) : Type 0 where
-  pub exchanges : List Exchange
-  pub rest : List ℕ
-  pub served : List ℕ
-  pub last : List ℕ
-  pub serves : Serves step old bytes exchanges new rest served
-  pub ends : Ends (has_asked exchanges) rest last ended
-  pub whole : text ≡ served ++ last
+  pub course : Course
+  pub takes : TakesCourse step old new bytes course
+  pub stop : Stop (messages_of course) ended
+  pub text_is : text ≡ course_text course
 
 -- The bytes came in the reads from one count to another, each of which gives at most 65,536.
 pub record ComesInReads (bytes : List ℕ) (before after : ℕ) : Type 0 where
   pub counted : before ≤ after
   pub pace : length bytes ≤ 65536 * (after - before)
 
--- What a fault leaves: the bytes that have no answer, the exchanges, the text of the refusal that was to end the conversation,
--- empty without one, and the end of all this text that wasn't written.
-pub record LeftOver : Type 0 where
-  pub rest : List ℕ
-  pub exchanges : List Exchange
-  pub last : List ℕ
-  pub lost : List ℕ
-
 -- Each reply was written, and none was to end the conversation.
-abbrev pub IsBetween : LeftOver → Type 0
-IsBetween l = (l.last ≡ []) × (l.lost ≡ []) × (has_asked l.exchanges ≡ false)
+pub record IsBetween (c : Course) (lost : List ℕ) : Type 0 where
+  pub refusal : c.refusal ≡ None
+  pub lost_is : lost ≡ []
+  pub goes_on : one_asks (requests_of c.exchanges) ≡ false
 
 -- The bytes have no refusal: they are unfinished, or begin with a message.
 abbrev pub MayGoOn : List ℕ → Type 0
 MayGoOn rest = IsUnfinished rest ⊎ ((r : RequestValue) × (used : ℕ) × BeginsWith rest r used)
 
 -- The text is that of the last reply: of the refusal that was to end the conversation, or of the last exchange without one.
-abbrev pub IsLastReply : LeftOver → List ℕ → Type 0
-IsLastReply l text =
-    ((text ≡ l.last) × (l.last ≢ []))
-    ⊎ ((before : List Exchange) × (x : Exchange) × (l.exchanges ≡ before ++ x ∷ []) × (l.last ≡ []) × (text ≡ reply_text x.reply (form_of x.request)))
+abbrev pub IsLastReply : Course → List ℕ → Type 0
+IsLastReply c text =
+    ((refusal : Refusal) × (c.refusal ≡ Some refusal) × (text ≡ refusal_text (Some refusal)))
+    ⊎ ((before : List Exchange) × (x : Exchange) × (c.exchanges ≡ before ++ x ∷ []) × (c.refusal ≡ None) × (text ≡ exchange_text x))
 
--- Where a fault comes, between two counts of reads. The reader's comes after a read, and that of too many reads after 1,048,576;
--- the bytes that are left are unfinished. The writer's comes while a reply is written, whose end is lost. Want of memory comes
--- between messages, or the whole text of a reply is lost.
-abbrev pub ComesAt : ServeFault → LeftOver → ℕ → ℕ → Type 0
-ComesAt Read l before after = IsBetween l × IsUnfinished l.rest × (before < after)
-ComesAt TooManyReads l before after = IsBetween l × IsUnfinished l.rest × (after ≡ 1048576)
-ComesAt Write l before after = (part : List ℕ) × IsLastReply l (part ++ l.lost) × (l.lost ≢ [])
-ComesAt NoMemory l before after = (IsBetween l × MayGoOn l.rest) ⊎ IsLastReply l l.lost
+-- Where a fault comes, between two counts of reads, and which end of the text is lost. The reader's comes after a read, and that of
+-- too many reads after 1,048,576; the bytes that are left are unfinished. The writer's comes while a reply is written, whose end is
+-- lost. Want of memory comes between messages, or the whole text of a reply is lost.
+abbrev pub ComesAt : ServeFault → Course → List ℕ → ℕ → ℕ → Type 0
+ComesAt Read c lost before after = IsBetween c lost × IsUnfinished c.rest × (before < after)
+ComesAt TooManyReads c lost before after = IsBetween c lost × IsUnfinished c.rest × (after ≡ 1048576)
+ComesAt Write c lost before after = (part : List ℕ) × IsLastReply c (part ++ lost) × (lost ≢ [])
+ComesAt NoMemory c lost before after = (IsBetween c lost × MayGoOn c.rest) ⊎ IsLastReply c lost
 
 -- A conversation of these bytes, with this text, that a fault broke off between two counts of reads: what was written is the
 -- text of the replies but for the end that is lost.
 pub record BreaksOff {S : Type 0} (step : S → Call → ReplyValue → S → Type 0) (old new : S) (bytes text : List ℕ) (fault : ServeFault)
     (before after : ℕ) : Type 0 where
-  pub left : LeftOver
-  pub served : List ℕ
-  pub serves : Serves step old bytes left.exchanges new left.rest served
-  pub end : (left.last ≡ []) ⊎ Ends (has_asked left.exchanges) left.rest left.last Refused
-  pub prefix : served ++ left.last ≡ text ++ left.lost
-  pub comes_at : ComesAt fault left before after
+  pub course : Course
+  pub lost : List ℕ
+  pub takes : TakesCourse step old new bytes course
+  pub text_is : course_text course ≡ text ++ lost
+  pub comes_at : ComesAt fault course lost before after

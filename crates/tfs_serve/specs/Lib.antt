@@ -1,4 +1,5 @@
 pub mod Desk
+pub mod Messages
 pub mod Conversation
 pub mod Turns
 pub mod Output

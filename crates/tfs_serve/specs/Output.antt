@@ -16,4 +16,4 @@ IsUndisturbed x = (x.reply ≢ refused out_of_memory) × (x.reply ≢ refused jo
 -- From the table `old`, these bytes have this text, leave the table `new`, and the conversation ends so.
 pub record HasOutput (old new : TableValue) (bytes text : List ℕ) (ended : Ended) : Type 0 where
   pub converses : Converses AnswersCall old new bytes text ended
-  pub undisturbed : AllByRecursion IsUndisturbed converses.exchanges
+  pub undisturbed : AllByRecursion IsUndisturbed converses.course.exchanges

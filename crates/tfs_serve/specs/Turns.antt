@@ -1,9 +1,10 @@
 -- The turns of a conversation: what was done from one moment to another.
-use Rattle.std.specs.Prelude.{◌≡◌, ◌≢◌, ◌⊎◌, ◌<◌, ◌+◌, ◌-◌, ◌*◌, ℕ, List, [], ◌++◌, length, Option}
+use Rattle.std.specs.Prelude.{◌≡◌, ◌≢◌, ◌⊎◌, ◌<◌, ◌+◌, ◌-◌, ◌*◌, ℕ, List, [], ◌++◌, length, Option, None, false}
 use Rattle.std.specs.Io.KnownBytes.{Appends, Consumes}
 use Rattle.tfs_calls.specs.declared.call.Call.{Call}
 use Rattle.tfs_calls.specs.Reply.{ReplyValue}
-use Rattle.tfs_serve.specs.Conversation.{HasServed, IsReadThrough, ComesInReads, Converses, BreaksOff}
+use Rattle.tfs_serve.specs.Conversation.{Exchange, requests_of, Course, replies_text, TakesCourse, IsReadThrough, ComesInReads, Converses, BreaksOff}
+use Rattle.tfs_serve.specs.Messages.{one_asks}
 use Rattle.tfs_serve.specs.declared.ended.Ended.{Ended}
 use Rattle.tfs_serve.specs.declared.fault.ServeFault.{ServeFault}
 use Rattle.tfs_serve.specs.declared.fault.ServeFault.TheVariants.{Read, Write, TooManyReads, NoMemory}
@@ -41,6 +42,17 @@ pub record Moved {S : Type 0} (from to : Moment S) (bytes text : List ℕ) : Typ
   pub consumed : Consumes from.reader to.reader bytes
   pub appended : Appends from.writer to.writer text
   pub came : ComesInReads bytes from.reads to.reads
+
+-- The course of exchanges that no refusal ends.
+abbrev pub course_of : List Exchange → List ℕ → Course
+course_of exchanges rest = record { exchanges = exchanges; rest = rest; refusal = None }
+
+-- So far the bytes were served, up to a rest, and no request asked to close.
+pub record HasServed {S : Type 0} (step : S → Call → ReplyValue → S → Type 0) (old new : S) (bytes rest text : List ℕ) : Type 0 where
+  pub exchanges : List Exchange
+  pub takes : TakesCourse step old new bytes (course_of exchanges rest)
+  pub goes_on : one_asks (requests_of exchanges) ≡ false
+  pub text_is : text ≡ replies_text exchanges
 
 -- More was read, messages were answered, and the conversation goes on with what is left.
 pub record Went {S : Type 0} (step : S → Call → ReplyValue → S → Type 0) (from to : Moment S) : Type 0 where
