@@ -16,7 +16,7 @@ pub use bytes::Bytes;
 pub use call::{Call, Raw};
 pub use draft::Draft;
 pub use impact::{Chosen, Impact};
-pub use laws::a_change_is_answered_as_its_act_is;
+pub use laws::{a_change_is_answered_as_its_act_is, answers_of_the_model_are_undisturbed};
 pub use query::{Kind, Query, Texts};
 pub use refusal::{Methods, Refusal};
 pub use reply::Reply;

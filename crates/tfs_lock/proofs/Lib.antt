@@ -1,1 +1,2 @@
 pub mod LockTextLemmas
+pub mod MemoryLemmas

@@ -1,11 +1,12 @@
 //! Laws of lock texts, which hold whoever reads them.
 
-ghost use Rattle.std.specs.Prelude.{◌≡◌, ℕ, List, Some, None};
+ghost use Rattle.std.specs.Prelude.{◌≡◌, ◌≢◌, ℕ, List, Some, None};
 ghost use Rattle.tfs_lock.specs.LockInfo.{LockInformation};
 ghost use Rattle.tfs_lock.specs.LockText.{SpellsLockInfo, first_lock_fault, lock_info_of};
 ghost use Rattle.tfs_lock.specs.declared.fault.LockFault.{LockFault};
+ghost use Rattle.tfs_lock.specs.declared.fault.LockFault.TheVariants.{NoMemory};
 
-/// Bytes spell one piece of lock information, or have a first fault, and never both.
+/// Bytes spell one piece of lock information, or have a first fault, and never both. No text has want of memory as its fault.
 pub fn bytes_spell_lock_info_or_have_a_fault()
     ensures spelled { (bytes : List ℕ) (info : LockInformation) → SpellsLockInfo bytes info
         → first_lock_fault bytes ≡ None }
@@ -19,4 +20,5 @@ pub fn bytes_spell_lock_info_or_have_a_fault()
         → lock_info_of bytes ≡ Some info }
     ensures none_else { (bytes : List ℕ) (fault : LockFault) → first_lock_fault bytes ≡ Some fault
         → lock_info_of bytes ≡ None }
+    ensures memory { (bytes : List ℕ) → first_lock_fault bytes ≢ Some NoMemory }
 {}

@@ -3,6 +3,7 @@ pub mod ContentsLemmas
 pub mod DocLemmas
 pub mod FirstFaultLemmas
 pub mod ListLemmas
+pub mod MemoryLemmas
 pub mod NamesLemmas
 pub mod NumberingLemmas
 pub mod ResultLemmas

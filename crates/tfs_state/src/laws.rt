@@ -1,14 +1,15 @@
 //! Laws of state texts, which hold whoever reads them.
 
-ghost use Rattle.std.specs.Prelude.{◌≡◌, ℕ, ◌≤◌, ◌↔◌, List, Some, None, Err, length};
+ghost use Rattle.std.specs.Prelude.{◌≡◌, ◌≢◌, ℕ, ◌≤◌, ◌↔◌, List, Some, None, Err, length};
 ghost use Rattle.serde_json.specs.Data.{Data};
 ghost use Rattle.tfs_state.specs.Document.{Document};
 ghost use Rattle.tfs_state.specs.FirstFault.{IsFirstFault, IsDependencyFault, IsInstanceFault, IsResourceFault};
 ghost use Rattle.tfs_state.specs.Resources.{read_dependency, read_instance, read_resource, read_resources};
 ghost use Rattle.tfs_state.specs.StateText.{SpellsDocument, first_state_fault, document_of};
 ghost use Rattle.tfs_state.specs.declared.fault.StateFault.{StateFault};
+ghost use Rattle.tfs_state.specs.declared.fault.StateFault.TheVariants.{NoMemory};
 
-/// Bytes of at most 16 MiB spell one document, or have a first fault, and never both.
+/// Bytes of at most 16 MiB spell one document, or have a first fault, and never both. No text has want of memory as its fault.
 pub fn bytes_spell_a_document_or_have_a_fault()
     ensures spelled { (bytes : List ℕ) (d : Document) → SpellsDocument bytes d
         → first_state_fault bytes ≡ None }
@@ -22,6 +23,7 @@ pub fn bytes_spell_a_document_or_have_a_fault()
         → document_of bytes ≡ Some d }
     ensures none_else { (bytes : List ℕ) (fault : StateFault) → first_state_fault bytes ≡ Some fault
         → document_of bytes ≡ None }
+    ensures memory { (bytes : List ℕ) → first_state_fault bytes ≢ Some NoMemory }
 {}
 
 /// The fault of resources is the first one, by positions: a resource's own before those of its instances, and an instance's own

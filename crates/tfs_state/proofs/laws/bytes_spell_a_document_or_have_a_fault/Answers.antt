@@ -1,5 +1,6 @@
 -- Bytes spell a document exactly where they have one, and no fault.
 use Rattle.tfs_state.proofs.StateTextLemmas.{spelled_faultless, faultless_spelled, given_spelled, spelled_computed}
+use Rattle.tfs_state.proofs.MemoryLemmas.{fault_of_text}
 use Rattle.tfs_state.proofs.laws.bytes_spell_a_document_or_have_a_fault.Goals as goal
 
 pub returns-clause-spelled : goal.returns-clause-spelled
@@ -16,3 +17,6 @@ returns-clause-given c = given_spelled
 
 pub returns-clause-computed : goal.returns-clause-computed
 returns-clause-computed c = spelled_computed
+
+pub returns-clause-memory : goal.returns-clause-memory
+returns-clause-memory c = fault_of_text
