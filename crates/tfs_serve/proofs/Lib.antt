@@ -7,3 +7,4 @@ pub mod ConversationLemmas
 pub mod BrokenLemmas
 pub mod StepLemmas
 pub mod OutputLemmas
+pub mod ExistenceLemmas

@@ -6,6 +6,7 @@ ghost use Rattle.tfs_table.specs.Table.{TableValue, model_of};
 ghost use Rattle.tfs_serve.specs.Output.{HasOutput};
 ghost use Rattle.tfs_serve.specs.declared.ended.Ended.{Ended};
 
+use tfs_calls::answers_of_the_model_are_undisturbed;
 use tfs_framing::what_bytes_begin_with_is_one_thing_and_stays;
 use tfs_http::what_becomes_of_a_request_is_one_thing;
 
@@ -17,6 +18,17 @@ pub fn bytes_have_one_list_of_messages()
         → HasMessages bytes n → Stop n end → (m ≡ n) × (ended ≡ end) }
 {
     what_bytes_begin_with_is_one_thing_and_stays();
+}
+
+/// Over a table, bytes have an output: each list of bytes, whatever table there is, where no request for memory is refused and the
+/// sink doesn't fail.
+pub fn bytes_have_an_output()
+    ensures some { (old : TableValue) (bytes : List ℕ)
+        → (new : TableValue) × (text : List ℕ) × (ended : Ended) × HasOutput old new bytes text ended }
+{
+    what_bytes_begin_with_is_one_thing_and_stays();
+    what_becomes_of_a_request_is_one_thing();
+    answers_of_the_model_are_undisturbed();
 }
 
 /// Over a table, bytes have one output: the text, the journal that is left, whether the table is stopped then, and how the

@@ -20,7 +20,7 @@ pub use conversation::converse;
 pub use desk::Desk;
 pub use ended::Ended;
 pub use fault::ServeFault;
-pub use laws::{bytes_have_one_list_of_messages, bytes_have_one_output};
+pub use laws::{bytes_have_an_output, bytes_have_one_list_of_messages, bytes_have_one_output};
 pub use reads::{MAX_READS, Reads};
 pub use rebase::run_rebase;
 pub use run_fault::RunFault;

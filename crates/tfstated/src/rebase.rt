@@ -18,7 +18,7 @@ pub(crate) fn run(rt: &HostRuntime, old: &str, new: &str) -> ExitCode {
     };
     let mut writer = io::writer(rt);
     match run_rebase(rt.alloc(), bytes.as_slice(), sink, &mut writer) {
-        Ok(()) => ExitCode::SUCCESS,
+        Ok(_) => ExitCode::SUCCESS,
         Err(fault) => end_with(rt, fault),
     }
 }

@@ -134,7 +134,7 @@ fn a_rebased_journal_is_told_by_its_base(rt: HostRuntime) -> Result<(), Fail> {
             Discard,
             &mut writer,
         );
-        assert!(rt; given == Ok(()), "{line}");
+        assert!(rt; given.is_ok(), "{line}");
         assert!(rt; writer.as_slice() == line.as_bytes(), "{line}");
     }
     let unlawful = first_format_of(&rt, &[&[("POST", S2)], &[("POST", S1)]])?;
@@ -148,12 +148,12 @@ fn a_rebased_journal_is_told_by_its_base(rt: HostRuntime) -> Result<(), Fail> {
     ] {
         let mut writer = Vec::new(rt.alloc());
         let given = run_rebase(rt.alloc(), bytes, Discard, &mut writer);
-        assert!(rt; given == Err(RunFault::Opening(fault)), "{fault}");
+        assert!(rt; given.err() == Some(RunFault::Opening(fault)), "{fault}");
         assert!(rt; writer.is_empty(), "{fault}");
     }
     let mut writer = Vec::new(rt.alloc());
     let sink = MemorySink::new(rt.alloc(), 50, 0);
     let given = run_rebase(rt.alloc(), text.as_slice(), sink, &mut writer);
-    assert!(rt; given == Err(RunFault::Opening(OpenFault::SinkFault)));
+    assert!(rt; given.err() == Some(RunFault::Opening(OpenFault::SinkFault)));
     Ok(())
 }
