@@ -1,42 +1,30 @@
 -- Laws of the texts of replies.
-use Rattle.std.proofs.Common.{◌≡◌, ◌≢◌, ◌∙◌, ℕ, List, [], ◌++◌, length, codes, decimal, Result, Ok, Err, IfOk, string_bytes, String, refl, ap}
-use Rattle.std.proofs.Common.{append_assoc, if◌then◌else◌}
+use Rattle.std.proofs.Common.{◌≡◌, ◌≢◌, ◌∙◌, ℕ, List, [], ◌++◌, length, codes, decimal, refl, ap, append_assoc}
 use Rattle.tfs_calls.specs.Refusal.{RefusalValue, head_too_large, bad_head, bad_length, transfer_coding, body_too_large, no_route, method_not_allowed}
 use Rattle.tfs_calls.specs.Refusal.{bad_name, no_host, bad_chunk, bad_digest}
 use Rattle.tfs_calls.specs.Refusal.{bad_lock_info, bad_state, too_many_instances, journal_stopped, locked, lock_lost, lineage_differs, serial_too_low}
 use Rattle.tfs_calls.specs.Refusal.{serial_reused, no_state, no_address, too_many_addresses, unknown_address}
 use Rattle.tfs_calls.specs.Refusal.{table_full, journal_full, out_of_memory, journal_fault, no_copy, row_of}
 use Rattle.tfs_calls.specs.Reply.{ReplyValue, done, state, impact, refused}
-use Rattle.tfs_http.specs.ReplyText.{status_of, allow_line, close_line, type_line, phrase_of, name_body, head_text}
+use Rattle.tfs_http.specs.ReplyText.{status_of, status_line, close_line, type_line, phrase_of, head_text}
 use Rattle.tfs_framing.specs.declared.form.Form.{Form}
 
--- Eleven parts joined from the right, and as a first line, three lines, a fifth line and an end.
-joined : (a b c d e f g h i j k : List ℕ)
-    → a ++ (b ++ (c ++ (d ++ (e ++ (f ++ (g ++ (h ++ (i ++ (j ++ (e ++ k)))))))))) ≡ (a ++ b ++ c ++ d ++ e) ++ f ++ g ++ h ++ (i ++ j ++ e) ++ k
-joined a b c d e f g h i j k = simp (append_assoc) refl
+-- Seven parts added one after another, the last of which is twice a line's end, and the lines that they are.
+joined : (old a b c d e f g : List ℕ) → ((((((old ++ a) ++ b) ++ c) ++ d) ++ e) ++ f) ++ (g ++ g) ≡ old ++ (a ++ b ++ c ++ d ++ ((e ++ f) ++ g) ++ g)
+joined old a b c d e f g = simp append_assoc refl
 
--- The text that is printed for a head is the head.
-pub head_printed : {Z E : Type 0} (r : Result (String Z) E) (status : ℕ) (phrase allow close kind body : List ℕ) (form : Form) → phrase ≡ phrase_of status
-    → close ≡ close_line form → kind ≡ type_line body
-    → IfOk r (λ s. string_bytes s ≡ codes "HTTP/1.1 " ++ (decimal status ++ (codes " " ++ (phrase ++ (codes "\r\n" ++ (allow ++ (close
-    ++ (kind ++ (codes "Content-Length: " ++ (decimal (length body) ++ codes "\r\n\r\n"))))))))))
-    → IfOk r (λ s. string_bytes s ≡ head_text status allow form body)
-head_printed (Ok s) status phrase allow close kind body form is_phrase is_close is_kind e =
-    rw (← is_phrase, ← is_close, ← is_kind)
-    (e ∙ joined (codes "HTTP/1.1 ") (decimal status) (codes " ") phrase (codes "\r\n") allow close kind (codes "Content-Length: ")
-    (decimal (length body)) (codes "\r\n"))
-head_printed (Err e) status phrase allow close kind body form is_phrase is_close is_kind q = tt
+-- What was added line by line is the head.
+pub head_added : (code status : ℕ) (listed allow close kind digits body old added : List ℕ) (form : Form) → code ≡ status → listed ≡ allow
+    → close ≡ close_line form → kind ≡ type_line body → digits ≡ decimal (length body)
+    → added ≡ ((((((old ++ status_line code) ++ listed) ++ close) ++ kind) ++ codes "Content-Length: ") ++ digits) ++ codes "\r\n\r\n"
+    → added ≡ old ++ head_text status allow form body
+head_added code status listed allow close kind digits body old added form is_status is_allow is_close is_kind is_digits e =
+    rw (← is_status, ← is_allow, ← is_close, ← is_kind, ← is_digits)
+    (e ∙ joined old (status_line code) listed close kind (codes "Content-Length: ") digits (codes "\r\n"))
 
--- The parts that are printed for a refusal with its name are its head and its body.
-pub refusal_printed : (refusal : RefusalValue) (status : ℕ) (name allow body text : List ℕ) (form : Form) → status ≡ (row_of refusal).status
-    → name ≡ (row_of refusal).name → allow ≡ allow_line (refused refusal) → body ≡ text → text ≡ codes "{\"error\":\"" ++ (name ++ codes "\"}")
-    → head_text status allow form body ++ (if form.bare then [] else body)
-    ≡ head_text (status_of (refused refusal)) (allow_line (refused refusal)) form (name_body refusal) ++ (if form.bare then [] else name_body refusal)
-refusal_printed refusal status name allow body text form is_status is_name is_allow is_body is_text =
-    let is : body ≡ name_body refusal = is_body ∙ is_text ∙ ap (λ t. codes "{\"error\":\"" ++ (t ++ codes "\"}")) is_name in
-    ap (λ t. head_text t allow form body ++ (if form.bare then [] else body)) is_status
-    ∙ ap (λ t. head_text (row_of refusal).status t form body ++ (if form.bare then [] else body)) is_allow
-    ∙ ap (λ t. head_text (row_of refusal).status (allow_line (refused refusal)) form t ++ (if form.bare then [] else t)) is
+-- A part that was added to what stood there before.
+pub added_to : (before after now part text : List ℕ) → after ≡ now ++ part → part ≡ text → now ≡ before → after ≡ before ++ text
+added_to before after now part text e is was = e ∙ ap (λ (t : List ℕ). t ++ part) was ∙ ap (λ (t : List ℕ). before ++ t) is
 
 -- The status of each refusal has a phrase.
 refusal_has_phrase : (refusal : RefusalValue) → phrase_of (row_of refusal).status ≢ []

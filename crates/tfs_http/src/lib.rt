@@ -11,5 +11,5 @@ mod routes;
 mod tests;
 
 pub use laws::{each_status_has_its_phrase, what_becomes_of_a_request_is_one_thing};
-pub use reply::write_reply;
+pub use reply::{body_of, write_head, write_reply};
 pub use routes::{Routes, call_of};

@@ -1,19 +1,25 @@
 //! The texts of replies (RFC 9112, section 4).
 
-ghost use Rattle.std.specs.Prelude.{◌≡◌, ◌++◌, [], string_bytes, OnOk, OnErr, IfOk, if◌then◌else◌};
+ghost use Rattle.std.specs.Prelude.{◌≡◌, ◌++◌, take, vec_len, OnOk, OnErr, IfOk};
+ghost use Rattle.std.specs.Cow.{cow_slice_items};
 ghost use Rattle.tfs_calls.specs.Refusal.{refusal_value};
-ghost use Rattle.tfs_calls.specs.Reply.{reply_value, refused};
-ghost use Rattle.tfs_http.specs.ReplyText.{phrase_of, status_of, allow_line, close_line, type_line, head_text, name_body, reply_text};
+ghost use Rattle.tfs_calls.specs.Reply.{reply_value};
+ghost use Rattle.tfs_http.specs.ReplyText.{phrase_of, status_of, status_line, allow_line, close_line, type_line, head_text, body_of, refusal_body, name_body, reply_text};
 
 use crate::answer::impact_body;
+use itoa::Buffer;
 use std::alloc::{AllocError, Global};
+use std::borrow::CowSlice;
 use tfs_calls::{Methods, Refusal, Reply};
 use tfs_framing::Form;
 
 /// The status of an answer that is no refusal (RFC 9110, section 15.3.1).
 const OK: u16 = 200;
 
-/// Adds the text of a reply.
+/// Room for JSON with the name of a refusal.
+const NAME_BODY_BYTES: usize = 32;
+
+/// Adds the text of a reply: its head, and its body where the form isn't bare.
 pub fn write_reply(
     alloc: Global,
     reply: &Reply,
@@ -23,107 +29,115 @@ pub fn write_reply(
     ensures ok { OnOk result (out.new.items ≡ out.old.items ++ reply_text (reply_value reply.now) form) }
     ensures err { OnErr result (out.new.items ≡ out.old.items) }
 {
-    match reply {
-        Reply::Done(_) => write_parts(alloc, OK, "", form, b"", out),
-        Reply::State(doc) => write_parts(alloc, OK, "", form, doc.bytes(), out),
-        Reply::Impact(answer) => {
-            let body = impact_body(alloc, answer)?;
-            write_parts(alloc, OK, "", form, body.as_bytes(), out)
-        }
-        Reply::Refused(refusal) => write_refusal(alloc, refusal, form, out),
-    }
-}
-
-/// Adds the text of a refusal: of one by a lock the body is the holder's information, as it came.
-fn write_refusal(
-    alloc: Global,
-    refusal: &Refusal,
-    form: Form,
-    out: &mut Vec<u8>,
-) -> Result<(), AllocError>
-    ensures ok { OnOk result (out.new.items ≡ out.old.items ++ reply_text (refused (refusal_value refusal.now)) form) }
-    ensures err { OnErr result (out.new.items ≡ out.old.items) }
-{
-    if let Refusal::Locked(info) = refusal {
-        return write_parts(alloc, refusal.status(), "", form, info.bytes(), out);
-    }
-    write_name(alloc, refusal, form, out)
-}
-
-/// Adds the text of a refusal whose body is JSON with its name.
-fn write_name(
-    alloc: Global,
-    refusal: &Refusal,
-    form: Form,
-    out: &mut Vec<u8>,
-) -> Result<(), AllocError>
-    ensures ok { OnOk result (let body = name_body (refusal_value refusal.now) in let reply = refused (refusal_value refusal.now) in
-        out.new.items ≡ out.old.items ++ (head_text (status_of reply) (allow_line reply) form body ++ (if form.bare then [] else body))) }
-    ensures err { OnErr result (out.new.items ≡ out.old.items) }
-{
-    let name = refusal.name();
-    let body = format!(in alloc; "{{\"error\":\"{name}\"}}")?;
-    write_parts(
-        alloc,
-        refusal.status(),
-        allow_line(refusal),
-        form,
-        body.as_bytes(),
-        out,
-    )
-}
-
-/// Adds a head and a body: of the head the status, the line that lists the route's methods, and the form.
-fn write_parts(
-    alloc: Global,
-    status: u16,
-    allow: &str,
-    form: Form,
-    body: &[u8],
-    out: &mut Vec<u8>,
-) -> Result<(), AllocError>
-    ensures ok { OnOk result (out.new.items ≡ out.old.items
-        ++ (head_text status allow.now form body.now ++ (if form.bare then [] else body.now))) }
-    ensures err { OnErr result (out.new.items ≡ out.old.items) }
-{
-    let head = head_text(alloc, status, allow, form, body)?;
+    let start = out.len();
+    let body = body_of(alloc, reply)?;
+    write_head(reply, form, body.as_slice(), out)?;
     if form.bare {
-        return out.extend_from_slice(head.as_bytes());
+        return Ok(());
     }
-    append(out, head.as_bytes(), body)
-}
-
-/// The status line, the fields and the empty line.
-fn head_text(
-    alloc: Global,
-    status: u16,
-    allow: &str,
-    form: Form,
-    body: &[u8],
-) -> Result<String, AllocError>
-    ensures { IfOk result (λ head. string_bytes head ≡ head_text status allow.now form body.now) }
-{
-    let phrase = phrase(status);
-    let close = close_line(form);
-    let kind = type_line(body);
-    let len = body.len();
-    format!(in alloc;
-        "HTTP/1.1 {status} {phrase}\r\n{allow}{close}{kind}Content-Length: {len}\r\n\r\n"
-    )
-}
-
-/// Adds both parts, or neither.
-fn append(out: &mut Vec<u8>, head: &[u8], body: &[u8]) -> Result<(), AllocError>
-    ensures ok { OnOk result (out.new.items ≡ out.old.items ++ (head.now ++ body.now)) }
-    ensures err { OnErr result (out.new.items ≡ out.old.items) }
-{
-    let len = out.len();
-    out.extend_from_slice(head)?;
-    if let Err(error) = out.extend_from_slice(body) {
-        out.truncate(len);
+    if let Err(error) = out.extend_from_slice(body.as_slice()) {
+        out.truncate(start);
         return Err(error);
     }
     Ok(())
+}
+
+/// The body of a reply. That of a state and of a refusal by a lock is lent: the bytes of the state, and the holder's
+/// information as it came.
+pub fn body_of<'r>(alloc: Global, reply: &'r Reply) -> Result<CowSlice<'r, u8>, AllocError>
+    ensures ok { IfOk result (λ body. cow_slice_items body ≡ body_of (reply_value reply.now)) }
+{
+    match reply {
+        Reply::Done(_) => Ok(CowSlice::Borrowed(b"")),
+        Reply::State(doc) => Ok(CowSlice::Borrowed(doc.bytes())),
+        Reply::Impact(answer) => Ok(CowSlice::Owned(impact_body(alloc, answer)?.into_bytes())),
+        Reply::Refused(refusal) => refusal_body(alloc, refusal),
+    }
+}
+
+/// The body of a refusal.
+fn refusal_body<'r>(alloc: Global, refusal: &'r Refusal) -> Result<CowSlice<'r, u8>, AllocError>
+    ensures { IfOk result (λ body. cow_slice_items body ≡ refusal_body (refusal_value refusal.now)) }
+{
+    if let Refusal::Locked(info) = refusal {
+        return Ok(CowSlice::Borrowed(info.bytes()));
+    }
+    Ok(CowSlice::Owned(name_body(alloc, refusal)?))
+}
+
+/// JSON with the name of a refusal.
+fn name_body(alloc: Global, refusal: &Refusal) -> Result<Vec<u8>, AllocError>
+    ensures { IfOk result (λ body. body.items ≡ name_body (refusal_value refusal.now)) }
+{
+    let mut body = Vec::with_capacity(alloc, NAME_BODY_BYTES)?;
+    body.extend_from_slice(b"{\"error\":\"")?;
+    body.extend_from_slice(refusal.name().as_bytes())?;
+    body.extend_from_slice(b"\"}")?;
+    Ok(body)
+}
+
+/// Adds the head of a reply in a form, with this body, or nothing.
+pub fn write_head(
+    reply: &Reply,
+    form: Form,
+    body: &[u8],
+    out: &mut Vec<u8>,
+) -> Result<(), AllocError>
+    ensures ok { OnOk result (let value = reply_value reply.now in
+        out.new.items ≡ out.old.items ++ head_text (status_of value) (allow_line value) form body.now) }
+    ensures err { OnErr result (out.new.items ≡ out.old.items) }
+{
+    let len = out.len();
+    let added = push_head(reply, form, body, out);
+    if added.is_err() {
+        out.truncate(len);
+    }
+    added
+}
+
+/// Adds the lines of a head in turn; where memory is refused, some bytes of them.
+fn push_head(
+    reply: &Reply,
+    form: Form,
+    body: &[u8],
+    out: &mut Vec<u8>,
+) -> Result<(), AllocError>
+    ensures ok { OnOk result (let value = reply_value reply.now in
+        out.new.items ≡ out.old.items ++ head_text (status_of value) (allow_line value) form body.now) }
+    ensures err { OnErr result (take (vec_len out.old) out.new.items ≡ out.old.items) }
+{
+    let mut digits = Buffer::new();
+    push_status_line(status_of(reply), out)?;
+    out.extend_from_slice(allow_line(reply).as_bytes())?;
+    out.extend_from_slice(close_line(form).as_bytes())?;
+    out.extend_from_slice(type_line(body).as_bytes())?;
+    out.extend_from_slice(b"Content-Length: ")?;
+    out.extend_from_slice(digits.format(body.len()).as_bytes())?;
+    out.extend_from_slice(b"\r\n\r\n")?;
+    Ok(())
+}
+
+/// Adds the version, the status and its phrase; where memory is refused, some bytes of them.
+fn push_status_line(status: u16, out: &mut Vec<u8>) -> Result<(), AllocError>
+    ensures ok { OnOk result (out.new.items ≡ out.old.items ++ status_line status) }
+    ensures err { OnErr result (take (vec_len out.old) out.new.items ≡ out.old.items) }
+{
+    let mut digits = Buffer::new();
+    out.extend_from_slice(b"HTTP/1.1 ")?;
+    out.extend_from_slice(digits.format(status).as_bytes())?;
+    out.extend_from_slice(b" ")?;
+    out.extend_from_slice(phrase(status).as_bytes())?;
+    out.extend_from_slice(b"\r\n")
+}
+
+/// The status of a reply.
+fn status_of(reply: &Reply) -> u16
+    ensures { result ≡ status_of (reply_value reply.now) }
+{
+    match reply {
+        Reply::Done(_) | Reply::State(_) | Reply::Impact(_) => OK,
+        Reply::Refused(refusal) => refusal.status(),
+    }
 }
 
 /// The phrase of a status; empty for a status that no reply has.
@@ -148,10 +162,10 @@ fn phrase(status: u16) -> &'static str
 }
 
 /// The line that lists the methods of the refused request's route.
-fn allow_line(refusal: &Refusal) -> &'static str
-    ensures { result.now ≡ allow_line (refused (refusal_value refusal.now)) }
+fn allow_line(reply: &Reply) -> &'static str
+    ensures { result.now ≡ allow_line (reply_value reply.now) }
 {
-    if let Refusal::MethodNotAllowed(methods) = refusal {
+    if let Reply::Refused(Refusal::MethodNotAllowed(methods)) = reply {
         return match methods {
             Methods::State => "Allow: DELETE, GET, LOCK, POST, UNLOCK\r\n",
             Methods::Impact => "Allow: GET\r\n",
