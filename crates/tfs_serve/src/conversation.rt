@@ -13,13 +13,13 @@ use crate::desk::Desk;
 use crate::ended::Ended;
 use crate::fault::ServeFault;
 use crate::input::{Input, fill};
-use crate::output::write_out;
+use crate::output::{JOINED_BYTES, write_joined};
 use crate::reads::Reads;
 use std::alloc::{AllocError, Global};
 use std::io::{Read, Write};
 use tfs_calls::{Refusal, Reply};
 use tfs_framing::{Form, Framed, Request};
-use tfs_http::{Routes, call_of, write_reply};
+use tfs_http::{Routes, body_of, call_of, write_head};
 
 /// The form of a reply after which the conversation ends.
 const CLOSING: Form = Form {
@@ -59,6 +59,8 @@ pub fn converse<R: Read, W: Write, D: Desk>(
 struct Line {
     routes: Routes,
     input: Input,
+    /// Where the text of a reply is put together. It has room for what is written at once, and keeps it.
+    text: Vec<u8>,
 }
 
 impl Line {
@@ -69,6 +71,7 @@ impl Line {
         Ok(Line {
             routes: Routes::new(alloc)?,
             input: Input::new(alloc)?,
+            text: Vec::with_capacity(alloc, JOINED_BYTES)?,
         })
     }
 }
@@ -137,15 +140,17 @@ fn turn<R: Read, W: Write, D: Desk>(
         Framed::Got(request, used) => {
             line.input.consume(used);
             let asks_to_close = request.form().close;
-            match reply_to(alloc, &line.routes, writer, desk, request) {
+            match reply_to(alloc, line, writer, desk, request) {
                 Ok(()) => Ok(end_after(asks_to_close)),
                 Err(fault) => Err(fault),
             }
         }
-        Framed::Fault(refusal) => match send(alloc, writer, &Reply::Refused(refusal), CLOSING) {
-            Ok(()) => Ok(Some(Ended::Refused)),
-            Err(fault) => Err(fault),
-        },
+        Framed::Fault(refusal) => {
+            match send(alloc, &mut line.text, writer, &Reply::Refused(refusal), CLOSING) {
+                Ok(()) => Ok(Some(Ended::Refused)),
+                Err(fault) => Err(fault),
+            }
+        }
     }
 }
 
@@ -174,7 +179,7 @@ fn end_of(rest: &[u8]) -> Ended
 /// Answers a request, and writes the text of the reply.
 fn reply_to<W: Write, D: Desk>(
     alloc: Global,
-    routes: &Routes,
+    line: &mut Line,
     writer: &mut W,
     desk: &mut D,
     request: Request,
@@ -184,10 +189,11 @@ fn reply_to<W: Write, D: Desk>(
         × Appends (W.contents writer.old) (W.contents writer.new) (reply_text reply (form_of request))) }
     ensures err { IfErr result (λ fault. (reply : ReplyValue) × AnswersRequest D.step desk.old request reply desk.new
         × WritesPart (W.contents writer.old) (W.contents writer.new) (reply_text reply (form_of request)) fault) }
+    ensures input { line.new.input ≡ line.old.input }
 {
     let form = request.form();
-    let reply = answer(alloc, routes, desk, request);
-    if let Err(fault) = send(alloc, writer, &reply, form) {
+    let reply = answer(alloc, &line.routes, desk, request);
+    if let Err(fault) = send(alloc, &mut line.text, writer, &reply, form) {
         return Err(fault);
     }
     Ok(())
@@ -204,9 +210,10 @@ fn answer<D: Desk>(alloc: Global, routes: &Routes, desk: &mut D, request: Reques
     }
 }
 
-/// Writes the text of a reply; after a fault a part of it is written.
+/// Writes the text of a reply, whose head and small body are put together in `text`; after a fault a part of it is written.
 fn send<W: Write>(
     alloc: Global,
+    text: &mut Vec<u8>,
     writer: &mut W,
     reply: &Reply,
     form: Form,
@@ -214,12 +221,15 @@ fn send<W: Write>(
     ensures ok { OnOk result (Appends (W.contents writer.old) (W.contents writer.new) (reply_text (reply_value reply.now) form)) }
     ensures err { IfErr result (λ fault. WritesPart (W.contents writer.old) (W.contents writer.new) (reply_text (reply_value reply.now) form) fault) }
 {
-    let mut text = Vec::new(alloc);
-    if write_reply(alloc, reply, form, &mut text).is_err() {
+    let Ok(body) = body_of(alloc, reply) else {
+        return Err(ServeFault::NoMemory);
+    };
+    text.clear();
+    if write_head(reply, form, body.as_slice(), text).is_err() {
         return Err(ServeFault::NoMemory);
     }
-    if let Err(fault) = write_out(writer, text.as_slice()) {
-        return Err(fault);
+    if form.bare {
+        return write_joined(writer, text, b"");
     }
-    Ok(())
+    write_joined(writer, text, body.as_slice())
 }

@@ -11,6 +11,7 @@ mod locks;
 mod pipes;
 mod replies;
 mod stops;
+mod writes;
 
 use super::*;
 use std::alloc::Global;
