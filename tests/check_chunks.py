@@ -3,9 +3,10 @@ written here by hand; random chunks are answered by the plain model of stdio_mod
 import random
 import sys
 
+from checking import S1, checks_in, expect, run_checks
 import stdio_model as model
 from stdio_model import ASKED, CLEAN, CUT, DONE, REFUSED, refusal_text, reply_text
-from stdio_program import MAX_READ, S1, checks_in, expect, run, run_checks, run_in_pieces
+from stdio_program import MAX_READ, run, run_in_pieces
 
 GET = b"GET /state/a HTTP/1.1\r\nHost: h\r\n\r\n"
 NO_STATE = refusal_text("NoState")

@@ -6,10 +6,11 @@ import sys
 import tempfile
 from pathlib import Path
 
+from checking import S1, S2, SECONDS, checks_in, expect, run_checks
 from journal_reader import base_text, push_content, read_journal, record_text
 from refused_requests import FOREVER, build_shim, run_refused
 from stdio_model import Locked, Refused, Table, document_of, locked_by
-from stdio_program import PROGRAM, S1, S2, SECONDS, USAGE, checks_in, expect, run_checks
+from stdio_program import PROGRAM, USAGE
 
 FOLDER = tempfile.TemporaryDirectory(prefix="tfstated-")
 FIRST, SECOND = b"TFJ1\n", b"TFJ2\n"

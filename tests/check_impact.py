@@ -5,9 +5,10 @@ import random
 import sys
 from urllib.parse import quote, quote_plus
 
+from checking import checks_in, expect, run_checks
 import stdio_model as model
 from stdio_model import CLEAN, DONE, refusal_text, reply_text
-from stdio_program import checks_in, expect, request_text, run, run_checks
+from stdio_program import request_text, run
 
 
 def resource(name, *instances, **members):

@@ -3,8 +3,8 @@ and all of two addresses: each request in turn, and all from each one on. Each r
 whole lines of it and that memory ran out."""
 import sys
 
+from checking import checks_in, expect, run_checks
 from refused_requests import FOREVER, build_shim, built, count_of, fault_of
-from stdio_program import checks_in, expect, run_checks
 
 ANY, ALL = b"".join(b"any %d\n" % u for u in range(12, 16)), b"all 14\nall 15\n"
 AMPLE = b"read\nbuilt\n" + ANY + ALL

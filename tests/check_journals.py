@@ -12,9 +12,9 @@ import tempfile
 import threading
 from pathlib import Path
 
+from checking import S1, S2, SECONDS, checks_in, expect, run_checks
 from journal_reader import base_text, lines_of, push_content, read_journal, record_text
 from refused_requests import FOREVER, build_shim, built, count_of, fault_of
-from stdio_program import SECONDS, S1, S2, checks_in, expect, run_checks
 
 PROGRAM = built("journal_files")
 FOLDER = tempfile.TemporaryDirectory(prefix="tfstated-")

@@ -10,8 +10,9 @@ import sys
 import threading
 import time
 
+from checking import SECONDS, checks_in, expect, run_checks
 from serve_program import Server, asked, entries_of, fresh, run, state
-from stdio_program import SECONDS, checks_in, expect, request_text, run_checks
+from stdio_program import request_text
 
 
 def push_on(server, name, acknowledged, told, seed):

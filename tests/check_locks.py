@@ -5,9 +5,10 @@ import random
 import sys
 from collections import Counter
 
+from checking import S1, checks_in, expect, run_checks
 import stdio_model as model
 from stdio_model import CLEAN, CUT, MAX_ENTRIES, MAX_NAMES, Request, Table
-from stdio_program import MAX_READ, S1, checks_in, expect, request_text, run, run_checks, run_in_pieces
+from stdio_program import MAX_READ, request_text, run, run_in_pieces
 
 A = b'{"ID":"A" ,"Who":""}'
 A2 = b'{"ID":"A"}'

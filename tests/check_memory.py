@@ -7,10 +7,11 @@ for the arguments: refused, the arguments can't be had and count as other argume
 import sys
 from itertools import combinations
 
+from checking import S1, checks_in, expect, run_checks
 import refused_requests
 from refused_requests import FOREVER
 from stdio_model import DONE, Request, Table, refusal_text, reply_text
-from stdio_program import CRATE, PROGRAM, S1, USAGE, checks_in, expect, request_text, run_checks
+from stdio_program import CRATE, PROGRAM, USAGE, request_text
 
 PUSH_AND_GET = (CRATE / "stdin").read_bytes()
 STATE = reply_text(200, S1)

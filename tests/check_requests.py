@@ -5,9 +5,10 @@ import hashlib
 import random
 import sys
 
+from checking import S1, checks_in, expect, run_checks
 import stdio_model as model
 from stdio_model import ASKED, CLEAN, CUT, DONE, REFUSED, refusal_text, reply_text
-from stdio_program import S1, checks_in, expect, run, run_checks
+from stdio_program import run
 
 GET = b"GET /state/a HTTP/1.1\r\nHost: h\r\n\r\n"
 NO_STATE = refusal_text("NoState")

@@ -11,8 +11,9 @@ import threading
 import time
 from pathlib import Path
 
+from checking import S1, S2, checks_in, expect, run_checks
 from serve_program import LOOPBACK, Server, asked, entries_of, free_port, fresh, reply_of, run, state
-from stdio_program import S1, S2, USAGE, checks_in, expect, request_text, run_checks
+from stdio_program import USAGE, request_text
 
 A, B = b'{"ID":"A" ,"Who":""}', b'{"ID":"B"}'
 

@@ -9,10 +9,11 @@ import subprocess
 import sys
 from pathlib import Path
 
+from checking import checks_in, expect, run_checks
 from journal_reader import read_journal
 from started import (A, B, COPY, LOCK, NEWEST, PUSH1, PUSH2, PUSH3, REBASED, S1, S2, S3, SHORT, START, Started, all_of, at_once,
                      expect_newest, free_port, fresh, journals, named, run)
-from stdio_program import PROGRAM, checks_in, expect, run_checks
+from stdio_program import PROGRAM
 
 STEP = r"""#!/bin/sh
 # Runs the command of its own name, or kills the start before it where its turn is asked for. The last turn is the server's.

@@ -2,9 +2,9 @@
 and all from each one on. Each run writes what it writes with ample memory, or whole lines of it and that memory ran out."""
 import sys
 
+from checking import checks_in, expect, run_checks
 from refused_requests import FOREVER, build_shim, built, count_of, fault_of
 from repository import TOP
-from stdio_program import checks_in, expect, run_checks
 
 AMPLE = (TOP / "crates" / "state_bench" / "stdout").read_bytes()
 OF_THE_READER = b"Error: no memory to read the state\n"

@@ -6,10 +6,10 @@ import random
 import subprocess
 import sys
 
+from checking import S1, S2, SECONDS, checks_in, expect, run_checks
 import stdio_model as model
 from stdio_model import CLEAN, CUT, DONE, REFUSED, refusal_text, reply_text
-from stdio_program import (
-    MAX_READ, PROGRAM, S1, S2, SECONDS, USAGE, Talk, checks_in, expect, run, run_checks, run_in_pieces)
+from stdio_program import MAX_READ, PROGRAM, USAGE, Talk, run, run_in_pieces
 
 PUSH_HEAD = b"POST /state/a HTTP/1.1\r\nHost: h\r\nContent-Length: 41\r\n\r\n"
 GET = b"GET /state/a HTTP/1.1\r\nHost: h\r\n\r\n"

@@ -3,8 +3,8 @@ program makes beyond reading the push. Their number doesn't grow with the state.
 import json
 import sys
 
+from checking import checks_in, expect, run_checks
 from refused_requests import FOREVER, build_shim, built, run_refused
-from stdio_program import checks_in, expect, run_checks
 
 build_shim()
 PROGRAM = built("table_memory")

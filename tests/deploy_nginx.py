@@ -14,9 +14,10 @@ import sys
 import time
 from pathlib import Path
 
+from checking import SECONDS, STARTED, checks_in, expect, run_checks
 from started import A, B, FOLDER, LOOPBACK, S1, Started, ask_over, free_port, fresh, journals
 from journal_reader import read_journal
-from stdio_program import SECONDS, TOP, Talk, checks_in, expect, run_checks
+from stdio_program import TOP
 
 DEPLOY, ROOM = TOP / "deploy", Path(FOLDER.name)
 USER, PASSWORD = "team", "secret words"
@@ -93,7 +94,7 @@ class Nginx:
         tried = subprocess.run([*words, "-t"], capture_output=True, check=False)
         expect(tried.returncode, 0, tried.stderr.decode())
         self.process = subprocess.Popen(words, stdin=subprocess.DEVNULL, stderr=subprocess.DEVNULL)
-        Talk.started.append(self.process)
+        STARTED.append(self.process)
         end = time.monotonic() + SECONDS
         while not self.answers() and time.monotonic() < end:
             time.sleep(0.05)

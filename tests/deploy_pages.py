@@ -7,8 +7,9 @@ import sys
 import tempfile
 from pathlib import Path
 
+from checking import checks_in, expect, run_checks
 from picture import picture
-from stdio_program import TOP, checks_in, expect, run, run_checks
+from stdio_program import TOP, run
 
 PAGE, FORMATS, DEPLOY = ((TOP / path).read_text() for path in ("docs/PICTURE.md", "docs/FORMATS.md", "deploy/README.md"))
 

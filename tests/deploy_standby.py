@@ -7,9 +7,9 @@ import sys
 import threading
 import time
 
+from checking import SECONDS, checks_in, expect, run_checks
 from journal_reader import read_journal
 from started import COPY, LOOPBACK, S1, START, Started, all_of, ask_over, fresh, journals, run
-from stdio_program import SECONDS, checks_in, expect, run_checks
 
 
 def state_of(serial):

@@ -6,9 +6,9 @@ import shutil
 import subprocess
 import sys
 
+from checking import SECONDS, checks_in, expect, run_checks
 from deploy_nginx import PASSWORD, ROOM, USER, make_secrets, served
 from started import LOOPBACK, fresh
-from stdio_program import SECONDS, checks_in, expect, run_checks
 
 BACKEND = """terraform {{
   backend "http" {{

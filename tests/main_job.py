@@ -4,8 +4,8 @@ import http.client
 import json
 import sys
 
+from checking import end_all
 from serve_program import Server, fresh
-from stdio_program import end_all
 
 
 def state(serial):

@@ -5,8 +5,9 @@ import subprocess
 import tempfile
 from pathlib import Path
 
+from checking import SECONDS, STARTED, expect
 from journal_reader import read_journal
-from stdio_program import PROGRAM, SECONDS, Talk, expect, request_text
+from stdio_program import PROGRAM, request_text
 
 FOLDER = tempfile.TemporaryDirectory(prefix="tfstated-")
 LOOPBACK = "127.0.0.1"
@@ -35,7 +36,7 @@ class Server:
         self.address, self.new = f"{LOOPBACK}:{free_port()}", fresh()
         words = [PROGRAM, "serve", self.address, str(workers), self.new, *([old] if old else [])]
         self.process = subprocess.Popen(words, stdin=subprocess.DEVNULL, stdout=subprocess.PIPE, stderr=subprocess.PIPE, **how)
-        Talk.started.append(self.process)
+        STARTED.append(self.process)
         expect(self.process.stdout.readline(), f"listening {self.address}\n".encode(), "the first line")
 
     def connect(self):

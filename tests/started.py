@@ -8,8 +8,9 @@ import subprocess
 import tempfile
 from pathlib import Path
 
+from checking import S1, S2, SECONDS, STARTED, expect
 from journal_reader import base_text, push_content, record_text
-from stdio_program import PROGRAM, S1, S2, SECONDS, TOP, Talk, expect
+from stdio_program import PROGRAM, TOP
 
 FOLDER = tempfile.TemporaryDirectory(prefix="tfstated-")
 START, COPY = str(TOP / "deploy" / "start.sh"), str(TOP / "deploy" / "copy.sh")
@@ -92,7 +93,7 @@ class Started:
         words = [*shell, START, str(folder), f"{LOOPBACK}:{self.port}", workers]
         pipes = {"stdin": subprocess.DEVNULL, "stdout": subprocess.PIPE, "stderr": subprocess.PIPE}
         self.process = subprocess.Popen(words, env=surroundings(**(variables or {})), start_new_session=True, **pipes, **how)
-        Talk.started.append(self.process)
+        STARTED.append(self.process)
         self.line = self.process.stdout.readline()
 
     def listens(self):

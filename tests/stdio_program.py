@@ -1,7 +1,6 @@
-"""Gets the built program for the checks, runs it over pipes, and counts what passed."""
+"""Gets the built program for the checks, and runs it over pipes."""
 import fcntl
 import os
-import signal
 import socket
 import struct
 import subprocess
@@ -9,17 +8,14 @@ import sys
 import termios
 import threading
 import time
-import traceback
 from pathlib import Path
+
+from checking import SECONDS, STARTED, expect
 
 TOP = Path(__file__).resolve().parent.parent
 CRATE = TOP / "crates" / "tfstated"
 BUILT = CRATE / "out" / "tfstated"
-SECONDS = 60
 MAX_READ = 65536
-
-S1 = b'{"version":4, "serial":1 ,"lineage":"L1"}'
-S2 = S1.replace(b"1 ", b"2 ")
 USAGE = b"usage: tfstated stdio | check FILE | rebase OLD NEW | serve ADDR WORKERS NEW [OLD]\n"
 
 
@@ -54,20 +50,12 @@ def run(data, *arguments, **how):
     return ran.stdout, ran.returncode, ran.stderr
 
 
-def expect(found, wanted, about=""):
-    """Fails where two values differ."""
-    if found != wanted:
-        raise AssertionError(f"{about}: found {str(found)[:400]}, wanted {str(wanted)[:400]}")
-
-
 class Talk:
     """The running program, to which bytes are given and from which they are read in turn."""
 
-    started = []
-
     def __init__(self, stdin=subprocess.PIPE, stdout=subprocess.PIPE):
         self.process = subprocess.Popen([PROGRAM, "stdio"], stdin=stdin, stdout=stdout, stderr=subprocess.PIPE, bufsize=0)
-        Talk.started.append(self.process)
+        STARTED.append(self.process)
 
     def give(self, piece):
         """Gives one piece, and waits until the program has taken it."""
@@ -121,39 +109,3 @@ def run_in_pieces(pieces):
     ended = talk.end()
     sender.join()
     return ended
-
-
-def stop(number, frame):
-    """Fails a check that waits too long."""
-    raise AssertionError("it takes too long")
-
-
-def end_all():
-    """Ends each program that a failed check has left running."""
-    for process in Talk.started:
-        process.kill()
-        process.wait()
-    Talk.started.clear()
-
-
-def run_checks(checks):
-    """Runs the checks, prints the count as the last line, and gives the exit status."""
-    signal.signal(signal.SIGALRM, stop)
-    failed = 0
-    for check in checks:
-        signal.alarm(2 * SECONDS)
-        try:
-            check()
-        except Exception:
-            failed += 1
-            print(f"FAILED {check.__name__}\n{traceback.format_exc(limit=3)}", flush=True)
-        finally:
-            signal.alarm(0)
-            end_all()
-    print(f"{len(checks) - failed} passed, {failed} failed", flush=True)
-    return 1 if failed else 0
-
-
-def checks_in(names):
-    """The functions of a module whose names begin with `check_`, in the order in which they stand."""
-    return [value for name, value in names.items() if name.startswith("check_") and callable(value)]
