@@ -1,5 +1,5 @@
 -- The model's answer tells neither of want of memory nor of a fault of the sink.
-use Rattle.std.proofs.Common.{◌≡◌, ◌≢◌, ℕ, Bool, true, false, nat_lt, nat_le, cond, List, [], ◌∷◌, length, Option, Some, None, IfSome, refl, ap, ◌∙◌, sym}
+use Rattle.std.proofs.Common.{◌≢◌, ℕ, Bool, true, false, nat_lt, nat_le, cond, List, [], ◌∷◌, length, Option, Some, None, IfSome, refl}
 use Rattle.std.specs.Option.{option_or, option_map_or}
 use Rattle.std.specs.Prelude.{option_map, not}
 use Rattle.std.specs.List.{list_any}
@@ -19,7 +19,7 @@ use Rattle.tfs_rules.specs.declared.verdict.Verdict.{Verdict}
 use Rattle.tfs_rules.specs.declared.verdict.Verdict.TheVariants as verdict
 use Rattle.tfs_journal.specs.Journal.{acts_of, names_of}
 use Rattle.tfs_index.specs.Impact.{query_fault}
-use Rattle.tfs_index.specs.declared.fault.ImpactFault.{ImpactFault}
+
 use Rattle.tfs_index.specs.declared.fault.ImpactFault.TheVariants as impact_fault
 use Rattle.tfs_calls.specs.Draft.{act_of, is_too_long, lock_refusal, state_refusal, lock_text_refusal, state_text_refusal, draft_refusal}
 use Rattle.tfs_calls.specs.Impact.{fault_refusal, query_refusal}

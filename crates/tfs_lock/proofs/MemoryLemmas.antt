@@ -1,5 +1,5 @@
 -- No fault of a lock text is want of memory.
-use Rattle.std.proofs.Common.{◌≡◌, ◌≢◌, ℕ, Bool, true, false, nat_lt, cond, List, [], ◌∷◌, length, Option, Some, None, IfSome, refl, subst}
+use Rattle.std.proofs.Common.{◌≢◌, ℕ, Bool, true, false, nat_lt, cond, List, [], ◌∷◌, length, Option, Some, None, IfSome, refl, subst}
 use Rattle.std.specs.Prelude.{is_none}
 use Rattle.std.specs.Option.{option_map_or}
 use Rattle.serde_json.specs.Data.{Data}
@@ -13,6 +13,7 @@ use Rattle.tfs_lock.specs.declared.fault.LockFault.TheVariants.{NotJson, NotObje
 abbrev IsOfText : LockFault → Type 0
 IsOfText fault = fault ≢ NoMemory
 
+-- The fault of what stands at `ID` is one of a text.
 id_faults : (o : Option (List ℕ)) → IfSome (id_fault o) IsOfText
 id_faults None = λ e. cc
 id_faults (Some []) = λ e. cc
@@ -22,6 +23,7 @@ id_faults (Some (byte ∷ bytes)) = by (nat_lt 256 (length (byte ∷ bytes)))
     by true = λ e. cc
     by false = tt
 
+-- So is that of a value.
 value_faults : (value : Data) → IfSome (first_value_fault value) IsOfText
 value_faults value = by (is_none (as_object value))
   where
@@ -29,6 +31,7 @@ value_faults value = by (is_none (as_object value))
     by true = λ e. cc
     by false = id_faults (id_of value)
 
+-- So is that of bytes.
 lock_faults : (bytes : List ℕ) → IfSome (first_lock_fault bytes) IsOfText
 lock_faults bytes = by (nat_lt 65536 (length bytes)) (json_value bytes)
   where

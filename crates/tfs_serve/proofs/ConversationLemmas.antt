@@ -1,5 +1,5 @@
 -- Laws of conversations: one more read, one more message, and each way to end.
-use Rattle.std.proofs.Common.{◌≡◌, ◌<◌, ◌⊎◌, ◌||◌, ℕ, Bool, true, false, List, [], ◌∷◌, ◌++◌, length, drop, Option, Some, None, IfSome, if◌then◌else◌}
+use Rattle.std.proofs.Common.{◌≡◌, ◌<◌, ◌⊎◌, ℕ, Bool, true, false, List, [], ◌∷◌, ◌++◌, length, drop, Option, Some, None, IfSome, if◌then◌else◌}
 use Rattle.std.proofs.Common.{refl, sym, ◌∙◌, ap, subst, inl, inr}
 use Rattle.std.proofs.Common.{append_assoc, append-nil}
 use Rattle.std.specs.Io.KnownBytes.{Appends, Consumes, IsAtEnd}
@@ -12,7 +12,7 @@ use Rattle.tfs_framing.specs.Form.{form_of}
 use Rattle.tfs_framing.specs.Framing.{BeginsWith, AreWanted, IsUnfinished, framing_refusal}
 use Rattle.tfs_http.specs.ReplyText.{reply_text}
 use Rattle.tfs_serve.specs.Messages.{Stop}
-use Rattle.tfs_serve.specs.Conversation.{AnswersRequest, Exchange, Course, messages_of, closing_form, replies_text, course_text, TakesCourse}
+use Rattle.tfs_serve.specs.Conversation.{AnswersRequest, Course, messages_of, closing_form, replies_text, course_text, TakesCourse}
 use Rattle.tfs_serve.specs.Conversation.{IsReadThrough, ComesInReads}
 use Rattle.tfs_serve.specs.Turns.{Moment, moment, Moved, course_of, Went, HasEnded, HasBroken}
 use Rattle.tfs_serve.specs.declared.fault.ServeFault.{ServeFault}

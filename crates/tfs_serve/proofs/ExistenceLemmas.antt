@@ -17,7 +17,7 @@ use Rattle.tfs_calls.specs.declared.refusal.Refusal.TheVariants.{OutOfMemory, Jo
 use Rattle.tfs_calls.specs.Draft.{act_of, draft_refusal}
 use Rattle.tfs_calls.specs.Impact.{chosen_by, query_refusal}
 use Rattle.tfs_calls.specs.Refusal.{RefusalValue, refusal_value, out_of_memory, journal_fault, no_state}
-use Rattle.tfs_calls.specs.Reply.{ReplyValue, done, state, impact, refused}
+use Rattle.tfs_calls.specs.Reply.{ReplyValue, state, impact, refused}
 use Rattle.tfs_calls.specs.Transition.{TableModel, act_refusal, answer_of}
 use Rattle.tfs_table.specs.Table.{TableValue, model_of, IsSameTable}
 use Rattle.tfs_framing.specs.Request.{RequestValue}
@@ -42,6 +42,7 @@ abbrev told_more : Option (List ℕ) → List ℕ → Option (List ℕ)
 told_more None text = None
 told_more (Some bytes) text = Some (bytes ++ text)
 
+-- They grew by it.
 appends_more : (told : Option (List ℕ)) (text : List ℕ) → Appends told (told_more told text) text
 appends_more None text = tt
 appends_more (Some bytes) text = refl
@@ -68,22 +69,30 @@ abbrev HasAnswer : TableValue → Call → Type 0
 HasAnswer old call = (new : TableValue) × AnswersCall old call (answer_of (model_of old) call) new
 
 module _ (told : (m : TableModel) (call : Call) → answer_of m call ≢ refused journal_fault) where
+  -- A read has an answer.
   read_answered : (old : TableValue) (name : List ℕ) → HasAnswer old (Read name)
-  read_answered old name = (old, record {
-    answered = inl (inl (refl, refl));
-    leaves = by (state_of (acts_of name old.journal)) (told (model_of old) (Read name));
-  })
+  read_answered old name = (
+    old,
+    record {
+      answered = inl (inl (refl, refl));
+      leaves = by (state_of (acts_of name old.journal)) (told (model_of old) (Read name));
+    },
+  )
     where
       by : (o : Option Document) → option_map_or state o (refused no_state) ≢ refused journal_fault
           → Leaves (option_map_or state o (refused no_state)) old old
       by None other = refusal_leaves no_state old other
       by (Some d) other = same_table old
 
+  -- So has a query.
   impact_answered : (old : TableValue) (name : List ℕ) (query : Query) → HasAnswer old (Impact name query)
-  impact_answered old name query = (old, record {
-    answered = inl (inl (refl, refl));
-    leaves = by (state_of (acts_of name old.journal)) (told (model_of old) (Impact name query));
-  })
+  impact_answered old name query = (
+    old,
+    record {
+      answered = inl (inl (refl, refl));
+      leaves = by (state_of (acts_of name old.journal)) (told (model_of old) (Impact name query));
+    },
+  )
     where
       chosen : (d : Document) (o : Option RefusalValue)
           → option_map_or refused o (impact d (chosen_by d query) (position_of old.journal)) ≢ refused journal_fault
@@ -93,40 +102,51 @@ module _ (told : (m : TableModel) (call : Call) → answer_of m call ≢ refused
 
       by : (o : Option Document)
           → option_map_or (λ d. option_map_or refused (query_refusal d query) (impact d (chosen_by d query) (position_of old.journal))) o
-            (refused no_state) ≢ refused journal_fault
+          (refused no_state) ≢ refused journal_fault
           → Leaves (option_map_or (λ d. option_map_or refused (query_refusal d query) (impact d (chosen_by d query) (position_of old.journal))) o
-            (refused no_state)) old old
+          (refused no_state)) old old
       by None other = refusal_leaves no_state old other
       by (Some d) other = chosen d (query_refusal d query) other
 
+  -- So has a change.
   change_answered : (old : TableValue) (name : List ℕ) (raw : Raw) → HasAnswer old (Change name raw)
   change_answered old name raw = by (act_of raw) refl (told (model_of old) (Change name raw))
     where
       by_act : (act : ActValue) (o : Option RefusalValue) → act_of raw ≡ Some act → act_refusal (model_of old) name act ≡ o
           → answer_of (model_of old) (Change name raw) ≢ refused journal_fault → HasAnswer old (Change name raw)
-      by_act act None is free other = (entered old (record { name = name; act = act }), record {
-        answered = inl (inl (refl, rw (is, free) refl));
-        leaves = rw (is, free) (record {
-          entry = record { name = name; act = act };
-          journal = refl;
-          stopped = refl;
-          tells = refl;
-          told = appends_more old.told (record_text (record { name = name; act = act }));
-        });
-      })
-      by_act act (Some r) is free other = (old, record {
-        answered = inl (inl (refl, rw (is, free) refl));
-        leaves = rw (is, free) (refusal_leaves r old (rw (is, free) at other));
-      })
+      by_act act None is free other = (
+        entered old (record { name = name; act = act }),
+        record {
+          answered = inl (inl (refl, rw (is, free) refl));
+          leaves = rw (is, free) (record {
+            entry = record { name = name; act = act };
+            journal = refl;
+            stopped = refl;
+            tells = refl;
+            told = appends_more old.told (record_text (record { name = name; act = act }));
+          });
+        },
+      )
+      by_act act (Some r) is free other = (
+        old,
+        record {
+          answered = inl (inl (refl, rw (is, free) refl));
+          leaves = rw (is, free) (refusal_leaves r old (rw (is, free) at other));
+        },
+      )
 
       by : (o : Option ActValue) → act_of raw ≡ o → answer_of (model_of old) (Change name raw) ≢ refused journal_fault
           → HasAnswer old (Change name raw)
-      by None is other = (old, record {
-        answered = inl (inl (refl, rw is refl));
-        leaves = rw is (refusal_leaves (draft_refusal raw) old (rw is at other));
-      })
+      by None is other = (
+        old,
+        record {
+          answered = inl (inl (refl, rw is refl));
+          leaves = rw is (refusal_leaves (draft_refusal raw) old (rw is at other));
+        },
+      )
       by (Some act) is other = by_act act (act_refusal (model_of old) name act) is refl other
 
+  -- So has each call.
   call_answered : (old : TableValue) (call : Call) → HasAnswer old call
   call_answered old (Read name) = read_answered old name
   call_answered old (Change name raw) = change_answered old name raw
@@ -148,6 +168,7 @@ module _ (told : (m : TableModel) (call : Call) → answer_of m call ≢ refused
     IsAnswered old r = (reply : ReplyValue) × (new : TableValue) × AnswersRequest AnswersCall old r reply new
         × (reply ≢ refused out_of_memory) × (reply ≢ refused journal_fault)
 
+    -- Each request is answered.
     request_answered : (old : TableValue) (r : RequestValue) → IsAnswered old r
     request_answered old r = by (routed r).0 (routed r).1
       where
@@ -162,6 +183,7 @@ module _ (told : (m : TableModel) (call : Call) → answer_of m call ≢ refused
     AreAnswered old requests = (xs : List Exchange) × (new : TableValue) × (requests_of xs ≡ requests) × Runs AnswersCall old xs new
         × AllByRecursion IsUndisturbed xs
 
+    -- Each list of requests is.
     requests_answered : (old : TableValue) (requests : List RequestValue) → AreAnswered old requests
     requests_answered old [] = ([], old, refl, refl, tt)
     requests_answered old (r ∷ rs) =

@@ -15,7 +15,7 @@ use Rattle.tfs_framing.specs.declared.taken.Take.{Take}
 use Rattle.tfs_http.specs.Routing.{RoutesTo}
 use Rattle.tfs_serve.specs.Desk.{AnswersCall}
 use Rattle.tfs_serve.specs.Messages.{Messages}
-use Rattle.tfs_serve.specs.Conversation.{AnswersRequest, Exchange, requests_of, Runs, Course, messages_of, course_text}
+use Rattle.tfs_serve.specs.Conversation.{AnswersRequest, Exchange, requests_of, Runs, messages_of, course_text}
 use Rattle.tfs_serve.specs.Output.{IsUndisturbed, HasOutput}
 use Rattle.tfs_serve.proofs.MessagesLemmas.{messages_once}
 use Rattle.tfs_serve.proofs.StepLemmas.{takes_over}

@@ -50,9 +50,11 @@ module _ {F : Type 0} (P : F → Type 0) where
 abbrev IsOfText : StateFault → Type 0
 IsOfText fault = fault ≢ NoMemory
 
+-- A fault of a dependency is one of its text.
 dependency_faults : (i j k : ℕ) (value : Data) → IfErr (read_dependency i j k value) IsOfText
 dependency_faults i j k value = absent_fault IsOfText (dependency_of value) (Dependency i j k) (λ e. cc)
 
+-- So is one of an instance.
 instance_faults : (i j : ℕ) (value : Data) → IfErr (read_instance i j value) IsOfText
 instance_faults i j value =
     then_faults IsOfText _ (ok_or (instance_members value) (InstanceFault i j))
@@ -60,6 +62,7 @@ instance_faults i j value =
     (λ members. map_faults IsOfText _ (read_each (read_dependency i j) 0 members.dependencies)
     (each_faults IsOfText (read_dependency i j) (dependency_faults i j) 0 members.dependencies))
 
+-- So is one of a resource.
 resource_faults : (i : ℕ) (value : Data) → IfErr (read_resource i value) IsOfText
 resource_faults i value =
     then_faults IsOfText _ (ok_or (resource_of value) (Resource i))
@@ -67,10 +70,12 @@ resource_faults i value =
     (λ r. map_faults IsOfText _ (read_each (read_instance i) 0 r.instances)
     (each_faults IsOfText (read_instance i) (instance_faults i) 0 r.instances))
 
+-- So is one of resources.
 resources_faults : (values : List Data) → IfErr (read_resources values) IsOfText
 resources_faults values =
     map_faults IsOfText joined (read_each read_resource 0 values) (each_faults IsOfText read_resource resource_faults 0 values)
 
+-- So is that of too many instances.
 few_faults : (instances : List Instance) → IfErr (few_instances instances) IsOfText
 few_faults instances = by (nat_le (length instances) 4096)
   where
@@ -78,6 +83,7 @@ few_faults instances = by (nat_le (length instances) 4096)
     by true = tt
     by false = λ e. cc
 
+-- So is one of a value's instances.
 instances_faults : (value : Data) → IfErr (instances_of value) IsOfText
 unfolding instances_of
 instances_faults value =
@@ -95,12 +101,14 @@ content_by_serial value = result_and_then (λ serial.
     (ok_or (lineage_of value) Lineage))
     (ok_or (serial_of value) Serial)
 
+-- So is one of a value of version 4.
 serial_faults : (value : Data) → IfErr (content_by_serial value) IsOfText
 serial_faults value =
     then_faults IsOfText _ (ok_or (serial_of value) Serial) (absent_fault IsOfText (serial_of value) Serial (λ e. cc))
     (λ serial. then_faults IsOfText _ (ok_or (lineage_of value) Lineage) (absent_fault IsOfText (lineage_of value) Lineage (λ e. cc))
     (λ lineage. map_faults IsOfText _ (instances_of value) (instances_faults value)))
 
+-- So is one of any value.
 content_faults : (value : Data) → IfErr (content_of value) IsOfText
 unfolding content_of
 content_faults value = by (option_eq nat_eq (version_of value) (Some 4))
@@ -114,4 +122,3 @@ pub fault_of_text : (bytes : List ℕ) → first_state_fault bytes ≢ Some NoMe
 fault_of_text bytes is = fault_told IsOfText (text_content bytes) NoMemory is
     (then_faults IsOfText content_of (ok_or (json_value bytes) NotJson)
     (absent_fault IsOfText (json_value bytes) NotJson (λ e. cc)) content_faults) refl
-
