@@ -2,7 +2,7 @@
 //
 // Without an argument it prints how much is left of small texts, and the answers. With the argument
 // `times` it strips texts of 16 MiB beside a copy of the same bytes, and prints megabytes a second,
-// the best of some runs.
+// the best of some rounds.
 #![tactic(auto)]
 
 mod answers;
@@ -13,7 +13,7 @@ use std::alloc::{AllocError, Global};
 use std::env;
 
 // A name, and what the text repeats.
-const TEXTS: [(&str, &str); 7] = [
+const TEXTS: [(&str, &str); 8] = [
     ("plain", "module_path.aws_instance.server."),
     ("plain beyond ASCII", "módulo_é."),
     (
@@ -27,17 +27,15 @@ const TEXTS: [(&str, &str); 7] = [
         "[\"a key of forty characters, or so it is\"]",
     ),
     ("escaped text keys", "[\"\\\"\\\\\\\"\\\\\"]"),
+    ("one-letter addresses", "a[0].b,"),
 ];
 
 fn main(rt: HostRuntime) -> Result<()> {
     if env::args(&rt)?.count() > 1 {
-        for (name, part) in TEXTS {
-            times::print_times(&rt, name, part)?;
-        }
-        return Ok(());
+        return times::print_times(&rt, &TEXTS);
     }
     for (name, part) in TEXTS {
-        times::print_sizes(&rt, name, part)?;
+        times::print_size(&rt, name, part)?;
     }
     answers::print_answers(&rt)
 }

@@ -1,5 +1,5 @@
 -- Where units, digits and keys end in a list of numbers, which are the characters of a text or its bytes.
-use Rattle.std.proofs.Common.{◌≡◌, ◌≢◌, ◌⊎◌, ℕ, ◌+◌, suc, true, false, eqb, List, [], ◌∷◌, ◌++◌, length, Option, Some, None, refl, ap, ◌∙◌, inl, inr, arith}
+use Rattle.std.proofs.Common.{◌≡◌, ◌≢◌, ◌⊎◌, ℕ, ◌+◌, suc, true, false, eqb, List, [], ◌∷◌, ◌++◌, length, ◌<◌, ◌≤◌, Option, Some, None, refl, ap, ◌∙◌, inl, inr, arith}
 use Rattle.std.specs.Prelude.{option_map}
 use Rattle.std.specs.Option.{option_and_then}
 use Rattle.std.specs.List.{prefix_len}
@@ -129,3 +129,15 @@ key_rest-digit c cs q e = key-digits c cs q ∙ ap closed (first_digits-digit c 
 -- Nothing else begins a key.
 pub key_rest-other : (c : ℕ) (cs : List ℕ) → c ≢ quote → is_ascii_digit c ≡ false → key_rest (c ∷ cs) ≡ None
 key_rest-other c cs q e = key-digits c cs q ∙ ap (λ o. closed (option_map (λ r. r.1) o)) (first_digits-other c cs e)
+
+-- A digit and the bracket are a key.
+pub key_rest-one_digit : (c : ℕ) (cs : List ℕ) → 48 ≤ c → c < 58 → key_rest (c ∷ closing ∷ cs) ≡ Some cs
+key_rest-one_digit c cs low high =
+    let digit : is_ascii_digit c ≡ true = grind (arith, nat_tests) in
+    key_rest-digit c (closing ∷ cs) (λ q. absurd (omega arith)) digit
+
+-- And so is a unit in quotes.
+pub key_rest-one_unit : (c : ℕ) (cs : List ℕ) → c ≢ quote → c ≢ backslash → key_rest (quote ∷ c ∷ quote ∷ closing ∷ cs) ≡ Some cs
+key_rest-one_unit c cs q b =
+    key_rest-quote (c ∷ quote ∷ closing ∷ cs)
+    ∙ ap closed (units_rest-plain c (quote ∷ closing ∷ cs) q b ∙ units_rest-quote (closing ∷ cs))

@@ -1,13 +1,20 @@
 -- The key, or the fault, at a text's first bracket.
-use Rattle.std.proofs.Common.{◌≡◌, ◌≢◌, ◌-◌, ℕ, ◌<◌, ◌≤◌, List, [], ◌∷◌, ◌++◌, length, drop, Option, Some, None, refl, sym, ap, ◌∙◌, inl, inr, arith, length-append}
+use Rattle.std.proofs.Common.{◌≡◌, ◌≢◌, ◌-◌, ℕ, ◌<◌, ◌≤◌, List, [], ◌∷◌, ◌++◌, length, take, drop, get_or, Option, Some, None, refl, sym, ap, ap₂, ◌∙◌, inl, inr, arith, length-append, length-drop, take_all}
 use Rattle.std.specs.Prelude.{chars, IsUtf8, IsCharBoundary, encode_utf8, encode_utf8_all}
 use Rattle.std.proofs.Math.Seq.{drop-append_seam}
 use Rattle.std.proofs.lemmas.Str.{encode_ascii, encodes-append, encodes-chars, chars_from_encodes, chars_past_char, IsUtf8-past_char, IsCharBoundary-at_seam}
 use Rattle.std.proofs.lemmas.Option.{same_Some, none-some}
-use Rattle.tfs_addr.specs.Address.{opening, closing, print_piece, BeginsNoPiece}
+use Rattle.tfs_addr.specs.Address.{opening, closing, quote, backslash, print_piece, BeginsNoPiece}
 use Rattle.tfs_addr.specs.Steps.{MayBeginWith, IsKeyThen, key_rest}
 use Rattle.tfs_addr.proofs.ByteLemmas.{encoded, key_rest-encodes}
+use Rattle.tfs_addr.proofs.EndLemmas.{key_rest-one_digit, key_rest-one_unit}
 use Rattle.tfs_addr.proofs.PieceLemmas.{IsKeyThen-from_end, BeginsNoPiece-opening, BeginsNoPiece-closing}
+
+-- Bytes are the one in front and the rest.
+pub front_byte : (bs : List ℕ) (b : ℕ) → 0 < length bs → get_or bs 0 0 ≡ b → bs ≡ b ∷ take (length bs - 1) (drop 1 bs)
+front_byte [] b some e = absurd (omega arith)
+front_byte (x ∷ bs) b some e =
+    ap₂ (λ (y : ℕ) (t : List ℕ). y ∷ t) e (sym (take_all (length (x ∷ bs) - 1) bs (omega arith)))
 
 -- ---- a closing bracket
 
@@ -100,6 +107,37 @@ KeyEnds-boundary text rest h = rw (KeyEnds-place text rest h) (IsCharBoundary-at
 pub KeyEnds-back : (text rest : List ℕ) → KeyEnds text rest → drop (length text - length rest) text ≡ rest
 KeyEnds-back text rest h =
     rw (KeyEnds-place text rest h) (ap (drop (length h.front)) h.split ∙ drop-append_seam h.front rest)
+
+-- A key whose length is known.
+pub KeyEnds-boundary_at : (text : List ℕ) (n : ℕ) → n ≤ length text → KeyEnds text (drop n text) → IsCharBoundary text n
+KeyEnds-boundary_at text n inside h =
+    let place : length text - length (drop n text) ≡ n = omega (arith, length-drop n text) in
+    rw place at (KeyEnds-boundary text (drop n text) h)
+
+-- A key of one digit.
+pub KeyEnds-one_digit : (text : List ℕ) → IsUtf8 text → 3 ≤ length text → get_or text 0 0 ≡ opening → 48 ≤ get_or text 1 0
+    → get_or text 1 0 < 58 → get_or text 2 0 ≡ closing → KeyEnds text (drop 3 text)
+KeyEnds-one_digit [] u long o low high e = absurd (omega arith)
+KeyEnds-one_digit (a ∷ []) u long o low high e = absurd (omega arith)
+KeyEnds-one_digit (a ∷ c ∷ []) u long o low high e = absurd (omega arith)
+KeyEnds-one_digit (a ∷ c ∷ d ∷ text) u long o low high e =
+    let end = ap (λ (x : ℕ). key_rest (c ∷ x ∷ text)) e ∙ key_rest-one_digit c text low high in
+    KeyEnds-from_rest (a ∷ c ∷ d ∷ text) (c ∷ d ∷ text) text u (ap (λ (x : ℕ). x ∷ c ∷ d ∷ text) o) end
+
+-- A key of one unit.
+pub KeyEnds-one_unit : (text : List ℕ) → IsUtf8 text → 5 ≤ length text → get_or text 0 0 ≡ opening → get_or text 1 0 ≡ quote
+    → get_or text 2 0 ≢ quote → get_or text 2 0 ≢ backslash → get_or text 3 0 ≡ quote → get_or text 4 0 ≡ closing
+    → KeyEnds text (drop 5 text)
+KeyEnds-one_unit [] u long o q nq nb q' e = absurd (omega arith)
+KeyEnds-one_unit (a ∷ []) u long o q nq nb q' e = absurd (omega arith)
+KeyEnds-one_unit (a ∷ b ∷ []) u long o q nq nb q' e = absurd (omega arith)
+KeyEnds-one_unit (a ∷ b ∷ c ∷ []) u long o q nq nb q' e = absurd (omega arith)
+KeyEnds-one_unit (a ∷ b ∷ c ∷ d ∷ []) u long o q nq nb q' e = absurd (omega arith)
+KeyEnds-one_unit (a ∷ b ∷ c ∷ d ∷ f ∷ text) u long o q nq nb q' e =
+    let end =
+    ap (λ (x : ℕ). key_rest (x ∷ c ∷ d ∷ f ∷ text)) q ∙ ap (λ (x : ℕ). key_rest (quote ∷ c ∷ x ∷ f ∷ text)) q'
+    ∙ ap (λ (x : ℕ). key_rest (quote ∷ c ∷ quote ∷ x ∷ text)) e ∙ key_rest-one_unit c text nq nb in
+    KeyEnds-from_rest (a ∷ b ∷ c ∷ d ∷ f ∷ text) (b ∷ c ∷ d ∷ f ∷ text) text u (ap (λ (x : ℕ). x ∷ b ∷ c ∷ d ∷ f ∷ text) o) end
 
 -- Where no key ends, no piece begins.
 pub opens-no_piece : (text key : List ℕ) → IsUtf8 text → text ≡ opening ∷ key → key_rest key ≡ None → BeginsNoPiece (chars text)

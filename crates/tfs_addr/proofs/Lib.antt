@@ -9,3 +9,4 @@ pub mod StopLemmas
 pub mod ReadingLemmas
 pub mod JsonLemmas
 pub mod AddressLemmas
+pub mod NearLemmas

@@ -3,6 +3,7 @@
 #![tactic(auto)]
 
 mod address;
+mod either;
 mod fault;
 mod json;
 mod laws;

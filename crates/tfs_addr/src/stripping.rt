@@ -1,17 +1,13 @@
 //! A text without its instance keys. The steps of a key take a few nanoseconds each, so they are
 //! compiled into the loops that take them.
 
-ghost use Rattle.std.specs.Prelude.{◌≡◌, ◌≢◌, ◌++◌, ◌*◌, ◌+◌, ◌<◌, ◌≤◌, ℕ, [], length, chars, IsUtf8, option_copied, IfOk, IfErr, IsOk, OnOk, OnErr, IsSome, string_bytes, string_len, string_capacity, false};
-ghost use Rattle.memchr.specs.Find.{IsFirstByte, is_byte2};
+ghost use Rattle.std.specs.Prelude.{◌≡◌, ◌≢◌, ◌++◌, ◌*◌, ◌+◌, ◌<◌, ◌≤◌, ℕ, [], length, chars, IsUtf8, option_copied, IfOk, IfErr, IsOk, OnOk, OnErr, IsSome, IfSome, string_bytes, string_len, string_capacity, false};
 ghost use Rattle.tfs_addr.specs.Address.{opening, closing, IsStripped, StopsAt, HasNoReading, BeginsNoPiece, GivesText, stripped_text, quote, backslash};
 ghost use Rattle.tfs_addr.specs.Steps.{HasNeither, MayBeginWith, IsFaultAt, FaultOf, IsKeyThen, rest_after, units_rest, key_rest, without_digits};
 
+use crate::either::find_either;
 use crate::fault::AddrFault;
-use memchr::memchr2;
 use std::alloc::{AllocError, Global};
-
-/// How many bytes are looked at one by one before a search by vectors begins.
-const NEAR: usize = 8;
 
 /// The text without its instance keys, as `a.b` of `a[0].b["k"]` (Terraform documentation: resource
 /// address reference).
@@ -129,20 +125,6 @@ fn split_at_bracket(text: &str) -> (&str, &str)
     text.split_at(at)
 }
 
-/// The index of the first byte that is one of the two. In keys it is often near.
-#[inline(always)]
-fn find_either(bytes: &[u8], first: u8, second: u8) -> Option<usize>
-    ensures { IsFirstByte (is_byte2 first second) bytes.now result }
-{
-    let (near, far) = bytes.split_at(bytes.len().min(NEAR));
-    for (index, byte) in near.iter().enumerate() {
-        if *byte == first || *byte == second {
-            return Some(index);
-        }
-    }
-    memchr2(first, second, far).map(|index| near.len() + index)
-}
-
 /// What follows the key that the text begins with, or else the fault of its bracket, which is the
 /// byte `at` of the whole text.
 #[inline(always)]
@@ -153,12 +135,54 @@ fn after_key(text: &str, at: usize) -> Result<&str, AddrFault>
     ensures err { OnErr result (BeginsNoPiece (chars text.now)) }
     ensures fault { IfErr result (λ e. IsFaultAt e at (chars text.now)) }
 {
-    match text.strip_prefix('[') {
-        Some(key) => match after_opening(key.as_bytes()) {
+    if let Some(rest) = after_digit_key(text) {
+        return Ok(rest);
+    }
+    if let Some(rest) = after_letter_key(text) {
+        return Ok(rest);
+    }
+    after_long_key(text, at)
+}
+
+/// What follows a key of one digit, as most keys are.
+#[inline(always)]
+fn after_digit_key(text: &str) -> Option<&str>
+    ensures { IfSome result (λ rest. IsKeyThen (chars text.now) (chars rest.now)) }
+{
+    match text.as_bytes() {
+        [b'[', b'0'..=b'9', b']', ..] => Some(text.split_at(3).1),
+        _ => None,
+    }
+}
+
+/// What follows a key of one byte in quotes.
+#[inline(always)]
+fn after_letter_key(text: &str) -> Option<&str>
+    ensures { IfSome result (λ rest. IsKeyThen (chars text.now) (chars rest.now)) }
+{
+    match text.as_bytes() {
+        [b'[', b'"', letter, b'"', b']', ..] if *letter != b'"' && *letter != b'\\' => {
+            Some(text.split_at(5).1)
+        }
+        _ => None,
+    }
+}
+
+/// The same as `after_key`, for a key of any length.
+#[inline(always)]
+fn after_long_key(text: &str, at: usize) -> Result<&str, AddrFault>
+    requires some { 0 < length text.now }
+    requires bracket { MayBeginWith opening closing (chars text.now) }
+    ensures ok { IfOk result (λ rest. IsKeyThen (chars text.now) (chars rest.now)) }
+    ensures err { OnErr result (BeginsNoPiece (chars text.now)) }
+    ensures fault { IfErr result (λ e. IsFaultAt e at (chars text.now)) }
+{
+    match text.as_bytes() {
+        [b'[', key @ ..] => match after_opening(key) {
             Some(rest) => Ok(text.split_at(text.len() - rest.len()).1),
             None => Err(AddrFault::Unclosed(at)),
         },
-        None => Err(AddrFault::StrayBracket(at)),
+        _ => Err(AddrFault::StrayBracket(at)),
     }
 }
 

@@ -1,7 +1,7 @@
 -- No byte that was passed is either.
 use Rattle.std.proofs.Common.{◌≡◌, ℕ, ◌<◌, true, get_or}
 use Rattle.memchr.specs.Find.{is_byte2}
-use Rattle.tfs_addr.proofs.stripping.find_either.Given as goal
+use Rattle.tfs_addr.proofs.either.find_in_few.Given as goal
 
 abbrev pub invariant-loop-index : goal.invariant-loop-index
-invariant-loop-index l = (k : ℕ) → k < l.index → is_byte2 l.first l.second (get_or l.near k 0) ≡ true → ⊥
+invariant-loop-index l = (k : ℕ) → k < l.index → is_byte2 l.first l.second (get_or l.bytes k 0) ≡ true → ⊥
