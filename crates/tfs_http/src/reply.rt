@@ -96,12 +96,7 @@ pub fn write_head(
 }
 
 /// Adds the lines of a head in turn; where memory is refused, some bytes of them.
-fn push_head(
-    reply: &Reply,
-    form: Form,
-    body: &[u8],
-    out: &mut Vec<u8>,
-) -> Result<(), AllocError>
+fn push_head(reply: &Reply, form: Form, body: &[u8], out: &mut Vec<u8>) -> Result<(), AllocError>
     ensures ok { OnOk result (let value = reply_value reply.now in
         out.new.items ≡ out.old.items ++ head_text (status_of value) (allow_line value) form body.now) }
     ensures err { OnErr result (take (vec_len out.old) out.new.items ≡ out.old.items) }

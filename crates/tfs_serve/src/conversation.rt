@@ -146,7 +146,8 @@ fn turn<R: Read, W: Write, D: Desk>(
             }
         }
         Framed::Fault(refusal) => {
-            match send(alloc, &mut line.text, writer, &Reply::Refused(refusal), CLOSING) {
+            let reply = Reply::Refused(refusal);
+            match send(alloc, &mut line.text, writer, &reply, CLOSING) {
                 Ok(()) => Ok(Some(Ended::Refused)),
                 Err(fault) => Err(fault),
             }
@@ -210,7 +211,7 @@ fn answer<D: Desk>(alloc: Global, routes: &Routes, desk: &mut D, request: Reques
     }
 }
 
-/// Writes the text of a reply, whose head and small body are put together in `text`; after a fault a part of it is written.
+/// Writes the text of a reply, by way of a vector whose bytes go; after a fault a part of it is written.
 fn send<W: Write>(
     alloc: Global,
     text: &mut Vec<u8>,

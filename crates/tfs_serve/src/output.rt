@@ -20,7 +20,7 @@ pub(crate) fn write_joined<W: Write>(
     more: &[u8],
 ) -> Result<(), ServeFault>
     ensures ok { OnOk result (Appends (W.contents writer.old) (W.contents writer.new) (text.old.items ++ more.now)) }
-    ensures err { IfErr result (λ fault. WritesPart (W.contents writer.old) (W.contents writer.new) (text.old.items ++ more.now) fault) }
+    ensures err { IfErr result (WritesPart (W.contents writer.old) (W.contents writer.new) (text.old.items ++ more.now)) }
 {
     if JOINED_BYTES.saturating_sub(text.len()) < more.len() {
         return write_both(writer, text.as_slice(), more);
@@ -34,7 +34,8 @@ pub(crate) fn write_joined<W: Write>(
 /// Writes a text, and another one behind it.
 fn write_both<W: Write>(writer: &mut W, text: &[u8], more: &[u8]) -> Result<(), ServeFault>
     ensures ok { OnOk result (Appends (W.contents writer.old) (W.contents writer.new) (text.now ++ more.now)) }
-    ensures err { IfErr result (λ fault. (fault ≡ WriteFault) × WritesFront (W.contents writer.old) (W.contents writer.new) (text.now ++ more.now)) }
+    ensures err { IfErr result (λ fault. (fault ≡ WriteFault)
+        × WritesFront (W.contents writer.old) (W.contents writer.new) (text.now ++ more.now)) }
 {
     if let Err(fault) = write_out(writer, text) {
         return Err(fault);

@@ -47,8 +47,7 @@ fn a_reply_of_16384_bytes_is_one_write_and_a_longer_one_is_two(
 fn a_writer_that_fails_at_a_long_body_has_the_head(rt: HostRuntime) -> Result<(), Fail> {
     let state = state_of(&rt, 16_311)?;
     let input = push_and_read(&rt, state.as_str())?;
-    let head =
-        "HTTP/1.1 200 OK\r\nContent-Type: application/json\r\nContent-Length: 16311\r\n\r\n";
+    let head = "HTTP/1.1 200 OK\r\nContent-Type: application/json\r\nContent-Length: 16311\r\n\r\n";
     let output = format!(in rt.alloc(); "{DONE}{head}")?;
     let mut table = table_of(&rt);
     let mut writer = Taking::new(rt.alloc(), usize::MAX);

@@ -58,10 +58,12 @@ returns-in-Ok-reply_to-clause-ended g c =
     let reply = c.in-Ok-reply_to.ensures.ok in
     asked_ends (HasEnded g.D.Desk.step
     (moment c.args.desk.now (g.R.Read.remaining c.args.reader.now) (g.W.Write.contents c.args.writer.now) c.args.reads.now c.args.line.now.input)
-    (moment c.reply_to.new.desk (g.R.Read.remaining c.args.reader.now) (g.W.Write.contents c.reply_to.new.writer) c.args.reads.now c.reply_to.new.line.input))
+    (moment c.reply_to.new.desk (g.R.Read.remaining c.args.reader.now) (g.W.Write.contents c.reply_to.new.writer) c.args.reads.now
+    c.reply_to.new.line.input))
     c.form-asks_to_close.result.close c.end_after.result c.end_after.ensures
-    (λ asks. ended_asked g.D.Desk.step c.args.desk.now c.reply_to.new.desk _ _ _ _ c.args.line.now.input c.reply_to.new.line.input c.in-Got.request c.in-Got.used
-    reply.0 begins (c.in-Ok-reply_to.ensures.input ∙ c.consume.ensures) reply.1 reply.2 (sym (ap (λ (f : Form). f.close) c.form-asks_to_close.ensures.value) ∙ asks))
+    (λ asks. ended_asked g.D.Desk.step c.args.desk.now c.reply_to.new.desk _ _ _ _ c.args.line.now.input c.reply_to.new.line.input
+    c.in-Got.request c.in-Got.used reply.0 begins (c.in-Ok-reply_to.ensures.input ∙ c.consume.ensures) reply.1 reply.2
+    (sym (ap (λ (f : Form). f.close) c.form-asks_to_close.ensures.value) ∙ asks))
 
 pub returns-in-Got-clause-fault : goal.returns-in-Got-clause-fault
 returns-in-Got-clause-fault g c =
