@@ -2,13 +2,13 @@
 
 use super::{Scene, chain_of, lock_of, name_of, played, push_of};
 use crate::{Naming, Session, Shared};
-use std::alloc::Global;
+use std::alloc::{AllocError, Global};
 use std::process::Abort;
 use std::sync::Wait;
 use std::test::Fail;
 use std::thread;
 use std::thread::Threads;
-use tfs_journal::{Discard, Sink};
+use tfs_journal::{Base, BaseRow, Discard, Rows, Sink, encode_base};
 use tfs_table::Table;
 
 #[test]
@@ -21,10 +21,24 @@ fn four_sessions_push_the_same_states(rt: HostRuntime) -> Result<(), Fail> {
 
 #[test]
 fn sixteen_sessions_lock_1024_names(rt: HostRuntime) -> Result<(), Fail> {
-    let opened = Table::open(rt.alloc(), "TFJ1\n".as_bytes(), Discard);
-    let (table, _end) = opened.ok().expect(&rt, "a table");
-    assert_eq!(rt; played(&rt, table, 16, Scene::Names)?, 1024);
+    let later = later_journal(&rt)?;
+    for (bytes, position) in [("TFJ1\n".as_bytes(), 0), (later.as_slice(), 7)] {
+        let opened = Table::open(rt.alloc(), bytes, Discard);
+        let (table, _end) = opened.ok().expect(&rt, "a table");
+        assert_eq!(rt; table.position(), position);
+        assert_eq!(rt; played(&rt, table, 16, Scene::Names)?, 1024);
+    }
     Ok(())
+}
+
+/// A journal of format 2 that begins at position 7, with one of the names.
+fn later_journal(rt: &(impl Alloc<A = Global> + Abort)) -> Result<Vec<u8>, AllocError> {
+    let mut rows = Vec::new(rt.alloc());
+    rows.push(BaseRow::new(name_of(rt, "n0-0")?, None, None))?;
+    let base = Base::new(7, Rows::new(rows)).expect(rt, "a base");
+    let mut bytes = "TFJ2\n".as_bytes().to_vec(rt.alloc())?;
+    bytes.extend_from_slice(encode_base(rt.alloc(), &base)?.as_slice())?;
+    Ok(bytes)
 }
 
 /// Each session pushes the states of all serials: each push is accepted, or its serial is too low by then.
