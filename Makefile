@@ -9,7 +9,7 @@ endif
 # Stops a target that needs a crate where CRATE names none.
 crate = $(if $(and $(CRATE),$(wildcard crates/$(CRATE)/src)),,$(error name a crate of crates/, as in: make $@ CRATE=tfs_rules))
 
-.PHONY: help run serve test check edits blackbox deploy-test bench lint
+.PHONY: help run serve test check edits blackbox deploy-test bench stress lint
 
 help:
 	@echo 'make run                       build the program out of proved crates and run its main job'
@@ -20,6 +20,7 @@ help:
 	@echo 'make blackbox                  check the built program from outside; one check with CHECK=locks'
 	@echo 'make deploy-test               test starts, standbys and nginx as deploy/ has them; nginx has to be installed'
 	@echo 'make bench                     run the benchmarks; one of them with BENCH=planes'
+	@echo 'make stress                    have 16 sessions call a shared table for a minute, and check each answer; SECONDS=10 for less'
 	@echo 'make lint                      look for faults in Python and shell files, without running them'
 
 run:
@@ -45,6 +46,9 @@ deploy-test:
 
 bench:
 	@python3 tests/bench.py $(BENCH)
+
+stress:
+	@cd crates/shared_bench && rt run -- stress $(or $(SECONDS),60)
 
 lint:
 	@python3 tests/lint.py
