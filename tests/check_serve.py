@@ -16,6 +16,7 @@ from serve_program import LOOPBACK, Server, asked, entries_of, free_port, fresh,
 from stdio_program import USAGE, request_text
 
 A, B = b'{"ID":"A" ,"Who":""}', b'{"ID":"B"}'
+MAX_READS = 1048576
 
 
 def fault(name, status=1):
@@ -154,18 +155,18 @@ def calls_in(trace):
     return [(name, int(descriptor)) for name, descriptor in map(str.split, lines)]
 
 
-def traced():
-    """The library that tells the calls that write or sync, built out of trace_calls.c."""
-    expect(shutil.which("gcc") is not None, True, "gcc, which builds tests/trace_calls.c, is there")
+def preloaded(name):
+    """The library that is built out of a file of this folder, to be preloaded."""
+    expect(shutil.which("gcc") is not None, True, f"gcc, which builds tests/{name}, is there")
     library = fresh()
-    source = Path(__file__).resolve().parent / "trace_calls.c"
+    source = Path(__file__).resolve().parent / name
     subprocess.run(["gcc", "-O1", "-Wall", "-shared", "-fPIC", "-o", library, str(source), "-ldl"], check=True)
     return library
 
 
 def check_an_accepted_change_is_synced_before_its_reply():
     reading, writing = os.pipe()
-    server = Server(workers=1, env={"LD_PRELOAD": traced(), "TRACE": str(writing)}, pass_fds=[writing])
+    server = Server(workers=1, env={"LD_PRELOAD": preloaded("trace_calls.c"), "TRACE": str(writing)}, pass_fds=[writing])
     synced = [call for call in calls_in(reading) if call[0] in ("fsync", "fdatasync")]
     file = synced[0][1]
     expect(set(synced), {("fdatasync", file)}, "the header is synced")
@@ -184,9 +185,45 @@ def check_an_accepted_change_is_synced_before_its_reply():
     os.close(writing)
 
 
-def limit_memory():
-    """Limits the address space to 6 GB."""
-    resource.setrlimit(resource.RLIMIT_AS, (6 * 10**9, 6 * 10**9))
+def send_all(connection, data):
+    """Sends the bytes, as far as the server takes them."""
+    try:
+        connection.sendall(data)
+    except OSError:
+        pass
+
+
+def rest_of(file):
+    """What comes until a connection ends."""
+    try:
+        return file.read()
+    except ConnectionError:
+        return b""
+
+
+def check_a_connection_ends_after_1048576_reads():
+    server = Server(workers=1, env={"LD_PRELOAD": preloaded("short_reads.c")})
+    request = request_text("GET", "/state/a")
+    count, rest = divmod(MAX_READS, len(request))
+    with server.connect() as connection, connection.makefile("rb") as file:
+        sender = threading.Thread(target=send_all, args=(connection, b"\n" * rest + request * count), daemon=True)
+        sender.start()
+        for number in range(count):
+            expect(reply_of(file), (404, b'{"error":"NoState"}'), f"reply {number} of {count}")
+        sender.join()
+        send_all(connection, b"x\n\n")
+        expect(rest_of(file), b"", "after as many reads as bytes of these requests")
+    expect(server.ask("GET", "/state/a")[0], 404, "on another connection")
+
+
+def limited(space):
+    """What limits the address space of a program."""
+    return lambda: resource.setrlimit(resource.RLIMIT_AS, (space, space))
+
+
+def hostile(length):
+    """A body of so many bytes, which takes many times its bytes to be read."""
+    return (b"[" + b'{"":0},' * ((length - 4) // 7)).ljust(length - 3) + b"{}]"
 
 
 def push_large(server, text, statuses):
@@ -198,22 +235,35 @@ def push_large(server, text, statuses):
     statuses.append(reply and reply[0])
 
 
-def check_sixteen_hostile_bodies_end_nothing():
-    server = Server(workers=16, preexec_fn=limit_memory)
-    text = b"[" + b'{"":0},' * ((16 << 20) // 7 - 1) + b"{}]"
+def pushed_by_sixteen(server, text):
+    """The statuses of sixteen pushes of a text at the same time."""
     statuses = []
     threads = [threading.Thread(target=push_large, args=(server, text, statuses)) for _ in range(16)]
     for thread in threads:
         thread.start()
     for thread in threads:
         thread.join()
+    return statuses
+
+
+def check_sixteen_hostile_bodies_end_nothing():
+    server = Server(workers=16, preexec_fn=limited(6 * 10**9))
+    statuses = pushed_by_sixteen(server, hostile(16 << 20))
     expect(set(statuses) <= {200, 400, 503}, True, statuses)
     expect(server.ask("POST", "/state/a", S1), (200, b""))
     expect(server.process.poll(), None)
 
 
+def check_bodies_of_more_than_1_mib_are_read_two_at_a_time():
+    # One takes 130 MB. With one arena a thread's freed memory is there for the others.
+    server = Server(workers=16, env={"MALLOC_ARENA_MAX": "1"}, preexec_fn=limited(7 * 10**8))
+    expect(pushed_by_sixteen(server, hostile((1 << 20) + 1)), [400] * 16, "two at a time fit")
+    refused = any(503 in pushed_by_sixteen(server, hostile(1 << 20)) for _ in range(10))
+    expect(refused, True, "sixteen at a time, as bodies of 1 MiB are read, don't fit")
+
+
 def check_a_long_module_path_is_taken_and_its_answer_is_not():
-    server = Server(workers=2, preexec_fn=limit_memory)
+    server = Server(workers=2, preexec_fn=limited(6 * 10**9))
     module = "module." + "m" * (8 << 20)
     instances = ",".join('{"index_key":%d,"dependencies":["t.a"]}' % number for number in range(4095))
     text = state(1, ("a",))[:-2] + b', {"module":"%s","mode":"managed","type":"t","name":"n","instances":[%s]}]}' % (
