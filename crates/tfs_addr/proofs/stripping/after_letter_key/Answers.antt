@@ -5,10 +5,16 @@ use Rattle.tfs_addr.proofs.stripping.after_letter_key.Goals as goal
 
 pub split_at-requires : goal.split_at-requires
 split_at-requires c =
-    let ends = KeyEnds-one_unit c.as_bytes.result.now c.as_bytes.ensures.utf8 (omega arith) (omega arith) (omega arith) c.if-letter-ne34.true c.if-letter-ne92.true (omega arith) (omega arith) in
+    let text = c.as_bytes.result.now in
+    let no_quote = c.if-letter-ne34.true in
+    let plain = c.if-letter-ne92.true in
+    let ends = KeyEnds-one_unit text c.as_bytes.ensures.utf8 (omega arith) (omega arith) (omega arith) no_quote plain (omega arith) (omega arith) in
     rw c.as_bytes.ensures.value at (KeyEnds-boundary_at c.as_bytes.result.now 5 (omega arith) ends)
 
 pub returns-in-91 : goal.returns-in-91
 returns-in-91 c =
-    let ends = KeyEnds-one_unit c.as_bytes.result.now c.as_bytes.ensures.utf8 (omega arith) (omega arith) (omega arith) c.if-letter-ne34.true c.if-letter-ne92.true (omega arith) (omega arith) in
+    let text = c.as_bytes.result.now in
+    let no_quote = c.if-letter-ne34.true in
+    let plain = c.if-letter-ne92.true in
+    let ends = KeyEnds-one_unit text c.as_bytes.ensures.utf8 (omega arith) (omega arith) (omega arith) no_quote plain (omega arith) (omega arith) in
     rw c.split_at.ensures.back (rw c.as_bytes.ensures.value at ends.key)
