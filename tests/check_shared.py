@@ -4,8 +4,8 @@ can be refused that would lose a place of a published copy: such a clone is refu
 import json
 import sys
 
+from checking import checks_in, expect, run_checks
 from refused_requests import FOREVER, build_shim, built, run_refused
-from stdio_program import checks_in, expect, run_checks
 
 build_shim()
 PROGRAM = built("shared_memory")
