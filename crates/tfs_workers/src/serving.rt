@@ -1,8 +1,9 @@
 //! The work of one session: connections one after another.
 
-ghost use Rattle.std.specs.Prelude.{◌≡◌, OnOk};
-ghost use Rattle.tfs_workers.specs.Gate.{IsClosed};
+ghost use Rattle.std.specs.Prelude.{◌≡◌, OnOk, OnErr, [], ◌∷◌, false};
+ghost use Rattle.tfs_workers.specs.Gate.{IsClosed, asked};
 ghost use Rattle.tfs_workers.specs.Session.{IsLater};
+ghost use Rattle.tfs_workers.specs.Working.{HasAnswered, HasWorked};
 
 use crate::connection::{Incoming, Outgoing, limit};
 use crate::gate::Gate;
@@ -25,8 +26,8 @@ pub struct AcceptFault;
 
 /// Takes connections one after the other while the gate admits, and has a conversation over the session on each. A fault of a
 /// connection ends that connection alone; so does one that the client gave up before it was taken. Afterwards the session has seen
-/// all that it had seen before.
-#[tactic(auto, using(crate::proofs::Later::later_itself, crate::proofs::Later::later_then))]
+/// all that it had seen before; what became of it came of the calls that it answered, and the gate has heard of all of these.
+#[tactic(auto, using(crate::proofs::Later::later_itself, crate::proofs::Later::later_then, crate::proofs::Working::worked_nothing, crate::proofs::Working::worked_on, crate::proofs::Working::worked_without, crate::proofs::Working::worked_to_the_end))]
 pub fn work<L: OpenListener<Stream = TcpStream>, J: Naming, K: Sink, G: Gate, R: Wait + Clock>(
     service: &Service<'_, J, K, R>,
     listener: &L,
@@ -35,6 +36,8 @@ pub fn work<L: OpenListener<Stream = TcpStream>, J: Naming, K: Sink, G: Gate, R:
 ) -> Result<(), AcceptFault>
     ensures closed { OnOk result (IsClosed (G.told gate.new)) }
     ensures later { IsLater session.old session.new }
+    ensures worked { OnOk result (HasWorked (G.told gate.old) (G.told gate.new) session.old session.new (asked false ∷ [])) }
+    ensures broken { OnErr result (HasWorked (G.told gate.old) (G.told gate.new) session.old session.new []) }
 {
     for _ in service.rt.forever() {
         if !gate.admit() {
@@ -60,6 +63,7 @@ fn serve<J: Naming, K: Sink, G: Gate, R: Wait + Clock>(
     session: &mut Session<J>,
 )
     ensures later { IsLater session.old session.new }
+    ensures answered { HasAnswered (G.told gate.old) (G.told gate.new) session.old session.new }
 {
     if limit(stream).is_err() {
         return;
@@ -87,6 +91,7 @@ fn converse_once<I: Read, O: Write, J: Naming, K: Sink, G: Gate, R: Wait>(
     ensures loan { desk.new.desk.session.ghost_name ≡ desk.old.desk.session.ghost_name }
     ensures gate { desk.new.gate.ghost_name ≡ desk.old.gate.ghost_name }
     ensures later { IsLater desk.old.desk.session.now desk.new.desk.session.now }
+    ensures answered { HasAnswered (G.told desk.old.gate.now) (G.told desk.new.gate.now) desk.old.desk.session.now desk.new.desk.session.now }
 {
     let mut reads = Reads::new();
     let _ = converse(desk.desk.service.alloc, reader, writer, desk, &mut reads);

@@ -3,6 +3,7 @@
 ghost use Rattle.std.specs.Prelude.{ℕ, ◌≡◌, ◌<◌, false, length, slice_index_or};
 ghost use Rattle.tfs_workers.specs.Gate.{IsClosed};
 ghost use Rattle.tfs_workers.specs.Session.{IsLater};
+ghost use Rattle.tfs_workers.specs.Working.{HasWorked, end_of_work};
 
 use crate::gate::Gate;
 use crate::serving::work;
@@ -33,14 +34,16 @@ impl<J: Naming, G: Gate> Worker<J, G> {
     )
         ensures later { IsLater self.old.session self.new.session }
         ensures closed { self.new.failed ≡ false → IsClosed (G.told self.new.gate) }
+        ensures worked { HasWorked (G.told self.old.gate) (G.told self.new.gate) self.old.session self.new.session
+            (end_of_work self.new.failed) }
     {
         self.failed = work(service, listener, &mut self.gate, &mut self.session).is_err();
     }
 }
 
 /// Has each worker work, at the same time where the system makes the threads. Afterwards each session has seen all that it had seen
-/// before, and `failed` tells whose listener gave no connection; the gate of any other has said no. At most two pushes of more than
-/// 1 MiB are read at a time.
+/// before, and `failed` tells whose listener gave no connection; the gate of any other has said no. What became of a session came of
+/// the calls that it answered, and its gate has heard of all of these. At most two pushes of more than 1 MiB are read at a time.
 pub fn work_all<
     L: OpenListener<Stream = TcpStream> + Sync,
     J: Naming + Send + Sync,
@@ -52,6 +55,9 @@ pub fn work_all<
         → IsLater (slice_index_or workers.old i d).session (slice_index_or workers.new i d).session }
     ensures closed { (i : ℕ) (d : _) → i < length workers.old
         → (slice_index_or workers.new i d).failed ≡ false → IsClosed (G.told (slice_index_or workers.new i d).gate) }
+    ensures worked { (i : ℕ) (d : _) → i < length workers.old
+        → HasWorked (G.told (slice_index_or workers.old i d).gate) (G.told (slice_index_or workers.new i d).gate)
+        (slice_index_or workers.old i d).session (slice_index_or workers.new i d).session (end_of_work (slice_index_or workers.new i d).failed) }
 {
     let even = Mutex::new(());
     let odd = Mutex::new(());
@@ -62,6 +68,8 @@ pub fn work_all<
         &|number: usize, worker: &mut Worker<J, G>|
             ensures later { IsLater worker.entry.now.session worker.exit.now.session }
             ensures closed { worker.exit.now.failed ≡ false → IsClosed (G.told worker.exit.now.gate) }
+            ensures worked { HasWorked (G.told worker.entry.now.gate) (G.told worker.exit.now.gate) worker.entry.now.session
+                worker.exit.now.session (end_of_work worker.exit.now.failed) }
         {
             let turn = if number % 2 == 0 { &even } else { &odd };
             let service = Service {

@@ -3,6 +3,8 @@ use Rattle.tfs_serve.proofs.StepLemmas.{call_keeps}
 use Rattle.tfs_workers.specs.Session.{IsLater}
 use Rattle.tfs_workers.proofs.Later.{later_itself, later_then, step_later}
 use Rattle.tfs_workers.proofs.Reaching.{call_reaches}
+use Rattle.tfs_workers.specs.Working.{HasAnswered}
+use Rattle.tfs_workers.proofs.Working.{answered_nothing, answered_then, answered_one}
 use Rattle.tfs_workers.proofs.serving.converse_once.Goals as goal
 
 pub returns-clause-loan : goal.returns-clause-loan
@@ -18,3 +20,12 @@ returns-clause-later g c = call_reaches _ (λ a b. IsLater a.desk.session.now b.
     (λ a b d p q. later_then a.desk.session.now b.desk.session.now d.desk.session.now p q)
     (λ old new call reply step. step_later old.desk.session.now new.desk.session.now call reply step.1.0.1) _ _ _ _ _ _ _ _ _
     c.converse.ensures.ended c.converse.ensures.fault
+
+pub returns-clause-answered : goal.returns-clause-answered
+returns-clause-answered g c =
+    let told = g.G.Gate.told in
+    call_reaches _ (λ a b. HasAnswered (told a.gate.now) (told b.gate.now) a.desk.session.now b.desk.session.now)
+    (λ s. answered_nothing (told s.gate.now) s.desk.session.now)
+    (λ a b d p q. answered_then (told a.gate.now) (told b.gate.now) (told d.gate.now) a.desk.session.now b.desk.session.now d.desk.session.now p q)
+    (λ old new call reply step. answered_one (told old.gate.now) (told new.gate.now) old.desk.session.now new.desk.session.now call reply step.1.0.1 step.1.1)
+    _ _ _ _ _ _ _ _ _ c.converse.ensures.ended c.converse.ensures.fault

@@ -9,6 +9,7 @@ use Rattle.std.proofs.alloc.Global.TheSendSync as global
 use Rattle.tfs_shared.proofs.Crossing.{shared_sync}
 use Rattle.tfs_workers.specs.Gate.{IsClosed}
 use Rattle.tfs_workers.specs.Session.{IsLater}
+use Rattle.tfs_workers.specs.Working.{HasWorked, end_of_work}
 use Rattle.tfs_workers.proofs.Captures.{six_sync}
 use Rattle.tfs_workers.proofs.worker.work_all.Goals as goal
 
@@ -28,5 +29,11 @@ returns g c = record {
       (subst (λ w. IsLater at.argument.now.session w.session) at.left at.call.0);
   closed = λ i d inside.
       let at = (c.for_each_mut.ensures i d inside).1 in
-      subst (λ w. w.failed ≡ false → IsClosed (g.G.Gate.told w.gate)) at.left at.call.1;
+      subst (λ w. w.failed ≡ false → IsClosed (g.G.Gate.told w.gate)) at.left at.call.1.0;
+  worked = λ i d inside.
+      let at = (c.for_each_mut.ensures i d inside).1 in
+      let told = g.G.Gate.told in
+      let new = slice_index_or c.for_each_mut.new.s i d in
+      subst (λ w. HasWorked (told w.gate) (told new.gate) w.session new.session (end_of_work new.failed)) at.argument_is
+      (subst (λ w. HasWorked (told at.argument.now.gate) (told w.gate) at.argument.now.session w.session (end_of_work w.failed)) at.left at.call.1.1);
 }
