@@ -1,6 +1,5 @@
 //! What was read, in lines.
 
-use crate::hex::push_hex;
 use anyhow::Result;
 use std::alloc::Global;
 use tfs_journal::{BaseRow, Entry, encode, encode_base};
@@ -85,4 +84,16 @@ fn push_id(line: &mut String, id: &Option<Id>) -> Result<()> {
         Some(id) => push_hex(line, id.text().as_bytes()),
         None => push_hex(line, b""),
     }
+}
+
+/// Adds a space and the hex digits of bytes; a dash where there are none.
+fn push_hex(line: &mut String, bytes: &[u8]) -> Result<()> {
+    line.push(' ')?;
+    if bytes.is_empty() {
+        line.push('-')?;
+        return Ok(());
+    }
+    let digits = hex::encode(*line.allocator(), bytes)?;
+    line.push_str(digits.as_str())?;
+    Ok(())
 }
