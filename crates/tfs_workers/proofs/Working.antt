@@ -56,10 +56,6 @@ answered_one t u a b call reply step heard = record {
   gives = (b, step, refl);
 }
 
--- No connection was admitted.
-pub worked_nothing : (t : Option (List Event)) (s : SessionView) → HasWorked t t s s []
-worked_nothing t s = record { connections = []; heard = hears_nothing t; gives = refl }
-
 -- One more connection was admitted, and calls were answered on it.
 pub worked_on : (t u v w : Option (List Event)) (a b c : SessionView) → HasWorked t u a b [] → Hears u v (asked true ∷ [])
     → HasAnswered v w b c → HasWorked t w a c []
@@ -86,13 +82,3 @@ worked_on t u v w a b c p admitted q = record {
 -- One more connection was admitted that wasn't taken.
 pub worked_without : (t u v : Option (List Event)) (a b : SessionView) → HasWorked t u a b [] → Hears u v (asked true ∷ []) → HasWorked t v a b []
 worked_without t u v a b p admitted = worked_on t u v v a b b p admitted (answered_nothing v b)
-
--- The gate has said no.
-pub worked_to_the_end : (t u v : Option (List Event)) (a b : SessionView) → HasWorked t u a b [] → Hears u v (asked false ∷ [])
-    → HasWorked t v a b (asked false ∷ [])
-worked_to_the_end t u v a b p denied = record {
-  connections = p.connections;
-  heard = heard_as t v _ _ (ap (λ (l : List Event). l ++ asked false ∷ []) (append-nil (flat_map heard_of_connection p.connections)))
-      (hears_then t u v _ _ p.heard denied);
-  gives = p.gives;
-}

@@ -27,7 +27,7 @@ pub struct AcceptFault;
 /// Takes connections one after the other while the gate admits, and has a conversation over the session on each. A fault of a
 /// connection ends that connection alone; so does one that the client gave up before it was taken. Afterwards the session has seen
 /// all that it had seen before; what became of it came of the calls that it answered, and the gate has heard of all of these.
-#[tactic(auto, using(crate::proofs::Later::later_itself, crate::proofs::Later::later_then, crate::proofs::Working::worked_nothing, crate::proofs::Working::worked_on, crate::proofs::Working::worked_without, crate::proofs::Working::worked_to_the_end))]
+#[tactic(auto, using(crate::proofs::Later::later_itself, crate::proofs::Later::later_then))]
 pub fn work<L: OpenListener<Stream = TcpStream>, J: Naming, K: Sink, G: Gate, R: Wait + Clock>(
     service: &Service<'_, J, K, R>,
     listener: &L,
