@@ -11,13 +11,14 @@ use tfs_state::MAX_STATE_BYTES;
 /// How many instances a state has, each of which but the first depends on the one before.
 pub(crate) const INSTANCES: u64 = 12;
 
-/// The states of one name, of about 1 KB, which differ in their serial.
+/// The states of one name, which differ in their serial.
 #[derive(Drop)]
 pub(crate) struct States {
     rest: String,
 }
 
 impl States {
+    /// States of about 1 KB.
     pub(crate) fn new(alloc: Global) -> Result<States, AllocError> {
         let mut rest = String::from_str(alloc, ",\"lineage\":\"L1\",\"resources\":[")?;
         rest.push_str("{\"mode\":\"managed\",\"type\":\"t\",\"name\":\"n0\",\"instances\":[{}]}")?;
@@ -29,6 +30,18 @@ impl States {
             rest.push_str(resource.as_str())?;
         }
         rest.push_str("]}")?;
+        Ok(States { rest })
+    }
+
+    /// States of nearly 16 MiB, the most of a state, by one member more.
+    pub(crate) fn large(alloc: Global) -> Result<States, AllocError> {
+        let States { mut rest } = States::new(alloc)?;
+        rest.pop();
+        rest.push_str(",\"filler\":\"")?;
+        for _ in rest.len()..MAX_STATE_BYTES - 64 {
+            rest.push('x')?;
+        }
+        rest.push_str("\"}")?;
         Ok(States { rest })
     }
 

@@ -1,7 +1,9 @@
 //! Measures a shared table, and tries it. Without an argument it prints what few calls of each kind give. With the argument `times` it
 //! prints nanoseconds: of queries by one thread, by as many as there are cores but one, and by these beside one that pushes; and of
-//! pushes by a session and to a table that isn't shared. With `stress` and a number of seconds 16 sessions make calls of all kinds
-//! for as long, and all that they are answered is compared with the gathered journal.
+//! pushes by a session and to a table that isn't shared. With `waits` it prints how long one session waits at most while another pushes a
+//! state of 16 MiB into memory, and how long an append of the same record takes alone. With `pushes` it makes the pushes of 1 KB by a session
+//! once, so that their instructions can be counted. With `stress` and a number of seconds 16 sessions make calls of all kinds for as
+//! long, and all that they are answered is compared with the gathered journal.
 #![tactic(auto)]
 
 ghost use Rattle.std.specs.Prelude.{◌≤◌};
@@ -12,31 +14,43 @@ mod play;
 mod pushes;
 mod queries;
 mod steps;
+mod waits;
 mod worker;
 
+use crate::input::States;
 use crate::model::check;
 use crate::play::{Outcome, Task, play};
 use crate::pushes::{apply_all, pushes_of};
 use crate::queries::Times;
+use crate::waits::{Recorded, Waits};
 use anyhow::{Result, bail};
 use std::sync::Wait;
 use std::thread::Threads;
 use std::time::{Clock, Instant};
 use std::{env, thread};
+use tfs_journal::{Discard, MemorySink};
 
 /// How often what is measured takes its turn.
 const ROUNDS: usize = 40;
+
+/// How many pushes of 1 KB are measured at once.
+const PUSHES: u64 = 1_000;
 
 fn main(rt: HostRuntime) -> Result<()> {
     let mut words = env::args(&rt)?;
     match words.nth(1) {
         None => print_counts(&rt),
         Some(word) if word.as_str() == "times" => print_times(&rt),
+        Some(word) if word.as_str() == "waits" => print_waits(&rt),
+        Some(word) if word.as_str() == "pushes" => {
+            submit(&rt, PUSHES)?;
+            Ok(())
+        }
         Some(word) if word.as_str() == "stress" => match words.next() {
             Some(seconds) => stress(&rt, seconds.parse()?),
             None => bail!("the seconds are missing"),
         },
-        Some(_) => bail!("the words are times, or stress and a number of seconds"),
+        Some(_) => bail!("the words are times, waits, pushes, or stress and a number of seconds"),
     }
 }
 
@@ -49,6 +63,8 @@ fn print_counts<R: Threads + Wait + Clock + Print + AllocGlobal + Sync>(rt: &R) 
     apply(rt, count)?;
     submit(rt, count)?;
     println!(rt; "{count} pushes to a table and to a shared one")?;
+    wait(rt, &States::new(rt.alloc())?)?;
+    println!(rt; "1 push while another session reads")?;
     let (calls, _) = one_round(rt)?;
     println!(rt; "{calls} calls by 16 sessions")?;
     Ok(())
@@ -59,7 +75,7 @@ fn print_times<R: Threads + Wait + Clock + Print + AllocGlobal + Sync>(rt: &R) -
     let sessions = thread::available_parallelism(rt)?.get().clamp(2, 16);
     let turns = 20_000;
     let mut best = ask(rt, sessions, turns)?;
-    let count = 1_000;
+    let count = PUSHES;
     let mut applied = apply(rt, count)?;
     let mut submitted = submit(rt, count)?;
     for _round in 1..ROUNDS {
@@ -79,6 +95,26 @@ fn print_times<R: Threads + Wait + Clock + Print + AllocGlobal + Sync>(rt: &R) -
     Ok(())
 }
 
+/// Prints for some rounds the longest read beside a push of a large state, and an append of its record alone.
+fn print_waits<R: Threads + Wait + Clock + Print + AllocGlobal + Sync>(rt: &R) -> Result<()> {
+    let states = States::large(rt.alloc())?;
+    for _round in 0..ROUNDS {
+        let Waits { read, append } = wait(rt, &states)?;
+        println!(rt; "waits {read} {append}")?;
+    }
+    Ok(())
+}
+
+/// A push of a state by one session of a new table over memory, while another one reads.
+fn wait<R: Threads + Wait + Clock + AllocGlobal + Sync>(rt: &R, states: &States) -> Result<Waits> {
+    let push = Recorded::of(rt.alloc(), 0, states.push(rt.alloc(), 1, None)?)?;
+    let sink = MemorySink::new(rt.alloc(), usize::MAX, u64::MAX);
+    match play(rt, sink, 2, Task::Push(push))? {
+        (_, Outcome::Push(waits)) => Ok(waits),
+        _ => bail!("this is no push"),
+    }
+}
+
 /// Queries of a new table by all its sessions but one.
 fn ask<R: Threads + Wait + Clock + AllocGlobal + Sync>(
     rt: &R,
@@ -87,7 +123,7 @@ fn ask<R: Threads + Wait + Clock + AllocGlobal + Sync>(
 ) -> Result<Times>
     requires { (1 ≤ sessions) × (sessions ≤ 16) }
 {
-    match play(rt, sessions, Task::Queries(turns))? {
+    match play(rt, Discard, sessions, Task::Queries(turns))? {
         (_, Outcome::Queries(times)) => Ok(times),
         _ => bail!("these are no queries"),
     }
@@ -101,7 +137,7 @@ fn apply<R: Clock + AllocGlobal>(rt: &R, count: u64) -> Result<u128> {
 /// The same pushes to a new table that one session shares.
 fn submit<R: Threads + Wait + Clock + AllocGlobal + Sync>(rt: &R, count: u64) -> Result<u128> {
     let pushes = pushes_of(rt.alloc(), count)?;
-    match play(rt, 1, Task::Pushes(pushes))? {
+    match play(rt, Discard, 1, Task::Pushes(pushes))? {
         (_, Outcome::Pushes(took)) => Ok(took),
         _ => bail!("these are no pushes"),
     }
@@ -110,7 +146,7 @@ fn submit<R: Threads + Wait + Clock + AllocGlobal + Sync>(rt: &R, count: u64) ->
 /// Calls of all kinds by sixteen sessions of a new table, which are compared with its journal: how many there were, and how many
 /// changes were accepted.
 fn one_round<R: Threads + Wait + Clock + AllocGlobal + Sync>(rt: &R) -> Result<(u64, u64)> {
-    match play(rt, 16, Task::Steps)? {
+    match play(rt, Discard, 16, Task::Steps)? {
         (table, Outcome::Steps(logs)) => check(rt.alloc(), &table, logs.as_slice()),
         _ => bail!("these are no calls"),
     }

@@ -1,10 +1,11 @@
 //! Shared tables, and what is measured or tried of them.
 
-ghost use Rattle.std.specs.Prelude.{◌≡◌, ◌≤◌};
+ghost use Rattle.std.specs.Prelude.{◌≡◌, ◌≤◌, [], IfSome};
 
 use crate::pushes::{Push, submit_all};
 use crate::queries::{Times, ask_all};
 use crate::steps::Log;
+use crate::waits::{Recorded, Waits, push_and_read};
 use crate::worker::{Work, Worker, work_all};
 use anyhow::{Result, bail};
 use std::alloc::Global;
@@ -13,7 +14,7 @@ use std::sync::Wait;
 use std::sync::ledger::Blank;
 use std::thread::Threads;
 use std::time::Clock;
-use tfs_journal::Discard;
+use tfs_journal::Sink;
 use tfs_shared::{Naming, Opened, Session, Shared, Strangers, gather, share};
 use tfs_table::Table;
 
@@ -26,6 +27,8 @@ pub(crate) enum Task {
     Pushes(Vec<Push>),
     /// All sessions make calls of all kinds.
     Steps,
+    /// The first session makes a push, and the last one reads meanwhile.
+    Push(Recorded),
 }
 
 /// What came of it.
@@ -36,20 +39,24 @@ pub(crate) enum Outcome {
     Pushes(u128),
     /// What each session was told.
     Steps(Vec<Log>),
+    Push(Waits),
 }
 
-/// A new table that sessions share for a task. It is gathered afterwards.
-pub(crate) fn play<R: Threads + Wait + Clock + AllocGlobal + Sync>(
+/// A new table over a sink, which sessions share for a task. It is gathered afterwards.
+pub(crate) fn play<K: Sink + Send + Drop, R: Threads + Wait + Clock + AllocGlobal + Sync>(
     rt: &R,
+    sink: K,
     number: usize,
     task: Task,
-) -> Result<(Table<Discard>, Outcome)>
-    requires { (1 ≤ number) × (number ≤ 16) }
+) -> Result<(Table<K>, Outcome)>
+    requires number { (1 ≤ number) × (number ≤ 16) }
+    requires open { K.faults sink ≡ 0 }
+    requires untold { IfSome (K.told sink) (λ bytes. bytes ≡ []) }
 {
-    let Ok(table) = Table::new(rt.alloc(), Discard) else {
+    let Ok(table) = Table::new(rt.alloc(), sink) else {
         bail!("there is no table");
     };
-    play_over::<Brand, R>(
+    play_over::<Brand, K, R>(
         rt,
         table,
         number,
@@ -59,21 +66,25 @@ pub(crate) fn play<R: Threads + Wait + Clock + AllocGlobal + Sync>(
     )
 }
 
-fn play_over<J: Naming + Send + Sync, R: Threads + Wait + Clock + AllocGlobal + Sync>(
+fn play_over<
+    J: Naming + Send + Sync,
+    K: Sink + Send + Drop,
+    R: Threads + Wait + Clock + AllocGlobal + Sync,
+>(
     rt: &R,
-    table: Table<Discard>,
+    table: Table<K>,
     number: usize,
     task: Task,
     blank: Blank,
     opened: Opened,
-) -> Result<(Table<Discard>, Outcome)>
+) -> Result<(Table<K>, Outcome)>
     requires number { (1 ≤ number) × (number ≤ 16) }
     requires sessions { (number ≡ J.sessions) × (J.parts ≡ J.sessions) }
     requires ledger { (blank.name ≡ J.name) × (blank.parts ≡ J.parts) }
     requires book { opened ≡ J.book }
     requires opening { table.journal ≡ J.opening }
 {
-    let made = share::<J, Discard, R>(rt, rt.alloc(), table, number, blank, opened);
+    let made = share::<J, K, R>(rt, rt.alloc(), table, number, blank, opened);
     let Ok((shared, sessions)) = made else {
         bail!("the table isn't shared");
     };
@@ -98,10 +109,24 @@ fn play_over<J: Naming + Send + Sync, R: Threads + Wait + Clock + AllocGlobal + 
     }
 }
 
-/// Does a task. The sessions come back.
-fn run<J: Naming + Send + Sync, R: Threads + Wait + Clock + AllocGlobal + Sync>(
+/// Has the first session make the pushes. The sessions come back.
+fn push_all<J: Naming, K: Sink, R: Wait + Clock>(
     rt: &R,
-    shared: &Shared<J, Discard>,
+    shared: &Shared<J, K>,
+    mut sessions: Vec<Session<J>>,
+    pushes: Vec<Push>,
+) -> Result<(Vec<Session<J>>, Outcome)> {
+    let took = match sessions.first_mut() {
+        Some(session) => submit_all(rt, shared, session, pushes)?,
+        None => bail!("there is no session"),
+    };
+    Ok((sessions, Outcome::Pushes(took)))
+}
+
+/// Does a task. The sessions come back.
+fn run<J: Naming + Send + Sync, K: Sink + Send, R: Threads + Wait + Clock + AllocGlobal + Sync>(
+    rt: &R,
+    shared: &Shared<J, K>,
     sessions: Vec<Session<J>>,
     task: Task,
 ) -> Result<(Vec<Session<J>>, Outcome)> {
@@ -112,19 +137,18 @@ fn run<J: Naming + Send + Sync, R: Threads + Wait + Clock + AllocGlobal + Sync>(
             let (sessions, _) = ended(rt.alloc(), workers)?;
             Ok((sessions, Outcome::Queries(times)))
         }
-        Task::Pushes(pushes) => {
-            let mut sessions = sessions;
-            let took = match sessions.first_mut() {
-                Some(session) => submit_all(rt, shared, session, pushes)?,
-                None => bail!("there is no session"),
-            };
-            Ok((sessions, Outcome::Pushes(took)))
-        }
+        Task::Pushes(pushes) => push_all(rt, shared, sessions, pushes),
         Task::Steps => {
             let mut workers = workers_of(rt.alloc(), sessions, None)?;
             work_all(rt, shared, workers.as_mut_slice(), 0);
             let (sessions, logs) = ended(rt.alloc(), workers)?;
             Ok((sessions, Outcome::Steps(logs)))
+        }
+        Task::Push(push) => {
+            let mut workers = workers_of(rt.alloc(), sessions, None)?;
+            let waits = push_and_read(rt, shared, workers.as_mut_slice(), push)?;
+            let (sessions, _) = ended(rt.alloc(), workers)?;
+            Ok((sessions, Outcome::Push(waits)))
         }
     }
 }

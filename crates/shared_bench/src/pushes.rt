@@ -6,7 +6,7 @@ use std::alloc::Global;
 use std::sync::Wait;
 use std::time::{Clock, Instant};
 use tfs_calls::Draft;
-use tfs_journal::Discard;
+use tfs_journal::{Discard, Sink};
 use tfs_rules::Name;
 use tfs_shared::{Naming, Session, Shared};
 use tfs_table::Table;
@@ -47,9 +47,9 @@ pub(crate) fn apply_all<R: Clock + AllocGlobal>(rt: &R, pushes: Vec<Push>) -> Re
 }
 
 /// The nanoseconds in which a shared table takes pushes by one session.
-pub(crate) fn submit_all<J: Naming, R: Wait + Clock>(
+pub(crate) fn submit_all<J: Naming, K: Sink, R: Wait + Clock>(
     rt: &R,
-    shared: &Shared<J, Discard>,
+    shared: &Shared<J, K>,
     session: &mut Session<J>,
     pushes: Vec<Push>,
 ) -> Result<u128> {

@@ -6,7 +6,7 @@ use std::alloc::Global;
 use std::sync::Wait;
 use std::thread::Threads;
 use std::time::{Clock, Instant};
-use tfs_journal::Discard;
+use tfs_journal::Sink;
 use tfs_shared::{Naming, Shared};
 
 /// The nanoseconds of as many queries by each session that asks: of one alone, of all at the same time, and of all beside pushes, of
@@ -32,12 +32,11 @@ impl Times {
 }
 
 /// Has the sessions ask, each of its own name, after a push of each. The last one pushes alone.
-pub(crate) fn ask_all<J: Naming + Send + Sync, R: Threads + Wait + Clock + AllocGlobal + Sync>(
-    rt: &R,
-    shared: &Shared<J, Discard>,
-    workers: &mut [Worker<J>],
-    turns: u64,
-) -> Result<Times> {
+pub(crate) fn ask_all<
+    J: Naming + Send + Sync,
+    K: Sink + Send,
+    R: Threads + Wait + Clock + AllocGlobal + Sync,
+>(rt: &R, shared: &Shared<J, K>, workers: &mut [Worker<J>], turns: u64) -> Result<Times> {
     let readers = workers.len().saturating_sub(1);
     if readers == 0 {
         bail!("nobody asks");
@@ -65,9 +64,9 @@ fn pushes_of<J: Naming>(workers: &[Worker<J>]) -> u64 {
 }
 
 /// The nanoseconds in which workers do their work, the first ones of whom ask. Each query has to be answered.
-fn took<J: Naming + Send + Sync, R: Threads + Wait + Clock + AllocGlobal + Sync>(
+fn took<J: Naming + Send + Sync, K: Sink + Send, R: Threads + Wait + Clock + AllocGlobal + Sync>(
     rt: &R,
-    shared: &Shared<J, Discard>,
+    shared: &Shared<J, K>,
     workers: &mut [Worker<J>],
     readers: usize,
     turns: u64,

@@ -2,12 +2,14 @@
 
 use crate::input::{INSTANCES, States, name_of, query};
 use crate::steps::{Log, steps};
+use crate::waits::{Recorded, push_beside, read_beside};
 use anyhow::Result;
 use std::alloc::Global;
 use std::sync::Wait;
 use std::sync::atomic::{AtomicU64, Ordering};
 use std::thread;
 use std::thread::Threads;
+use std::time::Clock;
 use tfs_calls::Query;
 use tfs_journal::Sink;
 use tfs_rules::Name;
@@ -22,15 +24,20 @@ pub(crate) enum Work {
     Write,
     /// It makes changes and queries of all kinds, and keeps what it was answered.
     Step(Log),
+    /// It makes a push beside reads. Afterwards it has none.
+    Push(Option<Recorded>),
+    /// It reads the state of its name beside a push.
+    Read,
 }
 
-/// A session with its name and its work, and how many of its calls were answered as they should be. It ends with a gap, so that what
-/// one worker writes and what the next one reads are never in one line of a processor's cache.
+/// A session with its name and its work, how many of its calls were answered as they should be, and the nanoseconds that were measured of
+/// them. It ends with a gap, so that what one worker writes and what the next one reads are never in one line of a processor's cache.
 #[derive(Drop)]
 pub(crate) struct Worker<J: Naming> {
     pub session: Session<J>,
     pub work: Work,
     pub answered: u64,
+    pub took: u128,
     number: usize,
     name: Name,
     query: Query,
@@ -51,6 +58,7 @@ impl<J: Naming> Worker<J> {
             session,
             work,
             answered: 0,
+            took: 0,
             number,
             name: name_of(alloc, number)?,
             query: query(alloc)?,
@@ -66,6 +74,7 @@ impl<J: Naming> Worker<J> {
             session,
             work,
             answered,
+            took: _,
             number: _,
             name: _name,
             query: _query,
@@ -76,24 +85,33 @@ impl<J: Naming> Worker<J> {
         (session, work, answered)
     }
 
-    /// Does its work. `asking` is how many still ask.
-    fn run<K: Sink, R: Wait + AllocGlobal>(
+    /// Does its work. `busy` is how many others are waited for.
+    fn run<K: Sink, R: Wait + Clock + AllocGlobal>(
         &mut self,
         rt: &R,
         shared: &Shared<J, K>,
-        asking: &AtomicU64,
+        busy: &AtomicU64,
     ) {
         match &mut self.work {
             Work::Ask(turns) => {
                 let turns = *turns;
                 self.ask(shared, turns);
-                asking.fetch_sub(1, Ordering::SeqCst);
+                busy.fetch_sub(1, Ordering::SeqCst);
             }
-            Work::Write => self.write(rt, shared, asking),
+            Work::Write => self.write(rt, shared, busy),
             Work::Step(log) => {
                 if steps(rt, shared, self.number, &mut self.session, log).is_ok() {
                     self.answered = 1;
                 }
+            }
+            Work::Push(push) => {
+                if let Some(push) = push.take() {
+                    self.took = push_beside(rt, shared, &mut self.session, push, busy).unwrap_or(0);
+                }
+            }
+            Work::Read => {
+                let took = read_beside(rt, shared, &mut self.session, &self.name, busy);
+                self.took = took.unwrap_or(0);
             }
         }
     }
@@ -116,10 +134,10 @@ impl<J: Naming> Worker<J> {
         &mut self,
         rt: &R,
         shared: &Shared<J, K>,
-        asking: &AtomicU64,
+        busy: &AtomicU64,
     ) {
         for _turn in 0..u64::MAX {
-            if asking.load(Ordering::SeqCst) == 0 || self.push(rt, shared).is_err() {
+            if busy.load(Ordering::SeqCst) == 0 || self.push(rt, shared).is_err() {
                 return;
             }
         }
@@ -145,13 +163,13 @@ impl<J: Naming> Worker<J> {
 pub(crate) fn work_all<
     J: Naming + Send + Sync,
     K: Sink + Send,
-    R: Threads + Wait + AllocGlobal + Sync,
->(rt: &R, shared: &Shared<J, K>, workers: &mut [Worker<J>], asking: u64) {
-    let asking = AtomicU64::new(asking);
+    R: Threads + Wait + Clock + AllocGlobal + Sync,
+>(rt: &R, shared: &Shared<J, K>, workers: &mut [Worker<J>], busy: u64) {
+    let busy = AtomicU64::new(busy);
     thread::for_each_mut(
         rt,
         workers,
         16,
-        &|_, worker| { worker.run(rt, shared, &asking) },
+        &|_, worker| { worker.run(rt, shared, &busy) },
     );
 }
