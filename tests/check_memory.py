@@ -1,6 +1,7 @@
 """Refuses the built program's requests for memory, by a preloaded shim: each request of a conversation in turn, and all
 from each one on. Each run ends by itself, and what it wrote is whole replies that the model allows. One conversation is the
-stored run, whose outputs are written here by hand; the other one has locks, unlocks and a deletion.
+stored run, whose outputs are written here by hand; another one is like it, with a state that doesn't come in one read; the third
+has locks, unlocks and a deletion.
 
 All requests are the program's own, by malloc and realloc; the loader and the C library make none. The first ones are
 for the arguments: refused, the arguments can't be had and count as other arguments."""
@@ -24,6 +25,9 @@ LOCKS = [
     ("LOCK", "/state/a", A), ("POST", "/state/a?ID=A", S1), ("GET", "/state/a", b""), ("LOCK", "/state/a", B),
     ("UNLOCK", "/state/a", A), ("DELETE", "/state/a", b""),
 ]
+LONG = S1 + b" " * (200_000 - len(S1))
+PUSH_AND_GET_LONG = request_text("POST", "/state/a", LONG) + request_text("GET", "/state/a", b"")
+LONG_STATE = reply_text(200, LONG)
 LOCKS_TEXT = b"".join(request_text(*request) for request in LOCKS)
 LOCKS_REPLIES = [DONE, DONE, STATE, reply_text(423, A), DONE, DONE]
 
@@ -73,6 +77,19 @@ def check_each_request_of_the_stored_run_is_refused_in_turn():
     expect(run_refused(requests + 1, FOREVER)[:3], (DONE + STATE, 0, b""), "there is no further request")
     for output, status in [(b"", 1), (DONE, 1), (NO_MEMORY + NO_STATE, 0), (DONE + NO_MEMORY, 0)]:
         expect((output, status) in seen, True, f"some request gives {status}, {output}")
+
+
+def check_each_request_of_a_push_that_comes_in_pieces_is_refused_in_turn():
+    requests, for_arguments = ample_counts(PUSH_AND_GET_LONG, DONE + LONG_STATE)
+    faults = {(b"", 1, FAULT), (DONE, 1, FAULT)}
+    allowed = faults | {(NO_MEMORY + NO_STATE, 0, b""), (DONE + NO_MEMORY, 0, b"")}
+    seen = set()
+    for request in range(for_arguments + 1, requests + 1):
+        *ran, _, others = run_refused(request, request, data=PUSH_AND_GET_LONG)
+        expect((tuple(ran) in allowed, others), (True, 0), f"request {request}, {ran[0][:100]}, {ran[1:]}")
+        seen.add(tuple(ran))
+    expect(seen, allowed, "each of these comes")
+    expect(run_refused(requests + 1, FOREVER, data=PUSH_AND_GET_LONG)[:3], (DONE + LONG_STATE, 0, b""), "there is no further request")
 
 
 def check_all_requests_from_each_one_on_are_refused():

@@ -50,6 +50,11 @@ def run(data, *arguments, **how):
     return ran.stdout, ran.returncode, ran.stderr
 
 
+def unread(far):
+    """How many bytes of a pipe or a socket weren't read yet."""
+    return struct.unpack("i", fcntl.ioctl(far, termios.FIONREAD, b"\0" * 4))[0]
+
+
 class Talk:
     """The running program, to which bytes are given and from which they are read in turn."""
 
@@ -61,7 +66,7 @@ class Talk:
         """Gives one piece, and waits until the program has taken it."""
         self.process.stdin.write(piece)
         end = time.monotonic() + SECONDS
-        while struct.unpack("i", fcntl.ioctl(self.process.stdin, termios.FIONREAD, b"\0" * 4))[0]:
+        while unread(self.process.stdin):
             if time.monotonic() > end:
                 raise AssertionError("the program doesn't read")
 
@@ -87,25 +92,42 @@ def request_text(method, target, body=b"", more=""):
     return f"{method} {target} HTTP/1.1\r\nHost: h\r\n{length}{more}\r\n".encode() + body
 
 
-def send_all(near, pieces):
-    """Sends each piece as a packet, and closes; the program may have ended earlier."""
+def send_all(near, pieces, is_taken):
+    """Sends each piece, waits until it is taken, and closes; the program may end earlier."""
     with near:
         try:
             for piece in pieces:
-                near.send(piece)
+                near.sendall(piece)
+                if not is_taken():
+                    return
         except (BrokenPipeError, ConnectionResetError):
             pass
 
 
+def waits_for(talk, far):
+    """What waits until the program has read all that was sent, and tells whether it goes on."""
+    def is_taken():
+        while unread(far):
+            if talk.process.poll() is not None:
+                return False
+        return True
+    return is_taken
+
+
 def run_in_pieces(pieces):
-    """Runs the program on pieces of at most 65,536 bytes, the most of one read. Each is a packet of a socket, so that a
-    read takes just one of them. They are sent from a thread, since the program waits where its output isn't read."""
-    expect(max(map(len, pieces)) <= MAX_READ, True, "a larger packet would lose its end")
-    near, far = socket.socketpair(socket.AF_UNIX, socket.SOCK_SEQPACKET)
-    with far:
-        talk = Talk(stdin=far)
-    sender = threading.Thread(target=send_all, args=(near, pieces), daemon=True)
+    """Runs the program on pieces of at most 65,536 bytes, the most of one read, so that no read takes more than one of them.
+    Single bytes are packets of a socket. A longer piece is sent once the one before is taken, since a read that asks for less
+    than a packet has would lose its end. They are sent from a thread, since the program waits where its output isn't read."""
+    expect(max(map(len, pieces)) <= MAX_READ, True, "a longer piece is no single read")
+    single = max(map(len, pieces)) == 1
+    near, far = socket.socketpair(socket.AF_UNIX, socket.SOCK_SEQPACKET if single else socket.SOCK_STREAM)
+    talk = Talk(stdin=far)
+    if single:
+        far.close()
+    is_taken = (lambda: True) if single else waits_for(talk, far)
+    sender = threading.Thread(target=send_all, args=(near, pieces, is_taken), daemon=True)
     sender.start()
     ended = talk.end()
     sender.join()
+    far.close()
     return ended

@@ -12,6 +12,7 @@ pub mod LengthLemmas
 pub mod FramingLemmas
 pub mod WantedLemmas
 pub mod MessageLemmas
+pub mod SizedLemmas
 pub mod EachPiece
 pub mod EachHead
 pub mod EachEnd

@@ -1,6 +1,6 @@
 -- Message framing (RFC 9112, sections 2.2, 3, 5 and 6): with which message a list of bytes begins, why it is refused, or
 -- that more bytes are needed.
-use Rattle.std.specs.Prelude.{◌≡◌, ℕ, ◌≤◌, ◌<◌, ◌⊎◌, List, ◌++◌, length, Ok, Err}
+use Rattle.std.specs.Prelude.{◌≡◌, ℕ, ◌≤◌, ◌<◌, ◌+◌, ◌⊎◌, List, ◌++◌, length, Option, Some, None, Ok, Err}
 use Rattle.httparse.specs.Grammar.{LineEnd, RequestHead, print_blank}
 use Rattle.tfs_calls.specs.declared.refusal.Refusal.{Refusal}
 use Rattle.tfs_calls.specs.declared.refusal.Refusal.TheVariants.{HeadTooLarge, BadHead}
@@ -11,7 +11,9 @@ use Rattle.tfs_framing.specs.Walked.{IsWalked}
 use Rattle.tfs_framing.specs.Request.{RequestValue, request_of}
 use Rattle.tfs_framing.specs.declared.known.Known.{Known}
 use Rattle.tfs_framing.specs.declared.known.Headed.{Headed}
+use Rattle.tfs_framing.specs.declared.known.SizedHead.{SizedHead}
 use Rattle.tfs_framing.specs.declared.length.BodyLength.{BodyLength}
+use Rattle.tfs_framing.specs.declared.length.BodyLength.TheVariants.{Absent, Sized, Chunked}
 use Rattle.tfs_framing.specs.declared.part.Flaw.{Flaw}
 use Rattle.tfs_framing.specs.declared.taken.Take.{Take}
 use Rattle.tfs_framing.specs.declared.taken.Take.TheVariants.{Need, Got, Fault}
@@ -115,3 +117,33 @@ abbrev pub FramesOrWants : List ℕ → Framed → Type 0
 FramesOrWants bytes (Framed.Want wanted known) = AreWanted bytes wanted × IsKnown bytes known
 FramesOrWants bytes (Framed.Got r used) = BeginsWith bytes r used
 FramesOrWants bytes (Framed.Fault refusal) = framing_refusal bytes refusal
+
+-- The head that is there with the length that it says of its body.
+abbrev pub with_length : Headed → BodyLength → Option SizedHead
+with_length headed Absent = None
+with_length headed (Sized size) = Some (record { headed = headed; size = size })
+with_length headed Chunked = None
+
+-- What is known as a head with the length of its body, where it says one.
+abbrev pub sized_head : Known → Option SizedHead
+sized_head (Known.Sought search) = None
+sized_head (Known.Headed headed) = with_length headed headed.size
+
+-- The head that the bytes have is read, and says this length of its body.
+pub record IsSizedHead (bytes : List ℕ) (head : SizedHead) : Type 0 where
+  pub is_headed : IsHeaded bytes head.headed
+  pub size_is : head.headed.size ≡ Sized head.size
+
+-- So many bytes come before the body: the empty lines and the head.
+abbrev pub body_start : SizedHead → ℕ
+body_start head = head.headed.skipped + head.headed.len
+
+-- So many bytes its body has.
+abbrev pub body_size : SizedHead → ℕ
+body_size head = head.size
+
+-- The bytes are a message, all of them, and it is told.
+abbrev pub FramesAll : List ℕ → Framed → Type 0
+FramesAll bytes (Framed.Want wanted known) = ⊥
+FramesAll bytes (Framed.Got r used) = (used ≡ length bytes) × BeginsWith bytes r used
+FramesAll bytes (Framed.Fault refusal) = ⊥

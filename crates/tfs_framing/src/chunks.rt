@@ -70,7 +70,7 @@ pub(crate) fn chunks_end(rest: &[u8], walk: Walk) -> Extent
     }
 }
 
-/// The bytes of the chunks, joined.
+/// The bytes of the chunks, joined, in a vector that has no more room than they take where memory for such a one is there.
 pub(crate) fn join_chunks(alloc: Global, coded: &[u8]) -> Result<Vec<u8>, AllocError>
     ensures { (body : List ℕ) → SpellsChunks coded.now body → IfOk result (λ read. read.items ≡ body) }
 {
@@ -82,5 +82,6 @@ pub(crate) fn join_chunks(alloc: Global, coded: &[u8]) -> Result<Vec<u8>, AllocE
         count += 1;
         left = after;
     }
+    body.shrink_to_fit();
     Ok(body)
 }

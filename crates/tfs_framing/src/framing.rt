@@ -1,18 +1,18 @@
 //! Where a message ends (RFC 9112, sections 2.2, 3, 5 and 6.2).
 
-ghost use Rattle.std.specs.Prelude.{◌≡◌, ℕ, List, IfOk, OnErr};
+ghost use Rattle.std.specs.Prelude.{◌≡◌, ◌++◌, ℕ, List, length, IfOk, OnErr};
 ghost use Rattle.httparse.specs.Grammar.{RequestHead};
 ghost use Rattle.tfs_framing.specs.Body.{SpellsBody, refusal_of};
 ghost use Rattle.tfs_framing.specs.Lines.{IsToldBy};
 ghost use Rattle.tfs_framing.specs.Sought.{IsSought};
-ghost use Rattle.tfs_framing.specs.Framing.{BeginsWith, Frames, IsHeaded, IsKnown, FramesOrWants};
+ghost use Rattle.tfs_framing.specs.Framing.{BeginsWith, Frames, IsHeaded, IsKnown, IsSizedHead, body_start, body_size, FramesAll, FramesOrWants};
 ghost use Rattle.tfs_framing.specs.Request.{RequestValue, request_of};
 
 use crate::body::{Extent, body_end, read_body};
 use crate::chunks::Walk;
 use crate::digest::fits_digest;
 use crate::head::{Search, find_head};
-use crate::known::{Headed, Known};
+use crate::known::{Headed, Known, SizedHead};
 use crate::limits::MAX_HEAD_BYTES;
 use crate::lines::{Lines, read_head};
 use crate::part::Flaw;
@@ -110,6 +110,30 @@ fn frame_behind(alloc: Global, bytes: &[u8], headed: Headed) -> Result<Framed, A
     Ok(Framed::Got(request, bytes.len() - after.len()))
 }
 
+/// The message of a head that says the length of its body, and of that body, which is whole and in a vector of its own: the request
+/// keeps this very vector. Memory is asked for the method and the target alone.
+pub fn frame_with_body(
+    alloc: Global,
+    before: &[u8],
+    body: Vec<u8>,
+    head: SizedHead,
+) -> Result<Framed, AllocError>
+    requires head { IsSizedHead (before.now ++ body.items) head }
+    requires before { length before.now ≡ body_start head }
+    requires whole { length body.items ≡ body_size head }
+    ensures ok { IfOk result (FramesAll (before.now ++ body.items)) }
+    ensures memory { OnErr result ((request : RequestValue) × (used : ℕ) × BeginsWith (before.now ++ body.items) request used) }
+{
+    let (_, text) = before.split_at(head.headed.skipped);
+    let lines = match read_head(text) {
+        Ok(lines) => lines,
+        Err(refusal) => return Ok(Framed::Fault(refusal)),
+    };
+    let used = before.len() + body.len();
+    let request = request_of(alloc, lines, body)?;
+    Ok(Framed::Got(request, used))
+}
+
 /// The refusal of bytes that begin with no body.
 fn refusal_of(flaw: Flaw) -> Refusal
     ensures { result ≡ refusal_of flaw }
@@ -126,6 +150,13 @@ fn read_request(alloc: Global, lines: Lines<'_>, coded: &[u8]) -> Result<Request
         → IfOk result (λ request. request ≡ request_of h body) }
 {
     let body = read_body(alloc, lines.size, coded)?;
+    request_of(alloc, lines, body)
+}
+
+/// The request of a head and its body.
+fn request_of(alloc: Global, lines: Lines<'_>, body: Vec<u8>) -> Result<Request, AllocError>
+    ensures { (h : RequestHead) → IsToldBy lines.entry h → IfOk result (λ request. request ≡ request_of h body.items) }
+{
     let intact = fits_digest(lines.digest, body.as_slice());
     Request::new(alloc, lines.method, lines.target, body, lines.close, intact)
 }

@@ -22,9 +22,9 @@ mod taken;
 mod tests;
 
 pub use form::Form;
-pub use framing::{frame, take};
+pub use framing::{frame, frame_with_body, take};
 pub use head::Search;
-pub use known::{Headed, Known};
+pub use known::{Headed, Known, SizedHead};
 pub use laws::{
     each_field_is_one_of_http_header, what_bytes_begin_with_is_one_thing_and_stays,
     what_is_known_stays_whatever_bytes_follow,

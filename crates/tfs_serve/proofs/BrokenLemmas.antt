@@ -13,7 +13,7 @@ use Rattle.tfs_framing.specs.Framing.{BeginsWith, AreWanted, framing_refusal}
 use Rattle.tfs_http.specs.ReplyText.{reply_text}
 use Rattle.tfs_serve.specs.Conversation.{AnswersRequest, Exchange, Course, ComesInReads, MayGoOn}
 use Rattle.tfs_serve.specs.Conversation.{closing_form}
-use Rattle.tfs_serve.specs.Turns.{WritesPart, FailsReading, Moment, moment, course_of, HasBroken}
+use Rattle.tfs_serve.specs.Turns.{WritesPart, FailsReading, moment, course_of, HasBroken}
 use Rattle.tfs_serve.specs.declared.fault.ServeFault.{ServeFault}
 use Rattle.tfs_serve.specs.declared.fault.ServeFault.TheVariants.{NoMemory}
 use Rattle.tfs_serve.proofs.CourseLemmas.{takes_none, takes_refusal, takes_one}
@@ -39,17 +39,18 @@ module _ {S : Type 0} (step : S → Call → ReplyValue → S → Type 0) where
   }
 
   -- Want of memory between messages.
-  pub broken_at_once : (a : Moment S) → MayGoOn a.input → HasBroken step a a NoMemory
-  broken_at_once a may = record {
+  pub broken_at_once : (desk : S) (reader writer : Option (List ℕ)) (reads : ℕ) (input left : List ℕ) → MayGoOn input
+      → HasBroken step (moment desk reader writer reads input) (moment desk reader writer reads left) NoMemory
+  broken_at_once desk reader writer reads input left may = record {
     more = [];
     text = [];
-    moved = moved_nowhere step a.desk a.desk a.reader a.writer a.reads a.input a.input;
+    moved = moved_nowhere step desk desk reader writer reads input left;
     breaks = record {
-      course = course_of [] a.input;
+      course = course_of [] input;
       lost = [];
-      takes = takes_none step a.desk (a.input ++ []) a.input (append-nil a.input);
+      takes = takes_none step desk (input ++ []) input (append-nil input);
       text_is = refl;
-      comes_at = inl (between_messages a.input, may);
+      comes_at = inl (between_messages input, may);
     };
   }
 
@@ -77,16 +78,16 @@ module _ {S : Type 0} (step : S → Call → ReplyValue → S → Type 0) where
       }
 
   -- A fault while the refusal was written that was to end the conversation.
-  pub broken_refusing : (desk : S) (reader into writer : Option (List ℕ)) (reads : ℕ) (input : List ℕ) (refusal : Refusal) (fault : ServeFault)
+  pub broken_refusing : (desk : S) (reader into writer : Option (List ℕ)) (reads : ℕ) (input left : List ℕ) (refusal : Refusal) (fault : ServeFault)
       → framing_refusal input refusal → WritesPart into writer (reply_text (refused (refusal_value refusal)) closing_form) fault
-      → HasBroken step (moment desk reader into reads input) (moment desk reader writer reads input) fault
-  broken_refusing desk reader into writer reads input refusal fault is w =
+      → HasBroken step (moment desk reader into reads input) (moment desk reader writer reads left) fault
+  broken_refusing desk reader into writer reads input left refusal fault is w =
       let text : List ℕ = reply_text (refused (refusal_value refusal)) closing_form in
       let course : Course = record { exchanges = []; rest = input; refusal = Some refusal } in
       record {
         more = [];
         text = w.part;
-        moved = moved_writing step desk desk reader into writer reads input input w.part w.appended;
+        moved = moved_writing step desk desk reader into writer reads input left w.part w.appended;
         breaks = record {
           course = course;
           lost = w.rest;

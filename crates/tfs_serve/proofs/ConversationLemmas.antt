@@ -209,13 +209,13 @@ module _ {S : Type 0} (step : S → Call → ReplyValue → S → Type 0) where
   }
 
   -- A message was refused.
-  pub ended_refusing : (desk : S) (reader into writer : Option (List ℕ)) (reads : ℕ) (input : List ℕ) (refusal : Refusal) → framing_refusal input refusal
-      → Appends into writer (reply_text (refused (refusal_value refusal)) closing_form)
-      → HasEnded step (moment desk reader into reads input) (moment desk reader writer reads input) Refused
-  ended_refusing desk reader into writer reads input refusal is appended = record {
+  pub ended_refusing : (desk : S) (reader into writer : Option (List ℕ)) (reads : ℕ) (input left : List ℕ) (refusal : Refusal)
+      → framing_refusal input refusal → Appends into writer (reply_text (refused (refusal_value refusal)) closing_form)
+      → HasEnded step (moment desk reader into reads input) (moment desk reader writer reads left) Refused
+  ended_refusing desk reader into writer reads input left refusal is appended = record {
     more = [];
     text = reply_text (refused (refusal_value refusal)) closing_form;
-    moved = moved_writing desk desk reader into writer reads input input (reply_text (refused (refusal_value refusal)) closing_form) appended;
+    moved = moved_writing desk desk reader into writer reads input left (reply_text (refused (refusal_value refusal)) closing_form) appended;
     through = tt;
     converses = record {
       course = record { exchanges = []; rest = input; refusal = Some refusal };

@@ -1,5 +1,6 @@
 pub mod DeskLemmas
 pub mod IoLemmas
+pub mod InputLemmas
 pub mod MessagesLemmas
 pub mod CourseLemmas
 pub mod FaultLemmas

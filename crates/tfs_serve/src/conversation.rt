@@ -126,19 +126,20 @@ fn turn<R: Read, W: Write, D: Desk>(
     };
     match framed {
         Framed::Want(wanted, known) => {
-            line.input.keep(known);
+            if line.input.keep(alloc, known).is_err() {
+                return Err(ServeFault::NoMemory);
+            }
             match fill(&mut line.input, reader, reads, wanted) {
                 Ok(more) => {
                     if more {
                         return Ok(None);
                     }
-                    Ok(Some(end_of(line.input.unused())))
+                    Ok(Some(end_of(&line.input)))
                 }
                 Err(fault) => Err(fault),
             }
         }
-        Framed::Got(request, used) => {
-            line.input.consume(used);
+        Framed::Got(request, _) => {
             let asks_to_close = request.form().close;
             match reply_to(alloc, line, writer, desk, request) {
                 Ok(()) => Ok(end_after(asks_to_close)),
@@ -167,10 +168,10 @@ fn end_after(asks_to_close: bool) -> Option<Ended>
 }
 
 /// How the conversation ends with the input.
-fn end_of(rest: &[u8]) -> Ended
-    ensures { ((result ≡ Clean) × (rest.now ≡ [])) ⊎ ((result ≡ Cut) × ¬ (rest.now ≡ [])) }
+fn end_of(input: &Input) -> Ended
+    ensures { ((result ≡ Clean) × (input.now ≡ [])) ⊎ ((result ≡ Cut) × ¬ (input.now ≡ [])) }
 {
-    if rest.is_empty() {
+    if input.is_empty() {
         Ended::Clean
     } else {
         Ended::Cut

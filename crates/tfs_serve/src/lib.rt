@@ -2,6 +2,7 @@
 //! work of the commands that read a journal is here too.
 #![tactic(auto)]
 
+mod body;
 mod check;
 mod conversation;
 mod desk;

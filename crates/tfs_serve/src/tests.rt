@@ -1,5 +1,6 @@
 //! Conversations over a table, with replies worked out by hand.
 
+mod bodies;
 mod closing;
 mod commands;
 mod cuts;

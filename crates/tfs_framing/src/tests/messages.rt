@@ -1,7 +1,12 @@
 //! Messages, worked out by hand from RFC 9112.
 
+ghost use Rattle.std.specs.Prelude.{IfOk};
+ghost use Rattle.tfs_framing.specs.Framing.{IsKnown};
+
 use super::{S1, frame_at_once};
-use crate::{Framed, Take, take};
+use crate::{
+    Framed, Known, Take, frame_with_body, take, what_is_known_stays_whatever_bytes_follow,
+};
 use std::alloc::Global;
 use std::process::Abort;
 use std::test::Fail;
@@ -70,6 +75,87 @@ fn the_wanted_length_is_told(rt: HostRuntime) -> Result<(), Fail> {
             Framed::Want(found, _) => assert_eq!(rt; found, wanted),
             _ => panic!(rt; "{n} bytes are no message yet"),
         }
+    }
+    Ok(())
+}
+
+/// What is known of bytes that are no message yet.
+fn known_of(rt: &(impl Alloc<A = Global> + Abort), bytes: &[u8]) -> Result<Known, Fail>
+    ensures { IfOk result (IsKnown bytes.now) }
+{
+    match frame_at_once(rt.alloc(), bytes)? {
+        Framed::Want(_, known) => Ok(known),
+        _ => panic!(rt; "{} bytes are no message yet", bytes.len()),
+    }
+}
+
+#[test]
+fn the_length_of_a_body_is_told_where_its_head_says_one(rt: HostRuntime) -> Result<(), Fail> {
+    for (text, start, size) in [
+        (
+            "POST / HTTP/1.1\r\nHost: h\r\nContent-Length: 41\r\n\r\n",
+            48,
+            41,
+        ),
+        (
+            "\r\n\nPOST / HTTP/1.1\nHost: h\nContent-Length: 007\n\nabc",
+            48,
+            7,
+        ),
+        (
+            "PUT / HTTP/1.0\r\nContent-Length: 16777216\r\n\r\na",
+            44,
+            16_777_216,
+        ),
+    ] {
+        let Some(head) = known_of(&rt, text.as_bytes())?.sized_head() else {
+            panic!(rt; "{text} tells the length of its body");
+        };
+        assert_eq!(rt; head.start(), start, "{text}");
+        assert_eq!(rt; head.size(), size, "{text}");
+        assert_eq!(rt; head.end(), start.saturating_add(size), "{text}");
+    }
+    for text in [
+        "",
+        "POST / HTTP/1.1\r\nHost: h\r\nContent-Length: 41\r\n\r",
+        "POST / HTTP/1.1\r\nHost: h\r\nTransfer-Encoding: chunked\r\n\r\n4\r\n",
+    ] {
+        let known = known_of(&rt, text.as_bytes())?;
+        assert!(rt; known.sized_head().is_none(), "{text}");
+    }
+    Ok(())
+}
+
+/// What a head and a body in a vector of its own are, where the head says that the body is so long.
+fn frame_apart(
+    rt: &(impl Alloc<A = Global> + Abort),
+    head: &[u8],
+    body: &[u8],
+) -> Result<Option<Framed>, Fail> {
+    what_is_known_stays_whatever_bytes_follow();
+    let known = known_of(rt, head)?;
+    let Some(sized) = known.sized_head() else {
+        return Ok(None);
+    };
+    if head.len() != sized.start() || body.len() != sized.size() {
+        return Ok(None);
+    }
+    let body = Vec::from_slice(rt.alloc(), body)?;
+    Ok(Some(frame_with_body(rt.alloc(), head, body, sized)?))
+}
+
+#[test]
+fn a_body_in_a_vector_of_its_own_goes_into_its_request(rt: HostRuntime) -> Result<(), Fail> {
+    let (head, behind) = POST_AND_GET.as_bytes().split_at(55);
+    let (body, _) = behind.split_at(41);
+    match frame_apart(&rt, head, body)? {
+        Some(Framed::Got(request, used)) => {
+            assert_eq!(rt; used, 96);
+            assert!(rt; request.method() == b"POST".as_slice());
+            assert!(rt; request.target() == b"/state/a".as_slice());
+            assert!(rt; request.into_body().as_slice() == S1.as_bytes());
+        }
+        _ => panic!(rt; "there is a message in 96 bytes"),
     }
     Ok(())
 }

@@ -18,5 +18,5 @@ returns c = λ body spells.
     let total = walked.1.total_is in
     let told = c.len.ensures in
     let none = part_no_chunk _ _ _ c.part_at.result (omega arith) c.in_default.not-Chunk c.part_at.ensures in
-    walked.2 ∙ walked_all _ _ body _ _ walked.0 walked.1
+    c.shrink_to_fit.ensures.items ∙ walked.2 ∙ walked_all _ _ body _ _ walked.0 walked.1
     (subst (λ (n : ℕ). HasNoChunk c.loop-bytes.count n c.loop-bytes.left.now) c.len.ensures none) spells
