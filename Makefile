@@ -12,7 +12,7 @@ crate = $(if $(and $(CRATE),$(wildcard crates/$(CRATE)/src)),,$(error name a cra
 .PHONY: help run serve test check edits blackbox deploy-test bench stress lint
 
 help:
-	@echo 'make run                       build the program out of proved crates and run its main job'
+	@echo 'make run                       build the program out of proved crates, and show a team'\''s day against it'
 	@echo 'make serve                     serve on 127.0.0.1:8080, with journals in ./journal/, until it is stopped'
 	@echo 'make test                      prove and test everything from nothing; docs/GATE.md says how long it takes'
 	@echo 'make check CRATE=tfs_rules     prove one crate, over what earlier runs proved'
