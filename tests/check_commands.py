@@ -1,6 +1,8 @@
 """Runs `tfstated check` and `tfstated rebase` on files. What they must write is written here by hand; for random journals it is that of
 a plain reader (journal_reader.py) and of the plain table (stdio_model.py)."""
 import random
+import resource
+import signal
 import subprocess
 import sys
 import tempfile
@@ -103,6 +105,30 @@ def check_a_full_standard_output_is_a_fault():
         new = path_of("new")
         expect(run("rebase", path_of("old", TEXT), new, stdout=full), (None, 1, b"tfstated: Write\n"))
     expect(Path(new).read_bytes(), REBASED, "the new journal stays")
+
+
+def limited(size):
+    """What lets files grow to a size in front of the program; a write past it is an error, and no signal."""
+    def limit():
+        signal.signal(signal.SIGXFSZ, signal.SIG_IGN)
+        resource.setrlimit(resource.RLIMIT_FSIZE, (size, size))
+    return limit
+
+
+def check_a_new_file_that_cant_grow_is_a_fault_of_the_sink():
+    old = path_of("old", TEXT)
+    for size in (0, 1, 5, 50, len(REBASED) - 1):
+        new = path_of("new")
+        expect(run("rebase", old, new, preexec_fn=limited(size)), (b"", 1, b"tfstated: SinkFault\n"), f"{size} bytes")
+        left = Path(new).read_bytes()
+        expect((len(left) <= size, REBASED.startswith(left)), (True, True), f"{size} bytes: the new file stays, with first bytes of it at most")
+        expect(run("check", new)[1], 3, f"{size} bytes: what is left is torn")
+        expect(run("rebase", old, new), (b"", 1, b"tfstated: CannotCreate\n"), f"{size} bytes: it is in the way")
+        expect(Path(new).read_bytes(), left, f"{size} bytes: it stays as it is")
+        expect(Path(old).read_bytes(), TEXT, f"{size} bytes: the old file stays")
+    new = path_of("new")
+    expect(run("rebase", old, new, preexec_fn=limited(len(REBASED))), (told("rebased 2 1"), 0, b""), "just enough")
+    expect((Path(new).read_bytes(), Path(old).read_bytes()), (REBASED, TEXT))
 
 
 def check_other_arguments():

@@ -336,11 +336,20 @@ def start_on_a_full_disk(folder, pages):
     return not server.line
 
 
+def why_not_mounted(folder):
+    """Makes a small file system in a folder: why there is none, or nothing where there is."""
+    if not shutil.which("mount"):
+        return "the command mount is missing"
+    made = subprocess.run(["mount", "-t", "tmpfs", "-o", "size=64k", "none", str(folder)], stderr=subprocess.PIPE, check=False)
+    return made.returncode and (made.stderr.decode(errors="replace").strip() or f"mount ends with status {made.returncode}")
+
+
 def check_a_full_disk_loses_nothing():
-    """Where a small file system can't be made, the checks with files that can't grow stand for this one."""
+    """Where a small file system can't be made, the checks with files that can't grow stand for this one, and a line says so."""
     folder = fresh()
-    made = subprocess.run(["mount", "-t", "tmpfs", "-o", "size=64k", "none", str(folder)], stderr=subprocess.DEVNULL, check=False)
-    if made.returncode:
+    why = why_not_mounted(folder)
+    if why:
+        print(f"left out: starts on a full disk, since no small file system can be made here: {why}", flush=True)
         return
     try:
         (folder / f"{named(1)}.tfj").write_bytes(NEWEST)
