@@ -1,18 +1,16 @@
-"""Kills the server in the middle of work, and restarts it from its journal. Whatever was acknowledged has to be there. Some clients
-push all the time; others work as Terraform does: they lock, fetch, push and unlock on connections that are kept, and some of them
-are killed."""
-import base64
-import hashlib
-import http.client
+"""Kills the server in the middle of work, and restarts it from its journal. Whatever was acknowledged has to be there, in order. Some
+clients push all the time; others (team.py) work as Terraform does, and some of them are killed, too."""
 import json
 import random
 import sys
 import threading
 import time
+from pathlib import Path
 
 from checking import SECONDS, checks_in, expect, run_checks
 from serve_program import Server, asked, entries_of, fresh, run, state
 from stdio_program import request_text
+from team import Client, Team
 
 
 def push_on(server, name, acknowledged, told, seed):
@@ -35,15 +33,40 @@ def push_on(server, name, acknowledged, told, seed):
         return
 
 
-def expect_kept(data, acknowledged, about):
-    """Every acknowledged push is in a journal, which is whole or torn, and lawful: the file of it."""
+def lawful(data, about):
+    """A file of a journal, which has to be whole or torn, and lawful."""
     file = fresh(data)
-    ended = run("check", file)
-    expect(ended[1] in (0, 3), True, f"{about}: check says {ended}")
-    serials = {name: json.loads(fields[1])["serial"] for kind, name, fields in entries_of(data) if kind == "push"}
-    for name, serial in acknowledged.items():
-        expect(serials.get(name, 0) >= serial, True, f"{about}: {name} has {serials.get(name)}, {serial} was acknowledged")
+    checked = run("check", file)
+    expect(checked[1] in (0, 3), True, f"{about}: check says {checked}")
     return file
+
+
+def serials_in(data):
+    """The serials of the pushes that a journal has, in order, by names."""
+    found = {}
+    for kind, name, fields in entries_of(data):
+        if kind == "push":
+            found.setdefault(name, []).append(json.loads(fields[1])["serial"])
+    return found
+
+
+def expect_pushed(data, acknowledged, about):
+    """Every acknowledged push is in a journal, in order: the serials of a name rise by one. At most one more was sent and not acknowledged,
+    which may be there, and be pushed again."""
+    serials = serials_in(data)
+    for name, last in acknowledged.items():
+        found = serials.get(name, [])
+        expect(found, sorted(found), f"{about}: the order of {name}")
+        wanted = [list(range(1, last + 1)), list(range(1, last + 2))]
+        expect(sorted(set(found)) in wanted, True, f"{about}: {name} has {found[-9:]}, {last} was acknowledged")
+
+
+def expect_served(old, names):
+    """A server that goes on from a journal serves the last push of each name."""
+    server, serials = Server(old=old), serials_in(Path(old).read_bytes())
+    for name in names:
+        status, text = server.ask("GET", f"/state/{name}")
+        expect((status, json.loads(text)["serial"]), (200, serials[name][-1]), name)
 
 
 def kill_often(turns, seed):
@@ -62,8 +85,10 @@ def kill_often(turns, seed):
         data = server.kill()
         for thread in threads:
             thread.join()
-        old = expect_kept(data, acknowledged, f"turn {turn}")
+        expect_pushed(data, acknowledged, f"turn {turn}")
+        old = lawful(data, f"turn {turn}")
     expect(sum(acknowledged.values()) > turns and len(acknowledged) == 3, True, "there was something to lose")
+    expect_served(old, acknowledged)
 
 
 def check_a_hundred_kills_lose_nothing_acknowledged():
@@ -74,117 +99,35 @@ def check_another_hundred_kills_lose_nothing_acknowledged():
     kill_often(100, 2)
 
 
-class Client(threading.Thread):
-    """One machine with Terraform: it changes workspaces under their locks, on a connection that it keeps."""
-
-    def __init__(self, server, number, team):
-        super().__init__()
-        self.number, self.team, self.rng = number, team, random.Random(number)
-        self.host, self.port = server.address.split(":")
-        self.connection = None
-
-    def ask(self, method, target, body=None):
-        """The status and the body of the reply; a request on a connection that was closed meanwhile is made anew once."""
-        digest = {"Content-MD5": base64.b64encode(hashlib.md5(body).digest()).decode()} if body else {}
-        fields = {"User-Agent": "Go-http-client/1.1", "Content-Type": "application/json", "Accept-Encoding": "gzip", **digest}
-        for attempt in (0, 1):
-            try:
-                if self.connection is None:
-                    self.connection = http.client.HTTPConnection(self.host, int(self.port), timeout=SECONDS)
-                self.connection.request(method, target, body=body, headers=fields)
-                with self.connection.getresponse() as reply:
-                    return reply.status, reply.read()
-            except (http.client.HTTPException, OSError):
-                self.drop()
-                if attempt:
-                    raise
-
-    def drop(self):
-        """Closes the connection, as a client that is killed does."""
-        if self.connection is not None:
-            self.connection.close()
-            self.connection = None
-
-    def run(self):
-        try:
-            while time.monotonic() < self.team.end and not self.team.failures:
-                self.change(f"w{self.rng.randrange(3)}")
-        except (OSError, http.client.HTTPException) as error:
-            self.team.failures.append(f"client {self.number}: {error!r}")
-
-    def change(self, name):
-        """One run of Terraform on a workspace; where somebody else has the lock, the run ends. Some are killed inside."""
-        info = json.dumps({"ID": f"{self.number}-{self.rng.randrange(10**9)}", "Operation": "OperationTypeApply", "Who": "w"}).encode()
-        status, body = self.ask("LOCK", f"/state/{name}", info)
-        if status == 423:
-            return self.break_lock(name, body)
-        self.team.enter(name, self.number, status)
-        status, text = self.ask("GET", f"/state/{name}")
-        serial = json.loads(text)["serial"] if status == 200 else 0
-        if serial != self.team.serials.get(name, 0):
-            self.team.failures.append(f"{name} has serial {serial}, pushed was {self.team.serials.get(name)}")
-        if self.rng.random() < 0.05:
-            self.drop()
-            return self.team.leave(name, info)
-        identifier = json.loads(info)["ID"]
-        status, _ = self.ask("POST", f"/state/{name}?ID={identifier}", state(serial + 1, ("a",), ("b", "t.a")))
-        self.team.pushed(name, serial + 1, status)
-        self.team.leave(name, None)
-        status, _ = self.ask("UNLOCK", f"/state/{name}", info)
-        return None
-
-    def break_lock(self, name, holder):
-        """Where the holder is one that was killed, its lock is forced open."""
-        if self.team.is_orphan(name, holder):
-            self.ask("UNLOCK", f"/state/{name}", holder)
+def kill_and_restart(team, about):
+    """Kills the server of a team that works, seeks what was acknowledged in its journal, and has the team go on."""
+    data = team.kill()
+    team.changes.expect_in(entries_of(data), about)
+    expect(team.failures, [], about)
+    team.go_on(Server(workers=10, old=lawful(data, about)))
 
 
-class Team:
-    """What all clients know together."""
-
-    def __init__(self, seconds):
-        self.end = time.monotonic() + seconds
-        self.inside, self.serials, self.orphans, self.failures, self.guard = {}, {}, set(), [], threading.Lock()
-
-    def enter(self, name, number, status):
-        """A client got a lock: nobody else is to have it."""
-        with self.guard:
-            if status != 200 or name in self.inside:
-                self.failures.append(f"{name}: {number} got status {status} while {self.inside.get(name)} is inside")
-            self.inside[name] = number
-
-    def leave(self, name, orphan):
-        """A client is about to unlock, or was killed with its lock."""
-        with self.guard:
-            del self.inside[name]
-            if orphan is not None:
-                self.orphans.add(orphan)
-
-    def is_orphan(self, name, holder):
-        with self.guard:
-            return name not in self.inside and holder in self.orphans
-
-    def pushed(self, name, serial, status):
-        with self.guard:
-            if status != 200:
-                self.failures.append(f"{name}: a push under the lock has status {status}")
-            self.serials[name] = serial
-
-
-def check_a_team_of_clients_loses_nothing():
-    server, team = Server(workers=10), Team(30)
-    clients = [Client(server, number, team) for number in range(8)]
+def check_a_team_whose_server_is_killed_loses_nothing():
+    team, rng, end, kills = Team(Server(workers=10)), random.Random(3), time.monotonic() + 30, 0
+    clients = [Client(number, team) for number in range(8)]
     for client in clients:
         client.start()
+    try:
+        while time.monotonic() < end:
+            time.sleep(1.5 + 2 * rng.random())
+            kills += 1
+            kill_and_restart(team, f"kill {kills}")
+        time.sleep(1)
+        data = team.kill()
+    finally:
+        team.end()
     for client in clients:
-        client.join()
-    expect(team.failures, [])
-    expect(min(team.serials.values()) > 10 and len(team.serials) == 3 and bool(team.orphans), True, "there was something to lose")
-    file = expect_kept(server.kill(), team.serials, "at the end")
-    again = Server(old=file)
-    for name, serial in team.serials.items():
-        status, text = again.ask("GET", f"/state/{name}")
-        expect((status, json.loads(text)["serial"]), (200, serial), name)
+        client.join(SECONDS)
+    expect([client.number for client in clients if client.is_alive()] + team.failures, [], "at the end")
+    team.changes.expect_in(entries_of(data), "at the end")
+    expect(min(team.serials.values()) > 10 and len(team.serials) == 3, True, f"there was something to lose: {team.serials}")
+    expect(min(kills, team.cut, team.lost) > 5, True, f"{kills} kills, {team.cut} clients cut in requests, {team.lost} lost their server")
+    expect_served(lawful(data, "at the end"), team.serials)
 
 
 if __name__ == "__main__":

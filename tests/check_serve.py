@@ -2,17 +2,16 @@
 the order of syncing and replying, and bodies that are meant to take all memory."""
 import os
 import resource
-import shutil
 import signal
 import socket
-import subprocess
 import sys
 import threading
 import time
 from pathlib import Path
 
 from checking import S1, S2, checks_in, expect, run_checks
-from serve_program import LOOPBACK, Server, asked, entries_of, free_port, fresh, reply_of, run, state
+from serve_program import (LOOPBACK, Server, asked, calls_in, entries_of, free_port, fresh, hostile, limited, preloaded, push_large,
+                           reply_of, rest_of, run, send_all, state)
 from stdio_program import USAGE, request_text
 
 A, B = b'{"ID":"A" ,"Who":""}', b'{"ID":"B"}'
@@ -149,21 +148,6 @@ def check_a_full_file_stops_changes_alone():
     expect(again.ask("GET", "/state/a"), (200, S1))
 
 
-def calls_in(trace):
-    """The calls that a trace has told so far, in order."""
-    lines = os.read(trace, 65536).decode().splitlines()
-    return [(name, int(descriptor)) for name, descriptor in map(str.split, lines)]
-
-
-def preloaded(name):
-    """The library that is built out of a file of this folder, to be preloaded."""
-    expect(shutil.which("gcc") is not None, True, f"gcc, which builds tests/{name}, is there")
-    library = fresh()
-    source = Path(__file__).resolve().parent / name
-    subprocess.run(["gcc", "-O1", "-Wall", "-shared", "-fPIC", "-o", library, str(source), "-ldl"], check=True)
-    return library
-
-
 def check_an_accepted_change_is_synced_before_its_reply():
     reading, writing = os.pipe()
     server = Server(workers=1, env={"LD_PRELOAD": preloaded("trace_calls.c"), "TRACE": str(writing)}, pass_fds=[writing])
@@ -172,7 +156,7 @@ def check_an_accepted_change_is_synced_before_its_reply():
     expect(set(synced), {("fdatasync", file)}, "the header is synced")
     with server.connect() as connection:
         expect(asked(connection, "GET", "/state/a")[0], 404)
-        ((_, near),) = calls_in(reading)
+        [(_, near)] = [call for call in calls_in(reading) if call[0] != "nodelay"]
         changes = [("POST", S1), ("LOCK", B), ("UNLOCK", B), ("POST", S2), ("DELETE", b"")]
         for method, body in changes:
             expect(asked(connection, method, "/state/a", body), (200, b""), method)
@@ -183,22 +167,6 @@ def check_an_accepted_change_is_synced_before_its_reply():
         expect({descriptor for _, descriptor in calls_in(reading)}, {near}, "a refused change writes only its reply")
     os.close(reading)
     os.close(writing)
-
-
-def send_all(connection, data):
-    """Sends the bytes, as far as the server takes them."""
-    try:
-        connection.sendall(data)
-    except OSError:
-        pass
-
-
-def rest_of(file):
-    """What comes until a connection ends."""
-    try:
-        return file.read()
-    except ConnectionError:
-        return b""
 
 
 def check_a_connection_ends_after_1048576_reads():
@@ -214,25 +182,6 @@ def check_a_connection_ends_after_1048576_reads():
         send_all(connection, b"x\n\n")
         expect(rest_of(file), b"", "after as many reads as bytes of these requests")
     expect(server.ask("GET", "/state/a")[0], 404, "on another connection")
-
-
-def limited(space):
-    """What limits the address space of a program."""
-    return lambda: resource.setrlimit(resource.RLIMIT_AS, (space, space))
-
-
-def hostile(length):
-    """A body of so many bytes, which takes many times its bytes to be read."""
-    return (b"[" + b'{"":0},' * ((length - 4) // 7)).ljust(length - 3) + b"{}]"
-
-
-def push_large(server, text, statuses):
-    """Pushes a text, and keeps the status of the reply; none where the connection ends without one."""
-    try:
-        reply = server.ask("POST", "/state/large", text)
-    except OSError:
-        reply = None
-    statuses.append(reply and reply[0])
 
 
 def pushed_by_sixteen(server, text):

@@ -32,12 +32,12 @@ def built(crate):
     return str(program)
 
 
-def run_refused(words, first, last, data=b""):
+def run_refused(words, first, last, data=b"", **how):
     """Runs a program, whose requests from the first to the last are refused: what it wrote, its status, what it wrote on
     standard error, and the counts of its own requests and of others."""
     reading, writing = os.pipe()
     given = {"LD_PRELOAD": str(SHIM), "REFUSE_FROM": str(first), "REFUSE_TO": str(last), "COUNTS": str(writing)}
-    how = {"input": data, "capture_output": True, "timeout": SECONDS, "check": False}
+    how = {"input": data, "stdout": subprocess.PIPE, "stderr": subprocess.PIPE, "timeout": SECONDS, "check": False, **how}
     ran = subprocess.run(words, env=given, pass_fds=[writing], **how)
     os.close(writing)
     with os.fdopen(reading) as counts:

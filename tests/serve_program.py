@@ -1,5 +1,9 @@
 """Runs the built program as a server, for the checks: on a port that is free and a journal of its own."""
+import itertools
 import json
+import os
+import resource
+import shutil
 import socket
 import subprocess
 import tempfile
@@ -56,6 +60,20 @@ class Server:
         self.process.communicate()
         return Path(self.new).read_bytes()
 
+    def end(self):
+        """Waits until it has ended by itself: what else it wrote, its status, and what it wrote on standard error."""
+        output, errors = self.process.communicate(timeout=SECONDS)
+        return output, self.process.returncode, errors
+
+    def lowest_free(self):
+        """The number that its next descriptor gets."""
+        used = set(map(int, os.listdir(f"/proc/{self.process.pid}/fd")))
+        return next(number for number in itertools.count() if number not in used)
+
+    def leave_free(self, count):
+        """Lets it have new descriptors below this number alone; those that it has stay."""
+        resource.prlimit(self.process.pid, resource.RLIMIT_NOFILE, (count, count))
+
 
 def reply_of(file):
     """The status and the body of the next reply; none where the connection ends before it is whole."""
@@ -95,3 +113,53 @@ def entries_of(data):
     _, _, _, entries, end = read_journal(data)
     expect(end.split()[0] in ("whole", "torn"), True, f"the journal's end: {end}")
     return entries
+
+
+def calls_in(trace):
+    """The calls that a trace has told so far, in order."""
+    lines = os.read(trace, 65536).decode().splitlines()
+    return [(name, int(descriptor)) for name, descriptor in map(str.split, lines)]
+
+
+def preloaded(name):
+    """The library that is built out of a file of this folder, to be preloaded."""
+    expect(shutil.which("gcc") is not None, True, f"gcc, which builds tests/{name}, is there")
+    library = fresh()
+    source = Path(__file__).resolve().parent / name
+    subprocess.run(["gcc", "-O1", "-Wall", "-shared", "-fPIC", "-o", library, str(source), "-ldl"], check=True)
+    return library
+
+
+def send_all(connection, data):
+    """Sends the bytes, as far as the server takes them."""
+    try:
+        connection.sendall(data)
+    except OSError:
+        pass
+
+
+def rest_of(file):
+    """What comes until a connection ends."""
+    try:
+        return file.read()
+    except ConnectionError:
+        return b""
+
+
+def limited(space):
+    """What limits the address space of a program."""
+    return lambda: resource.setrlimit(resource.RLIMIT_AS, (space, space))
+
+
+def hostile(length):
+    """A body of so many bytes, which takes many times its bytes to be read."""
+    return (b"[" + b'{"":0},' * ((length - 4) // 7)).ljust(length - 3) + b"{}]"
+
+
+def push_large(server, text, statuses):
+    """Pushes a text, and keeps the status of the reply; none where the connection ends without one."""
+    try:
+        reply = server.ask("POST", "/state/large", text)
+    except OSError:
+        reply = None
+    statuses.append(reply and reply[0])

@@ -1,7 +1,10 @@
 /* Preloaded into the program: writes one line for each of its calls that write or sync, before the call is made, to the descriptor
-   TRACE: the call's name and its descriptor. */
+   TRACE: the call's name and its descriptor. A socket that was told to send at once what is written has such a line, too, whose word
+   is `nodelay`. */
 #define _GNU_SOURCE
 #include <dlfcn.h>
+#include <netinet/in.h>
+#include <netinet/tcp.h>
 #include <stdio.h>
 #include <stdlib.h>
 #include <string.h>
@@ -40,3 +43,12 @@ PASS(ssize_t, send, (int descriptor, const void *bytes, size_t count, int flags)
 PASS(ssize_t, sendmsg, (int descriptor, const struct msghdr *message, int flags), (descriptor, message, flags))
 PASS(int, fsync, (int descriptor), (descriptor))
 PASS(int, fdatasync, (int descriptor), (descriptor))
+
+int setsockopt(int descriptor, int level, int option, const void *value, socklen_t size) {
+    static int (*next)(int, int, int, const void *, socklen_t);
+    if (!next) next = dlsym(RTLD_NEXT, "setsockopt");
+    int result = next(descriptor, level, option, value, size);
+    int is_number = level == IPPROTO_TCP && option == TCP_NODELAY && size >= sizeof(int);
+    if (!result && is_number && *(const int *)value) tell("nodelay", descriptor);
+    return result;
+}

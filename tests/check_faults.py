@@ -1,0 +1,170 @@
+"""Faults of `tfstated serve`. Of two that wait at a start, the one that comes first in docs/FORMATS.md (The program) is told, and nothing
+is done that comes after it. In running: no connection that can be taken, and clients that go away at any byte."""
+import itertools
+import os
+import resource
+import signal
+import socket
+import sys
+import time
+from pathlib import Path
+
+from checking import S1, S2, checks_in, expect, run_checks
+from journal_reader import base_text, push_content, record_text
+from serve_program import LOOPBACK, Server, asked, entries_of, free_port, fresh, run
+from stdio_program import USAGE, request_text
+
+A, B = b'{"ID":"A" ,"Who":""}', b'{"ID":"B"}'
+PUSH1, PUSH2 = (record_text(3, b"a", push_content(b"", text)) for text in (S1, S2))
+EMPTY = b"TFJ2\n" + base_text(0, [])
+WHOLE = EMPTY + PUSH1 + record_text(1, b"a", B)
+DAMAGED, UNLAWFUL = WHOLE[:40] + bytes([WHOLE[40] ^ 1]) + WHOLE[41:], EMPTY + PUSH2 + PUSH1
+ROOM = 10
+# The faults of a start in their order, with their statuses, what they come of, and what NEW holds after them, where it wasn't there.
+FAULTS = [
+    ("CannotRead", 1, {"old": None}, None),
+    ("CannotCreate", 1, {"new": b"kept"}, b"kept"),
+    ("Damaged", 4, {"old": DAMAGED}, b""),
+    ("TornBase", 3, {"old": WHOLE[:20]}, b""),
+    ("Unlawful", 5, {"old": UNLAWFUL}, b""),
+    ("SinkFault", 1, {"room": ROOM}, WHOLE[:ROOM]),
+    ("CannotBind", 1, {"taken": True}, WHOLE),
+    ("Write", 1, {"full": True}, WHOLE),
+]
+# A client that goes away amid a long reply is noticed by the next write; what waits for ten seconds waited for the client.
+NOTICED = 8
+LONG = S1.ljust(16 << 20)
+
+
+def leave_no_room():
+    """Lets no file grow over a few bytes, and takes the signal away that would tell."""
+    signal.signal(signal.SIGXFSZ, signal.SIG_IGN)
+    resource.setrlimit(resource.RLIMIT_FSIZE, (ROOM, ROOM))
+
+
+def files_in(folder):
+    """What the files of a folder hold."""
+    return {path.name: path.read_bytes() for path in folder.iterdir()}
+
+
+def start_with(given):
+    """Starts the server where these faults wait for it: its status and what it wrote on standard error, and what its folder has then."""
+    folder = Path(fresh())
+    folder.mkdir()
+    for name in ("old", "new"):
+        if given.get(name) is not None:
+            (folder / name).write_bytes(given[name])
+    with socket.create_server((LOOPBACK, 0)) as taken, open("/dev/full", "wb", buffering=0) as full:
+        port = taken.getsockname()[1] if "taken" in given else free_port()
+        how = {"preexec_fn": leave_no_room} if "room" in given else {}
+        how |= {"stdout": full} if "full" in given else {}
+        output, *ended = run("serve", f"{LOOPBACK}:{port}", "1", str(folder / "new"), str(folder / "old"), **how)
+    expect(output in (b"", None), True, f"nothing is written: {output}")
+    return *ended, files_in(folder)
+
+
+def expect_first(faults):
+    """Fails where a start with some faults, which are in order, doesn't end by the first, or changes other files than that one does."""
+    name, status, first, left = faults[0]
+    given = {"old": WHOLE}
+    for _, _, one, _ in reversed(faults):
+        given |= one
+    kept = {"old": given["old"], "new": given["new"] if "new" in given else left}
+    files = {name: content for name, content in kept.items() if content is not None}
+    expect(start_with(given), (status, f"tfstated: {name}\n".encode(), files), " before ".join(fault[0] for fault in faults))
+
+
+def fit(faults):
+    """Whether faults come of different things."""
+    return all(not first[2].keys() & second[2].keys() for first, second in itertools.combinations(faults, 2))
+
+
+def check_of_faults_at_a_start_the_first_is_told_and_nothing_is_done_after_it():
+    tried = 0
+    for count in (1, 2, 3):
+        for faults in filter(fit, itertools.combinations(FAULTS, count)):
+            expect_first(faults)
+            tried += 1
+    expect(tried > 50, True, f"{tried} are tried")
+
+
+def check_wrong_arguments_come_before_all_faults():
+    old, new = fresh(), fresh(b"kept")
+    expect(run("serve", "nowhere", "17", new, old), (b"", 2, USAGE))
+    expect((Path(old).exists(), Path(new).read_bytes()), (False, b"kept"))
+
+
+def check_a_journal_is_never_written_over():
+    old = fresh(WHOLE)
+    expect(run("serve", "nowhere", "1", old, old), (b"", 1, b"tfstated: CannotCreate\n"), "OLD is NEW")
+    expect(Path(old).read_bytes(), WHOLE)
+    link, target = fresh(), fresh()
+    os.symlink(target, link)
+    expect(run("serve", "nowhere", "1", link, old), (b"", 1, b"tfstated: CannotCreate\n"), "NEW is a link to no file")
+    expect(Path(target).exists(), False)
+
+
+def check_a_worker_that_is_given_no_connection_ends_alone():
+    server = Server(workers=3)
+    lowest = server.lowest_free()
+    held = [server.connect() for _ in range(3)]
+    for connection in held:
+        expect(asked(connection, "GET", "/state/a")[0], 404)
+    server.leave_free(lowest)
+    for number, connection in enumerate(held):
+        expect(asked(connection, "POST", f"/state/n{number}", S1), (200, b""), f"after {number} have ended")
+        connection.close()
+        time.sleep(0.2)  # in which the program may end, which it must not before the last
+    expect(server.end(), (b"", 1, b"tfstated: AcceptFault\n"), "all have ended")
+    names = [name for _, name, _ in entries_of(Path(server.new).read_bytes())]
+    expect(names, ["n0", "n1", "n2"], "what was acknowledged is there")
+
+
+def go_away(server, data, count=0, reset=False):
+    """Sends bytes on a connection, reads so many, and closes it, or resets it."""
+    with server.connect() as connection:
+        if reset:
+            connection.setsockopt(socket.SOL_SOCKET, socket.SO_LINGER, b"\1\0\0\0\0\0\0\0")
+        connection.sendall(data)
+        while count > 0 and (piece := connection.recv(min(count, 65536))):
+            count -= len(piece)
+
+
+def check_a_client_may_go_away_at_any_byte():
+    server = Server(workers=1)
+    sized = request_text("POST", "/state/a", S1)
+    chunked = request_text("POST", "/state/b", more="Transfer-Encoding: chunked\r\n") + b"29\r\n" + S1 + b"\r\n0\r\n\r\n"
+    expect((len(sized), len(chunked)), (96, 115))
+    for name, text in (("a", sized), ("b", chunked)):
+        for count in range(len(text)):
+            go_away(server, text[:count], reset=count % 2 == 1)
+            expect(server.ask("GET", f"/state/{name}")[0], 404, f"after {count} bytes of {len(text)}")
+            go_away(server, text[:count], reset=count % 2 == 0)
+        go_away(server, text)
+        expect(server.ask("GET", f"/state/{name}"), (200, S1), "after all of them")
+    expect([name for _, name, _ in entries_of(server.kill())], ["a", "b"])
+
+
+def check_clients_that_go_away_before_they_are_taken_end_nothing():
+    server = Server(workers=1)
+    with server.connect() as held:
+        expect(asked(held, "GET", "/state/a")[0], 404)
+        for number in range(60):
+            go_away(server, request_text("GET", "/state/a")[: number % 40], reset=number % 3 > 0)
+    expect(server.ask("POST", "/state/a", S1), (200, b""))
+
+
+def check_a_client_may_go_away_amid_a_long_reply():
+    server = Server(workers=1)
+    expect(server.ask("POST", "/state/a", LONG), (200, b""))
+    for count in (0, 1, 70000, 8 << 20):
+        for reset in (False, True):
+            go_away(server, request_text("GET", "/state/a"), count, reset)
+            began = time.monotonic()
+            expect(server.ask("GET", "/state/b")[0], 404, f"after {count} bytes of the reply")
+            expect(time.monotonic() - began < NOTICED, True, "it doesn't wait for the client that is gone")
+    expect(server.ask("GET", "/state/a"), (200, LONG))
+
+
+if __name__ == "__main__":
+    sys.exit(run_checks(checks_in(globals())))

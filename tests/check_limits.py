@@ -1,0 +1,240 @@
+"""The limits of `tfstated serve`: how long a client may wait or make it wait, how many connections it serves at once, and how many reads
+one of them gets. The checks that wait for time to go by are run beside each other, each on a server of its own."""
+import concurrent.futures
+import functools
+import os
+import socket
+import sys
+import threading
+import time
+
+from checking import S1, SECONDS, checks_in, expect, run_checks
+from serve_program import LOOPBACK, Server, asked, calls_in, preloaded, reply_of, rest_of, send_all
+from stdio_program import request_text
+
+STARTING = threading.Lock()
+MAX_READS, MAX_WORKERS = 1048576, 16
+LONG = S1.ljust(16 << 20)
+# A write that has sent a part waits its ten seconds for the rest, and tells then how much it has sent; the connection ends by the first
+# that can't send anything. So it takes ten seconds or a few times as many, as the system's buffers want it.
+WRITE_SECONDS = (9, 45)
+READ_SECONDS = (9, 18)
+REQUEST_SECONDS = (59, 72)
+SLOW = []
+
+
+def slow(check):
+    """Marks a check that waits for time to go by."""
+    SLOW.append(check)
+    return check
+
+
+def started(workers):
+    """A server. No two look for a port at the same time."""
+    with STARTING:
+        return Server(workers=workers)
+
+
+def small_connection(server):
+    """A connection whose client has little room for what it doesn't read."""
+    connection = socket.socket()
+    connection.setsockopt(socket.SOL_SOCKET, socket.SO_RCVBUF, 16384)
+    connection.settimeout(SECONDS)
+    connection.connect((LOOPBACK, int(server.address.split(":")[1])))
+    return connection
+
+
+def expect_between(seconds, limits, about):
+    """Fails where something took less or more time than it may."""
+    expect(limits[0] < seconds < limits[1], True, f"{about}: {seconds:.1f} s")
+
+
+def expect_next(server, began, limits, about):
+    """Fails where the only worker doesn't get to the next client in that time."""
+    expect(server.ask("GET", "/state/b")[0], 404, about)
+    expect_between(time.monotonic() - began, limits, about)
+
+
+@slow
+def check_a_client_that_reads_nothing_is_left_after_a_while():
+    server = started(1)
+    expect(server.ask("POST", "/state/a", LONG), (200, b""))
+    with small_connection(server) as connection:
+        connection.sendall(request_text("GET", "/state/a"))
+        expect_next(server, time.monotonic(), WRITE_SECONDS, "the client after one that reads nothing")
+        with connection.makefile("rb") as file:
+            expect(reply_of(file), None, "the reply isn't whole")
+
+
+@slow
+def check_a_client_that_reads_slowly_gets_all():
+    server, found = started(1), 0
+    expect(server.ask("POST", "/state/a", LONG), (200, b""))
+    with small_connection(server) as connection:
+        connection.sendall(request_text("GET", "/state/a", more="Connection: close\r\n"))
+        with connection.makefile("rb", buffering=65536) as file:
+            while file.readline() not in (b"\r\n", b""):
+                pass
+            while piece := file.read(5 << 20):
+                expect(piece, LONG[found : found + len(piece)], f"after {found} bytes")
+                found += len(piece)
+                time.sleep(7)
+    expect(found, len(LONG))
+
+
+@slow
+def check_the_17th_client_is_served_once_a_silent_one_is_left():
+    server, silent = started(MAX_WORKERS), []
+    for _ in range(MAX_WORKERS):
+        silent.append(server.connect())
+    expect_next(server, time.monotonic(), READ_SECONDS, "the client after sixteen that are silent")
+    for number, connection in enumerate(silent):
+        with connection:
+            expect(connection.recv(1), b"", f"silent client {number} is left")
+
+
+def expect_left(server, beginning, piece, pause):
+    """Fails where a client that begins a request, and then sends a piece of it after each pause, isn't left after a minute without a
+    reply, or the only worker doesn't get to the next client."""
+    with server.connect() as connection, server.connect() as waiting:
+        waiting.sendall(request_text("GET", "/state/b"))
+        connection.settimeout(pause)
+        connection.sendall(beginning)
+        began, reply = time.monotonic(), None
+        while reply is None and time.monotonic() - began < REQUEST_SECONDS[1]:
+            reply = next_of(connection, piece)
+        expect(reply, b"", "no reply")
+        expect_between(time.monotonic() - began, REQUEST_SECONDS, f"after {beginning[-30:]}")
+        with waiting.makefile("rb") as file:
+            expect(reply_of(file), (404, b'{"error":"NoState"}'), "the next client")
+
+
+def next_of(connection, piece):
+    """What a connection tells after a piece was sent, which is nothing where it ends; none where it tells nothing for a while."""
+    try:
+        connection.sendall(piece)
+        return connection.recv(1)
+    except socket.timeout:
+        return None
+    except ConnectionError:
+        return b""
+
+
+@slow
+def check_a_body_that_trickles_is_left_after_a_minute():
+    expect_left(started(1), request_text("POST", "/state/a", S1.ljust(1000))[:80], b" ", 3)
+
+
+@slow
+def check_a_body_in_chunks_that_trickles_is_left_after_a_minute():
+    beginning = request_text("POST", "/state/a", more="Transfer-Encoding: chunked\r\n") + b"29\r\n" + S1 + b"\r\n"
+    expect_left(started(1), beginning, b"1\r\n \r\n", 3)
+
+
+@slow
+def check_empty_lines_that_trickle_are_left_after_a_minute():
+    expect_left(started(1), b"\r\n", b"\r\n", 4)
+
+
+@slow
+def check_each_request_of_a_connection_has_its_own_minute():
+    server = started(1)
+    with server.connect() as connection, connection.makefile("rb") as file:
+        for serial in (1, 2):
+            text = request_text("POST", "/state/a", S1.replace(b"1 ", b"%d " % serial))
+            connection.sendall(text[:12])
+            for place in range(12, len(text), 12):
+                time.sleep(4.6)
+                connection.sendall(text[place : place + 12])
+            expect(reply_of(file), (200, b""), f"request {serial}, which took half a minute")
+
+
+def expect_at_once(connection, trace):
+    """Fails where a connection, the only one that came since the trace was read, isn't told before its first reply to send at once."""
+    expect(asked(connection, "GET", "/state/a")[0], 404)
+    (word, near), *calls = calls_in(trace)
+    expect((word, {descriptor for _, descriptor in calls}), ("nodelay", {near}), "before its first reply")
+    expect(asked(connection, "GET", "/state/a")[0], 404)
+    expect({descriptor for _, descriptor in calls_in(trace)}, {near}, "after it")
+
+
+def check_what_is_written_to_each_connection_is_sent_at_once():
+    reading, writing = os.pipe()
+    server = Server(workers=2, env={"LD_PRELOAD": preloaded("trace_calls.c"), "TRACE": str(writing)}, pass_fds=[writing])
+    expect("nodelay" in [name for name, _ in calls_in(reading)], False, "before the first connection")
+    with server.connect() as first:
+        expect_at_once(first, reading)
+        with server.connect() as second:
+            expect_at_once(second, reading)
+    with server.connect() as third:
+        expect_at_once(third, reading)
+    os.close(reading)
+    os.close(writing)
+
+
+def push_of(size):
+    """A push whose head and body have so many bytes together."""
+    head = request_text("POST", "/state/a", bytes(size - 80))
+    rest = size - (len(head) - (size - 80))
+    text = request_text("POST", "/state/a", S1.ljust(rest))
+    expect(len(text), size)
+    return text
+
+
+def check_a_body_gets_as_many_reads_as_a_connection_has():
+    server = Server(workers=1, env={"LD_PRELOAD": preloaded("short_reads.c")})
+    for size, wanted in ((MAX_READS, (200, b"")), (MAX_READS + 1, None)):
+        with server.connect() as connection, connection.makefile("rb") as file:
+            sender = threading.Thread(target=send_all, args=(connection, push_of(size)), daemon=True)
+            sender.start()
+            try:
+                reply = reply_of(file)
+            except ConnectionError:
+                reply = None
+            sender.join()
+        expect(reply, wanted, f"a request of {size} bytes, one in each read")
+    expect(server.ask("GET", "/state/b")[0], 404, "on another connection")
+
+
+def expect_ended(server, beginning, piece, most):
+    """Fails where a connection doesn't end before so many pieces are sent, or the only worker doesn't get to the next client."""
+    with server.connect() as connection:
+        connection.sendall(beginning)
+        ended = False
+        for _ in range(most):
+            try:
+                connection.sendall(piece)
+            except ConnectionError:
+                ended = True
+                break
+        expect(ended, True, f"it ends before {most} pieces")
+        with connection.makefile("rb") as file:
+            reply = rest_of(file)
+        expect(reply[:13] in (b"", b"HTTP/1.1 413 ", b"HTTP/1.1 400 "), True, reply[:100])
+    expect(server.ask("GET", "/state/b")[0], 404, "the next client")
+
+
+def check_a_body_without_end_ends_its_connection():
+    server = Server(workers=1)
+    chunked = request_text("POST", "/state/a", more="Transfer-Encoding: chunked\r\n")
+    long, short, line = b"10000\r\n" + bytes(1 << 16) + b"\r\n", b"1\r\n \r\n" * 1000, b" " * 500
+    for beginning, piece, most in ((b"", long, 1000), (b"", short, 10000), (b"1;", line, 100000), (b"0\r\n", b"X: y\r\n" * 100, 100000)):
+        expect_ended(server, chunked + beginning, piece, most)
+    expect(server.ask("GET", "/state/a")[0], 404, "none of them is a push")
+
+
+def told(run):
+    """Fails as a check did that was run."""
+    run.result()
+
+
+def run_beside(checks):
+    """Runs checks beside each other: for each, a check that passes or fails as it did."""
+    with concurrent.futures.ThreadPoolExecutor(len(checks)) as pool:
+        runs = [pool.submit(check) for check in checks]
+    return [functools.wraps(check)(functools.partial(told, run)) for check, run in zip(checks, runs)]
+
+
+if __name__ == "__main__":
+    ran = run_beside(SLOW)
+    sys.exit(run_checks([*ran, *(check for check in checks_in(globals()) if check not in SLOW)]))

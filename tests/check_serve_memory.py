@@ -1,0 +1,193 @@
+"""What `tfstated serve` does where memory is refused, at its start and to a connection, by a preloaded shim; and what it needs of it for
+texts that are long or meant to take much."""
+import io
+import os
+import sys
+import threading
+import time
+from pathlib import Path
+
+from checking import S1, checks_in, expect, run_checks
+from journal_reader import base_text, push_content, record_text
+from refused_requests import FOREVER, SHIM, build_shim, run_refused
+from serve_program import LOOPBACK, Server, asked, entries_of, free_port, fresh, hostile, limited, push_large, reply_of, state
+from stdio_model import Request, Table
+from stdio_program import PROGRAM, USAGE
+
+A, B = b'{"ID":"A" ,"Who":""}', b'{"ID":"B"}'
+WHOLE = b"TFJ2\n" + base_text(0, []) + record_text(3, b"a", push_content(b"", S1)) + record_text(1, b"a", B)
+NO_MEMORY = (503, b'{"error":"OutOfMemory"}')
+TALK = [("POST", "/state/a", S1), ("GET", "/state/a", b""), ("LOCK", "/state/a", B), ("LOCK", "/state/a", A),
+        ("GET", "/impact/a/any?of=t.a", b"")]
+# How long a small request may take beside bodies that are read for seconds, and how many are to be answered meanwhile. Who waits for one
+# of these bodies each time gets far fewer answers. Where memory runs out, some may be refused, at most a tenth.
+SMALL_SECONDS, SMALL_ANSWERS = 5, 120
+# A state of 8 MB and what comes of it take a few times its bytes: of the body, its document, the index and the journal's record.
+TIMES_ITS_BYTES = 8
+
+
+def refused_starts(requests, words, new):
+    """How a start ends where each of its requests for memory is refused, alone, and with all after it, and what NEW then holds."""
+    with open("/dev/full", "wb", buffering=0) as full:
+        for first in range(1, requests + 2):
+            for last in (first, FOREVER):
+                Path(new).unlink(missing_ok=True)
+                _, status, errors, _, others = run_refused(words, first, last, stdout=full)
+                expect(others, 0, f"requests {first} to {last}: those of others")
+                yield first > requests, (status, errors, Path(new).read_bytes() if Path(new).exists() else None)
+
+
+def check_a_start_that_is_refused_memory_tells_it():
+    # It would serve for ever: where it is to end by itself, its standard output is full.
+    new = fresh()
+    words = [PROGRAM, "serve", f"{LOOPBACK}:{free_port()}", "2", new, fresh(WHOLE)]
+    with open("/dev/full", "wb", buffering=0) as full:
+        requests = run_refused(words, 0, 0, stdout=full)[3]
+    runs = list(refused_starts(requests, words, new))
+    ample, no_memory = (1, b"tfstated: Write\n", WHOLE), b"tfstated: NoMemory\n"
+    expect({ran for is_ample, ran in runs if is_ample}, {ample}, "no further request")
+    seen = {ran for _, ran in runs}
+    faults = {(1, no_memory, left) for left in (None, b"", WHOLE)}
+    usage, unbound = (2, USAGE, None), (1, b"tfstated: CannotBind\n", WHOLE)
+    expect(seen <= {ample, usage, unbound} | faults, True, seen)
+    expect(seen >= {usage} | faults, True, f"memory is refused at each place: {seen}")
+
+
+def end_between_connections(server, lowest):
+    """Ends a server of one worker by leaving no descriptor for a connection. Memory may be refused to one connection before."""
+    for _ in range(2):
+        with server.connect() as held:
+            reply = answer_over(held, ("GET", "/state/b"))
+            if reply == (404, b'{"error":"NoState"}'):
+                server.leave_free(lowest)
+                break
+            expect(reply in (None, NO_MEMORY), True, f"{reply}")
+    return server.end()
+
+
+def talk_refused(first, last):
+    """What the requests of a talk are answered, each on a connection of its own, by a server whose requests for memory from the first to
+    the last are refused. With it the changes that are in the journal, and how many requests the program made."""
+    reading, writing = os.pipe()
+    given = {"LD_PRELOAD": str(SHIM), "REFUSE_FROM": str(first), "REFUSE_TO": str(last), "COUNTS": str(writing)}
+    server = Server(workers=1, env=given, pass_fds=[writing])
+    os.close(writing)
+    lowest = server.lowest_free()
+    replies = [answer_of(server, request) for request in TALK]
+    expect(end_between_connections(server, lowest), (b"", 1, b"tfstated: AcceptFault\n"), f"requests {first} to {last}")
+    with os.fdopen(reading) as counts:
+        requests = int(counts.read().split()[0])
+    return replies, [kind for kind, _, _ in entries_of(Path(server.new).read_bytes())], requests
+
+
+def answer_over(connection, request):
+    """The reply to a request; none where its connection ends without one."""
+    try:
+        return asked(connection, *request)
+    except ConnectionError:
+        return None
+
+
+def answer_of(server, request):
+    """The same on a connection of its own."""
+    with server.connect() as connection:
+        return answer_over(connection, request)
+
+
+def told_without(number):
+    """What the talk is told, and what the journal has, where the request of this number changes nothing."""
+    table, replies = Table(), []
+    for each, request in enumerate(TALK):
+        replies.append(None if each == number else reply_of(io.BytesIO(table.reply(Request(*request)))))
+    kinds = {"POST": "push", "LOCK": "lock"}
+    changes = [each for each, (method, _, _) in enumerate(TALK) if method in kinds and replies[each] and replies[each][0] == 200]
+    return replies, [kinds[TALK[each][0]] for each in changes]
+
+
+def allowed_talks():
+    """What the talk may be told where one request for memory is refused: all; or a request is OutOfMemory or its connection ends,
+    and it has changed nothing; or it has done what it asks for, and only its reply is lost."""
+    whole, kinds = told_without(None)
+    yield whole, kinds
+    for number in range(len(TALK)):
+        replies, fewer = told_without(number)
+        yield replies, fewer
+        yield [*replies[:number], NO_MEMORY, *replies[number + 1 :]], fewer
+        yield [*whole[:number], None, *whole[number + 1 :]], kinds
+
+
+def check_a_connection_that_is_refused_memory_ends_alone():
+    allowed, seen = list(allowed_talks()), []
+    *ample, requests = talk_refused(0, 0)
+    expect(tuple(ample), allowed[0], "with ample memory")
+    with open("/dev/full", "wb", buffering=0) as full:
+        before = run_refused([PROGRAM, "serve", f"{LOOPBACK}:{free_port()}", "1", fresh()], 0, 0, stdout=full)[3]
+    expect(before < requests, True, f"{before} of {requests} requests are made at the start")
+    for request in range(before + 1, requests + 1):
+        *told, _ = talk_refused(request, request)
+        expect(tuple(told) in allowed, True, f"request {request} of {requests}: {told}")
+        seen += told[0]
+    expect(NO_MEMORY in seen and None in seen, True, "some are told so, and some connections end")
+
+
+def most_memory(server):
+    """The most bytes of memory that a server has had at once."""
+    lines = Path(f"/proc/{server.process.pid}/status").read_text().splitlines()
+    return next(int(line.split()[1]) * 1024 for line in lines if line.startswith("VmHWM:"))
+
+
+def long_module_path():
+    """A state of 4,096 instances, of which 4,095 have a module path of 8 MiB and depend on the other one."""
+    module = "module." + "m" * (8 << 20)
+    instances = ",".join('{"index_key":%d,"dependencies":["t.a"]}' % number for number in range(4095))
+    own = '{"module":"%s","mode":"managed","type":"t","name":"n","instances":[%s]}' % (module, instances)
+    return state(1, ("a",))[:-2] + b", " + own.encode() + b"]}"
+
+
+def check_a_long_module_path_takes_a_few_times_its_bytes():
+    server, text = Server(workers=2, preexec_fn=limited(6 * 10**9)), long_module_path()
+    with server.connect() as other:
+        expect(asked(other, "POST", "/state/b", S1), (200, b""))
+        before = most_memory(server)
+        expect(server.ask("POST", "/state/a", text), (200, b""))
+        times = (most_memory(server) - before) / len(text)
+        expect(times < TIMES_ITS_BYTES, True, f"it took {times:.1f} times its bytes")
+        expect(server.ask("GET", "/impact/a/any?of=t.a"), None, "an answer of 34 GB ends its conversation")
+        expect(asked(other, "GET", "/state/b"), (200, S1), "on a connection that was there before")
+        expect(asked(other, "GET", "/impact/b/any?of=t.a"), (404, b'{"error":"UnknownAddress"}'))
+    expect(server.ask("GET", "/state/a"), (200, text))
+
+
+def ask_small(server, serial):
+    """A push, a read and a query, each on a connection of its own: the statuses, none where a connection ends without a reply; and the
+    seconds that the longest took."""
+    statuses, longest = [], 0
+    for request in (("POST", "/state/a", state(serial, ("a",), ("b", "t.a"))), ("GET", "/state/a"), ("GET", "/impact/a/any?of=t.a")):
+        began = time.monotonic()
+        reply = answer_of(server, request)
+        statuses.append(reply and reply[0])
+        longest = max(longest, time.monotonic() - began)
+    return statuses, longest
+
+
+def check_small_clients_are_answered_beside_fifteen_hostile_bodies():
+    server, large, body = Server(workers=16, preexec_fn=limited(6 * 10**9)), [], hostile(16 << 20)
+    expect(server.ask("POST", "/state/a", state(1, ("a",), ("b", "t.a"))), (200, b""))
+    threads = [threading.Thread(target=push_large, args=(server, body, large)) for _ in range(15)]
+    for thread in threads:
+        thread.start()
+    told, longest = [], 0
+    while any(thread.is_alive() for thread in threads):
+        statuses, seconds = ask_small(server, len(told) + 2)
+        told, longest = told + statuses, max(longest, seconds)
+        time.sleep(0.02)
+    expect(longest < SMALL_SECONDS, True, f"a small request took {longest:.1f} s")
+    expect(set(told) <= {200, 503, None}, True, set(told))
+    expect(told.count(200) >= max(SMALL_ANSWERS, 0.9 * len(told)), True, f"{told.count(200)} of {len(told)} small requests are answered")
+    expect(len(large) == 15 and set(large) <= {200, 400, 503}, True, large)
+    expect(server.ask("GET", "/state/b")[0], 404, "nothing has ended")
+
+
+if __name__ == "__main__":
+    build_shim()
+    sys.exit(run_checks(checks_in(globals())))
