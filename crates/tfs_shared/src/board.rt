@@ -13,6 +13,7 @@ use crate::history::History;
 use crate::naming::Naming;
 use crate::operation::{Operation, Update};
 use crate::published::Published;
+use crate::replaced::Replaced;
 use crate::rule::{CopyWriter, publish, with_room};
 use crate::session::Session;
 use crate::token::Token;
@@ -28,13 +29,14 @@ use tfs_rules::Name;
 use tfs_table::{Ready, Table};
 
 /// The writer of the published copies, and the word of the history with its newest token. Between the two halves of a change
-/// there is a next token, whose last change is queued.
+/// there is a next token, whose last change is queued. The versions that changes have replaced are kept as long as a copy has them.
 pub struct Board<J: Naming> {
     writer: Option<CopyWriter<J>>,
     history: History<J>,
     newest: Token,
     next: Option<Token>,
     position: u64,
+    replaced: Replaced,
 }
 
 impl<J: Naming> Model for Board<J> {
@@ -86,6 +88,7 @@ impl<J: Naming> Board<J> {
             newest,
             next: None,
             position: table.position(),
+            replaced: Replaced::none(),
         })
     }
 
@@ -121,6 +124,7 @@ impl<J: Naming> Board<J> {
             newest: _newest,
             next: _next,
             position: _,
+            replaced: _replaced,
         } = self;
         if let Some(writer) = writer {
             writer.take(rt);
@@ -174,8 +178,10 @@ impl<J: Naming> Board<J> {
         Ok(())
     }
 
-    /// Shows readers the change that was prepared. It waits for readers that are still in the copy before.
-    pub(crate) fn publish<R: Wait>(&mut self, rt: &R)
+    /// Shows readers the change that was prepared, of the name with this number. It waits for readers that are still in the copy
+    /// before.
+    pub(crate) fn publish<R: Wait>(&mut self, rt: &R, number: usize)
+        requires number { number < 1024 }
         requires room { position_of self.old.journal < 9223372036854775808 }
         ensures journal { IfSome self.old.next (λ next. self.new.journal ≡ next) }
         ensures idle { self.new.next ≡ None }
@@ -186,12 +192,21 @@ impl<J: Naming> Board<J> {
         let Some(writer) = self.writer.take() else {
             return;
         };
+        let replaced = writer.published().version(number);
         let none = replace(&mut self.writer, Some(publish(rt, writer)));
         if let Some(writer) = none {
             writer.take(rt);
         }
         self.newest = token;
         self.position += 1;
+        self.replaced.add(replaced);
+    }
+
+    /// A version that was replaced and that no copy has any more.
+    pub(crate) fn take_replaced(&mut self) -> Option<Arc<Version>>
+        ensures kept { self.new ≡ self.old }
+    {
+        self.replaced.take()
     }
 }
 

@@ -20,6 +20,7 @@ use std::marker::Model;
 use std::sync::ledger::Book;
 use std::sync::{Arc, Wait};
 use tfs_calls::Refusal;
+use tfs_index::Version;
 use tfs_journal::Sink;
 use tfs_rules::Name;
 use tfs_state::Doc;
@@ -90,6 +91,13 @@ impl<J: Naming, K: Sink> Held<J, K> {
             session.count(&mut self.book);
         }
         answer
+    }
+
+    /// A version that was replaced and that nothing under the lock has any more.
+    pub(crate) fn take_replaced(&mut self) -> Option<Arc<Version>>
+        ensures kept { self.new ≡ self.old }
+    {
+        self.board.take_replaced()
     }
 
     /// The answer to a change of a session that couldn't be prepared for want of memory. The session sees what is published.

@@ -17,6 +17,7 @@ mod operation;
 mod place;
 mod place_name;
 mod published;
+mod replaced;
 mod rule;
 mod search;
 mod session;

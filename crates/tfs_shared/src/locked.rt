@@ -29,7 +29,8 @@ pub(crate) fn change<J: Naming, K: Sink, R: Wait>(
     table.len();
     let ready = table.ready(prepared)?;
     board.prepare(&ready)?;
+    let number = ready.number();
     let position = table.finish(ready)?;
-    board.publish(rt);
+    board.publish(rt, number);
     Ok(position)
 }

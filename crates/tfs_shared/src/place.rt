@@ -1,6 +1,6 @@
 //! The places of a published copy.
 
-ghost use Rattle.std.specs.Prelude.{◌≡◌, Some, IfOk, option_map};
+ghost use Rattle.std.specs.Prelude.{◌≡◌, Some, IfSome, IfOk, option_map};
 ghost use Rattle.std.specs.Arc.{arc_value};
 ghost use Rattle.tfs_shared.specs.Change.{state_told};
 ghost use Rattle.tfs_shared.specs.Place.{place_view, has_name};
@@ -50,6 +50,16 @@ pub(crate) fn is_of(place: &Place, name: &str) -> bool
         Place::Empty => false,
         Place::Kept(own, _) => own.is(name),
         Place::Lost(lost) => lost.is(name),
+    }
+}
+
+/// One more reference to the version of a place, where it has one and the clone isn't refused.
+pub(crate) fn version_of(place: &Place) -> Option<Arc<Version>>
+    ensures value { IfSome result (λ version. IfSome (place_view place.now) (λ view. view.state ≡ Some (arc_value version))) }
+{
+    match place {
+        Place::Kept(_, Some(version)) => version.clone().ok(),
+        Place::Kept(_, None) | Place::Empty | Place::Lost(_) => None,
     }
 }
 

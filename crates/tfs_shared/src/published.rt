@@ -1,6 +1,6 @@
 //! Published copies, and how they take in a change.
 
-ghost use Rattle.std.specs.Prelude.{◌≡◌, IfSome, IfOk, map, vec_len};
+ghost use Rattle.std.specs.Prelude.{◌≡◌, ◌<◌, IfSome, IfOk, map, vec_len};
 ghost use Rattle.std.specs.List.{range_with_len};
 ghost use Rattle.tfs_journal.specs.Journal.{position_of};
 ghost use Rattle.tfs_shared.specs.Place.{place_view};
@@ -8,7 +8,7 @@ ghost use Rattle.tfs_shared.specs.Published.{updated, place_given};
 ghost use Rattle.tfs_shared.specs.Sight.{IsSight};
 
 use crate::operation::{Operation, Update};
-use crate::place::{Place, filled, first_place};
+use crate::place::{Place, filled, first_place, version_of};
 use crate::search::find;
 use crate::sight::Sight;
 use crate::token::Token;
@@ -16,6 +16,8 @@ use crate::view::CopyView;
 use left_right::Absorb;
 use std::alloc::{AllocError, Global};
 use std::marker::Model;
+use std::sync::Arc;
+use tfs_index::Version;
 use tfs_journal::Sink;
 use tfs_rules::Name;
 use tfs_table::Table;
@@ -94,6 +96,13 @@ impl Published {
         self.places[update.number] = filled(&update.name, &update.version, &update.token);
         self.position = update.position;
         self.token = update.token.again();
+    }
+
+    /// One more reference to the version at the place of a number, where it has one and the clone isn't refused.
+    pub(crate) fn version(&self, number: usize) -> Option<Arc<Version>>
+        requires { number < 1024 }
+    {
+        version_of(&self.places[number])
     }
 
     /// What a session that has seen as much as a token sees of a name, where the copy begins with that.

@@ -1,6 +1,6 @@
 //! The sessions of a shared table.
 
-ghost use Rattle.std.specs.Prelude.{◌≡◌, ◌⊎◌, ◌+◌, ◌<◌, IfSome, IfNone, OnOk, OnErr, MatchResult};
+ghost use Rattle.std.specs.Prelude.{◌≡◌, ◌⊎◌, ◌+◌, ◌<◌, IfSome, IfNone, IfOk, OnOk, OnErr, MatchResult};
 ghost use Rattle.std.specs.Arc.{arc_value};
 ghost use Rattle.tfs_rules.specs.History.{state_of};
 ghost use Rattle.tfs_journal.specs.Journal.{position_of, acts_of};
@@ -17,6 +17,7 @@ use crate::naming::Naming;
 use crate::rule::{CopyReader, enter};
 use crate::shared::Shared;
 use crate::token::Token;
+use std::alloc::{AllocError, Global};
 use std::marker::Model;
 use std::sync::ledger::{Book, Share};
 use std::sync::{Arc, MutexGuard, Wait};
@@ -24,7 +25,7 @@ use tfs_calls::{Draft, Refusal};
 use tfs_journal::Sink;
 use tfs_rules::Name;
 use tfs_state::Doc;
-use tfs_table::Prepared;
+use tfs_table::{Parts, Prepared};
 
 /// A caller's own side of a shared table. Contracts see the journal that it has seen, and how many of its changes were accepted.
 #[derive(Drop)]
@@ -90,7 +91,7 @@ impl<J: Naming> Session<J> {
 
     /// Makes a change, or says why not, over a journal that begins with all that the session had seen. Afterwards it has seen the
     /// journal that was answered over, with its own change where that was accepted. `NoCopy` where no such journal is there, and
-    /// then nothing changes. The change's record is made before it waits for the lock.
+    /// then nothing changes. The change's record is made before it waits for the lock. What is long is freed once the lock is free.
     pub fn submit<K: Sink, R: Wait>(
         &mut self,
         rt: &R,
@@ -103,7 +104,7 @@ impl<J: Naming> Session<J> {
         ensures accepted { OnOk result (self.new.accepted ≡ self.old.accepted + 1) }
         ensures refused { OnErr result (self.new.accepted ≡ self.old.accepted) }
     {
-        let Ok(prepared) = Prepared::new(shared.alloc(), name, draft) else {
+        let Ok((prepared, parts)) = with_parts(shared.alloc(), name, draft) else {
             let held = shared.lock(rt);
             let refusal = held.lack_memory(self);
             MutexGuard::unlock(held);
@@ -111,7 +112,10 @@ impl<J: Naming> Session<J> {
         };
         let mut held = shared.lock(rt);
         let answer = held.submit(rt, self, prepared);
+        let replaced = held.take_replaced();
         MutexGuard::unlock(held);
+        drop(replaced);
+        drop(parts);
         answer
     }
 
@@ -200,4 +204,13 @@ impl<J: Naming> Session<J> {
         self.position = sight.position;
         Some(sight.found)
     }
+}
+
+/// A change that no table has judged yet, and one more reference to each part of it that may be long.
+fn with_parts(alloc: Global, name: Name, draft: Draft) -> Result<(Prepared, Parts), AllocError>
+    ensures value { IfOk result (λ made. made.0 ≡ record { name = name; act = draft }) }
+{
+    let prepared = Prepared::new(alloc, name, draft)?;
+    let parts = prepared.parts()?;
+    Ok((prepared, parts))
 }

@@ -1,8 +1,8 @@
 //! Sessions of shared tables, by one thread and by several.
 
-ghost use Rattle.std.specs.Prelude.{◌≡◌, ◌≤◌};
+ghost use Rattle.std.specs.Prelude.{◌≡◌, ◌≤◌, [], IfSome};
 
-use crate::{Lack, Naming, Opened, Strangers, gather, share};
+use crate::{Lack, Naming, Opened, Session, Shared, Strangers, gather, share};
 use std::alloc::{AllocError, Global};
 use std::marker::Brand;
 use std::process::Abort;
@@ -16,9 +16,10 @@ use tfs_calls::{Bytes, Draft, Kind, Query, Raw, Text, Texts};
 use tfs_journal::Sink;
 use tfs_rules::Name;
 use tfs_state::MAX_STATE_BYTES;
-use tfs_table::Table;
+use tfs_table::{Table, first_unlawful};
 
 mod calls;
+mod causes;
 mod races;
 mod threads;
 mod waits;
@@ -40,25 +41,30 @@ enum Scene<'f> {
     Calls,
     /// The sink fails under two sessions.
     Faults,
+    /// Each session makes each call once, one session after another.
+    Turns,
+    /// Each session makes each call many times, in a thread of its own.
+    Busy,
     /// Each session makes a hundred changes in a thread of its own.
     Changes,
+    /// The same, by as many sessions as give all names that a table takes.
+    Names,
     /// One session makes a hundred changes, and another one asks meanwhile.
     Queries,
     /// All sessions push the same states.
     Races,
-    /// Each session locks names of its own, which are as many as a table takes.
-    Names,
     /// The sink waits, and another session asks meanwhile and sets the sink's flag.
     Waits(&'f AtomicU64),
 }
 
-/// A scene with the sessions of a table, which is gathered afterwards; how many entries it has then.
+/// A scene with the sessions of a table, which is gathered afterwards: its journal is lawful, and has an entry more for each change
+/// that a session counts.
 fn played<K: Sink + Send + Drop, R: Threads + Wait + Clock + Abort + Alloc<A = Global> + Sync>(
     rt: &R,
     table: Table<K>,
     number: usize,
     scene: Scene<'_>,
-) -> Result<usize, Fail>
+) -> Result<Table<K>, Fail>
     requires { (1 ≤ number) × (number ≤ 16) }
 {
     play::<Brand, K, R>(
@@ -82,24 +88,67 @@ fn play<
     scene: Scene<'_>,
     blank: Blank,
     opened: Opened,
-) -> Result<usize, Fail>
+) -> Result<Table<K>, Fail>
     requires number { (1 ≤ number) × (number ≤ 16) }
     requires sessions { (number ≡ J.sessions) × (J.parts ≡ J.sessions) }
     requires ledger { (blank.name ≡ J.name) × (blank.parts ≡ J.parts) }
     requires book { opened ≡ J.book }
     requires opening { table.journal ≡ J.opening }
 {
+    let before = table.len() as u64;
     let made = share::<J, K, R>(rt, rt.alloc(), table, number, blank, opened);
     let (shared, mut sessions) = made.ok().expect(rt, "a shared table");
-    let outcome = match scene {
-        Scene::Calls => calls::two_sessions(rt, &shared, sessions.as_mut_slice()),
-        Scene::Faults => calls::a_fault(rt, &shared, sessions.as_mut_slice()),
-        Scene::Changes => threads::changes(rt, &shared, sessions.as_mut_slice()),
-        Scene::Queries => threads::queries(rt, &shared, sessions.as_mut_slice()),
-        Scene::Races => races::pushes(rt, &shared, sessions.as_mut_slice()),
-        Scene::Names => races::locks(rt, &shared, sessions.as_mut_slice()),
-        Scene::Waits(flag) => waits::waits(rt, &shared, sessions.as_mut_slice(), flag),
-    };
+    let outcome = act(rt, &shared, sessions.as_mut_slice(), scene);
+    let count = counted(sessions.as_slice());
+    let table = gathered(rt, shared, sessions);
+    outcome?;
+    assert_eq!(rt; table.len() as u64, before.saturating_add(count));
+    is_lawful(rt, &table)?;
+    Ok(table)
+}
+
+/// Plays a scene.
+fn act<
+    J: Naming + Send + Sync,
+    K: Sink + Send,
+    R: Threads + Wait + Clock + Abort + Alloc<A = Global> + Sync,
+>(
+    rt: &R,
+    shared: &Shared<J, K>,
+    sessions: &mut [Session<J>],
+    scene: Scene<'_>,
+) -> Result<(), Fail> {
+    match scene {
+        Scene::Calls => calls::two_sessions(rt, shared, sessions),
+        Scene::Faults => calls::a_fault(rt, shared, sessions),
+        Scene::Turns => causes::turns(rt, shared, sessions),
+        Scene::Busy => causes::busy(rt, shared, sessions),
+        Scene::Changes => threads::changes(rt, shared, sessions),
+        Scene::Names => threads::names(rt, shared, sessions),
+        Scene::Queries => threads::queries(rt, shared, sessions),
+        Scene::Races => races::pushes(rt, shared, sessions),
+        Scene::Waits(flag) => waits::waits(rt, shared, sessions, flag),
+    }
+}
+
+/// How many changes of all sessions were accepted.
+fn counted<J: Naming>(sessions: &[Session<J>]) -> u64 {
+    let mut count = 0u64;
+    for session in sessions {
+        count = count.saturating_add(session.accepted());
+    }
+    count
+}
+
+/// The table that was shared, which isn't gathered while a session is missing.
+fn gathered<J: Naming, K: Sink + Drop, R: Wait + Abort>(
+    rt: &R,
+    shared: Shared<J, K>,
+    mut sessions: Vec<Session<J>>,
+) -> Table<K>
+    requires parts { J.parts ≡ J.sessions }
+    requires some { 1 ≤ J.sessions }
+{
     let last = sessions.pop().expect(rt, "a session");
     let strangers = gather(rt, shared, sessions).err();
     let Strangers {
@@ -109,7 +158,7 @@ fn play<
     } = strangers.expect(rt, "a session is missing");
     assert!(rt; why == Lack::Missing);
     assert!(rt; sessions.push(last).is_ok());
-    let table = match gather(rt, shared, sessions) {
+    match gather(rt, shared, sessions) {
         Ok(table) => table,
         Err(strangers) => {
             let Strangers {
@@ -120,9 +169,33 @@ fn play<
             assert!(rt; false, "all sessions are there");
             shared.close(rt)
         }
-    };
-    outcome?;
-    Ok(table.len())
+    }
+}
+
+/// The journal of a table is lawful.
+fn is_lawful<K: Sink>(rt: &(impl Alloc<A = Global> + Abort), table: &Table<K>) -> Result<(), Fail> {
+    let mut entries = Vec::new(rt.alloc());
+    for i in 0..table.len() {
+        entries.push(table.entry(i).copy()?)?;
+    }
+    let found = first_unlawful(rt.alloc(), table.base(), entries.as_slice())?;
+    assert!(rt; found == None);
+    Ok(())
+}
+
+/// A table over a sink that nothing went to, with a push of the chain with a serial to `a`.
+fn table_of<K: Sink + Drop>(
+    rt: &(impl Alloc<A = Global> + Abort),
+    sink: K,
+    serial: u64,
+) -> Result<Table<K>, Fail>
+    requires open { K.faults sink ≡ 0 }
+    requires untold { IfSome (K.told sink) (λ bytes. bytes ≡ []) }
+{
+    let mut table = Table::new(rt.alloc(), sink).ok().expect(rt, "a table");
+    let draft = push_of(rt, chain_of(rt, serial)?.as_str())?;
+    assert!(rt; table.apply(name_of(rt, "a")?, draft).ok() == Some(1));
+    Ok(table)
 }
 
 /// A name.

@@ -17,6 +17,11 @@ pub record IsPrepared (e : EntryValue) (own_name : List ℕ) (own_act : ActValue
     pub pushed : own_version ≡ pushed_by e.act
     pub text : bytes ≡ record_text e
 
+-- What callers see of the parts of a change that may be long: the text of its record, and the document that it pushes.
+pub record PartsValue : Type 0 where
+  pub text : List ℕ
+  pub pushed : Option Document
+
 -- The journal that the table had, and the entry that is to come.
 pub record ReadyValue : Type 0 where
   pub journal : Journal

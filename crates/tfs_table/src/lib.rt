@@ -19,7 +19,7 @@ mod workspaces;
 
 pub use fault::OpenFault;
 pub use laws::{journals_are_lawful_entry_by_entry, lawful_journals_keep_the_history_laws};
-pub use prepared::Prepared;
+pub use prepared::{Parts, Prepared};
 pub use ready::Ready;
 pub use replay::first_unlawful;
 pub use table::Table;

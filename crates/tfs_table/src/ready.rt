@@ -22,7 +22,7 @@ pub struct Ready {
     pub(crate) number: usize,
     pub(crate) act: Act,
     pub(crate) version: Option<Arc<Version>>,
-    pub(crate) text: Vec<u8>,
+    pub(crate) text: Arc<Vec<u8>>,
     pub(crate) base: Snapshot<Base>,
     pub(crate) entries: Snapshot<Vec<Entry>>,
 }
@@ -38,7 +38,7 @@ impl Model for Ready {
     ghost view = { λ r. record { journal = record { base = r.base.value; entries = r.entries.value.items }; entry = r.entry } };
 
     ghost invariant = { λ r. IsReady (record { journal = record { base = r.base.value; entries = r.entries.value.items }; entry = r.entry })
-        r.name r.number (act_value r.act) (option_map arc_value r.version) r.text.items };
+        r.name r.number (act_value r.act) (option_map arc_value r.version) (arc_value r.text).items };
 }
 
 impl Ready {

@@ -12,7 +12,7 @@ use tfs_table::Table;
 #[test]
 fn two_sessions_share_a_table(rt: HostRuntime) -> Result<(), Fail> {
     let table = Table::new(rt.alloc(), Discard).ok().expect(&rt, "a table");
-    assert_eq!(rt; played(&rt, table, 2, Scene::Calls)?, 1);
+    assert_eq!(rt; played(&rt, table, 2, Scene::Calls)?.len(), 1);
     Ok(())
 }
 
@@ -20,7 +20,7 @@ fn two_sessions_share_a_table(rt: HostRuntime) -> Result<(), Fail> {
 fn a_fault_is_not_published(rt: HostRuntime) -> Result<(), Fail> {
     let sink = MemorySink::new(rt.alloc(), 4096, 2);
     let table = Table::new(rt.alloc(), sink).ok().expect(&rt, "a table");
-    assert_eq!(rt; played(&rt, table, 2, Scene::Faults)?, 1);
+    assert_eq!(rt; played(&rt, table, 2, Scene::Faults)?.len(), 1);
     Ok(())
 }
 

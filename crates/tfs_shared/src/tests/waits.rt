@@ -1,6 +1,6 @@
 //! What a session is answered while another one's change is inside the sink.
 
-use super::{Scene, any_of, chain_of, lock_of, name_of, played, push_of};
+use super::{Scene, any_of, lock_of, name_of, played, table_of};
 use crate::{Naming, Session, Shared};
 use std::alloc::Global;
 use std::process::Abort;
@@ -10,10 +10,9 @@ use std::test::Fail;
 use std::thread;
 use std::thread::Threads;
 use std::time::{Clock, Duration};
-use tfs_journal::{Sink, SinkFault};
-use tfs_table::Table;
+use tfs_journal::{MemorySink, Sink, SinkFault};
 
-/// What the flag says: nothing is to be waited for; the next piece is; the sink is inside; it may go on.
+/// What the flag says: nothing is to be waited for; the next piece is; the sink is inside; it may go on; it has waited too long.
 const IDLE: u64 = 0;
 
 const ARMED: u64 = 1;
@@ -22,26 +21,31 @@ const INSIDE: u64 = 2;
 
 const RELEASED: u64 = 3;
 
-/// A sink that waits for its flag once it is armed, for at most 10,000 turns of a millisecond.
+const LATE: u64 = 4;
+
+/// A sink in memory that waits for its flag once it is armed, for at most 10,000 turns of a millisecond.
 #[derive(Drop)]
 struct Waiting<'f, R: Clock> {
     rt: &'f R,
     flag: &'f AtomicU64,
+    memory: MemorySink,
 }
 
 impl<'f, R: Clock> Sink for Waiting<'f, R> {
-    ghost use Rattle.std.specs.Prelude.{None};
+    ghost use Rattle.std.specs.Prelude.{Some, if◌then◌else◌};
 
-    ghost told = { λ _. None };
+    ghost told = { λ s. Some s.memory.bytes };
 
-    ghost faults = { λ _. 0 };
+    ghost faults = { λ s. if s.memory.has_failed then 1 else 0 };
 
     fn write(&mut self, piece: &[u8]) -> Result<usize, SinkFault> {
         if self.flag.load(Ordering::SeqCst) == ARMED {
             self.flag.store(INSIDE, Ordering::SeqCst);
-            wait_for(self.rt, self.flag, RELEASED);
+            if !wait_for(self.rt, self.flag, RELEASED) {
+                self.flag.store(LATE, Ordering::SeqCst);
+            }
         }
-        Ok(piece.len())
+        self.memory.write(piece)
     }
 }
 
@@ -62,9 +66,14 @@ fn a_query_is_answered_while_the_sink_waits(rt: HostRuntime) -> Result<(), Fail>
     let sink = Waiting {
         rt: &rt,
         flag: &flag,
+        memory: MemorySink::new(rt.alloc(), 4096, 100),
     };
-    let table = Table::new(rt.alloc(), sink).ok().expect(&rt, "a table");
-    assert_eq!(rt; played(&rt, table, 2, Scene::Waits(&flag))?, 2);
+    let table = table_of(&rt, sink, 2)?;
+    let table = played(&rt, table, 2, Scene::Waits(&flag))?;
+    assert_eq!(rt; flag.load(Ordering::SeqCst), RELEASED);
+    let mut alone = table_of(&rt, MemorySink::new(rt.alloc(), 4096, 100), 2)?;
+    assert!(rt; alone.apply(name_of(&rt, "a")?, lock_of(&rt)?).is_ok());
+    assert!(rt; table.sink().memory.bytes() == alone.sink().bytes());
     Ok(())
 }
 
@@ -79,9 +88,6 @@ pub(super) fn waits<
     sessions: &mut [Session<J>],
     flag: &AtomicU64,
 ) -> Result<(), Fail> {
-    let first = sessions.get_mut(0).expect(rt, "a session");
-    let draft = push_of(rt, chain_of(rt, 2)?.as_str())?;
-    assert!(rt; first.submit(rt, shared, name_of(rt, "a")?, draft).is_ok());
     flag.store(ARMED, Ordering::SeqCst);
     thread::for_each_mut(
         rt,

@@ -4,7 +4,7 @@ use denote.Param.{param}
 use denote.Param.Send.{param_sync, arg_sync, shr_sync}
 use Rattle.tfs_shared.proofs.Captures.{two_sync}
 use Rattle.tfs_shared.proofs.Crossing.{shared_sync}
-use Rattle.tfs_shared.proofs.tests.races.locks.Goals as goal
+use Rattle.tfs_shared.proofs.tests.causes.busy.Goals as goal
 
 pub for_each_mut-requires-sync-F : goal.for_each_mut-requires-sync-F
 for_each_mut-requires-sync-F g c κs within =
