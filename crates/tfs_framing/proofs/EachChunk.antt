@@ -22,7 +22,8 @@ use Rattle.tfs_framing.proofs.ChunkLemmas.{chunk_split}
 use Rattle.tfs_framing.proofs.ChunksLemmas.{open_no_body}
 use Rattle.tfs_framing.proofs.PartLemmas.{open_without_line, open_chunk, behind_line, chunk_there, chunk_bad, feed_found, has_feed, line_has_bytes}
 use Rattle.tfs_framing.proofs.TrailerLemmas.{trailer_found, no_trailer, end_there, trailer_wanted, trailer_bad}
-use Rattle.tfs_framing.proofs.WalkLemmas.{Walked, walk_start, walk_on, walk_whole, walk_flawed}
+use Rattle.tfs_framing.specs.Passed.{Walked}
+use Rattle.tfs_framing.proofs.WalkLemmas.{walk_start, walk_on, walk_whole, walk_flawed}
 use Rattle.tfs_framing.proofs.EachPiece.{IsDecided, then_decided, same_or_not, span_decided}
 use Rattle.tfs_framing.proofs.EachEnd.{found_from}
 

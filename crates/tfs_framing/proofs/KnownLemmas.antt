@@ -70,7 +70,7 @@ line_more left more len size line at = record {
 }
 
 -- What is known of what comes next stays.
-ahead_more : (left more : List ℕ) (ahead : Ahead) → IsAhead left ahead → IsAhead (left ++ more) ahead
+pub ahead_more : (left more : List ℕ) (ahead : Ahead) → IsAhead left ahead → IsAhead (left ++ more) ahead
 unfolding line_more
 ahead_more left more (Ahead.Line seen) s = record {
   front = s.front;

@@ -7,6 +7,8 @@ pub mod BadBodyLemmas
 pub mod PartLemmas
 pub mod TrailerLemmas
 pub mod WalkLemmas
+pub mod PassedLemmas
+pub mod DecodedLemmas
 pub mod KnownLemmas
 pub mod LengthLemmas
 pub mod FramingLemmas

@@ -4,8 +4,9 @@ use Rattle.std.proofs.Common.{append-nil, length-append, take, drop, Bor}
 use Rattle.std.proofs.Math.Seq.{take-append_seam, drop-append_seam}
 use Rattle.std.proofs.lemmas.List.Elements.{All-nil, All-cons, All-head, All-tail}
 use Rattle.httparse.specs.Grammar.{print_chunk_line}
-use Rattle.tfs_framing.specs.Chunks.{Chunk, print_chunk, print_chunks, joined, IsChunk, AreChunks, SpellsChunks, IsFlawAt, HasFlaw}
+use Rattle.tfs_framing.specs.Chunks.{Chunk, print_chunk, print_chunks, joined, IsChunk, SpellsChunks, IsFlawAt, HasFlaw}
 use Rattle.tfs_framing.specs.Parts.{Next, next_chunk, next_end, next_flaw, ComesNext, IsAhead, IsPart}
+use Rattle.tfs_framing.specs.Passed.{Walked}
 use Rattle.tfs_framing.specs.Walked.{IsWalked}
 use Rattle.tfs_framing.specs.declared.chunks.Walk.{Walk}
 use Rattle.tfs_framing.specs.Body.{Reaches}
@@ -14,13 +15,6 @@ use Rattle.tfs_framing.specs.declared.length.BodyLength.TheVariants.{Chunked}
 use Rattle.tfs_framing.specs.declared.part.Flaw.{Flaw}
 use Rattle.tfs_framing.specs.declared.part.Part.{Part}
 use Rattle.tfs_framing.proofs.ChunksLemmas.{HasNoChunk, end_no_chunk, flaw_no_chunk, body_front, open_no_body}
-
--- So many chunks with so many bytes come first, and then what is left.
-pub record Walked (rest left : List ℕ) (count total : ℕ) (chunks : List Chunk) : Type 0 where
-  pub are : AreChunks chunks
-  pub parts : rest ≡ print_chunks chunks ++ left
-  pub count_is : count ≡ length chunks
-  pub total_is : total ≡ length (joined chunks)
 
 -- At the start nothing is walked.
 pub walk_start : (rest : List ℕ) → Walked rest rest 0 0 []
@@ -32,7 +26,7 @@ walk_start rest = record {
 }
 
 -- One chunk more, written behind the others.
-print_more : (chunks : List Chunk) (c : Chunk) (after : List ℕ) → print_chunks (chunks ++ c ∷ []) ++ after ≡ print_chunks chunks ++ (print_chunk c ++ after)
+pub print_more : (chunks : List Chunk) (c : Chunk) (after : List ℕ) → print_chunks (chunks ++ c ∷ []) ++ after ≡ print_chunks chunks ++ (print_chunk c ++ after)
 print_more [] c after = ap (λ t. t ++ after) (append-nil (print_chunk c))
 print_more (d ∷ chunks) c after =
     append_assoc (print_chunk d) (print_chunks (chunks ++ c ∷ [])) after
@@ -45,7 +39,7 @@ joined_more [] c = append-nil c.bytes
 joined_more (d ∷ chunks) c = ap (λ t. d.bytes ++ t) (joined_more chunks c) ∙ sym (append_assoc d.bytes (joined chunks) c.bytes)
 
 -- All are chunks.
-all_more : (chunks : List Chunk) (c : Chunk) → All IsChunk chunks → IsChunk c → All IsChunk (chunks ++ c ∷ [])
+pub all_more : (chunks : List Chunk) (c : Chunk) → All IsChunk chunks → IsChunk c → All IsChunk (chunks ++ c ∷ [])
 all_more [] c all is = All-cons IsChunk c [] is (All-nil IsChunk)
 all_more (d ∷ chunks) c all is =
     All-cons IsChunk d (chunks ++ c ∷ []) (All-head IsChunk d chunks all) (all_more chunks c (All-tail IsChunk d chunks all) is)
@@ -74,32 +68,37 @@ comes_behind : (rest left : List ℕ) (count total : ℕ) (chunks : List Chunk) 
 comes_behind rest left count total chunks next w comes =
     subst (λ (n : ℕ). ComesNext (length chunks) n left next) w.total_is (subst (λ (n : ℕ). ComesNext n total left next) w.count_is comes)
 
+-- Where the end comes behind them, they are a body.
+pub whole_there : (rest left after : List ℕ) (count total : ℕ) (chunks : List Chunk) → Walked rest left count total chunks
+    → ComesNext count total left (next_end after) → (coded : List ℕ) × (rest ≡ coded ++ after) × SpellsChunks coded (joined chunks)
+whole_there rest left after count total chunks w next = (
+  print_chunks chunks ++ (print_chunk_line next.0 ++ next.1),
+  w.parts ∙ ap (λ t. print_chunks chunks ++ t) (next.5 ∙ sym (append_assoc (print_chunk_line next.0) next.1 after))
+      ∙ sym (append_assoc (print_chunks chunks) (print_chunk_line next.0 ++ next.1) after),
+  record {
+    chunks = chunks;
+    are = w.are;
+    last = next.0;
+    is_line = next.2;
+    is_last = next.3;
+    trailer = next.1;
+    is_trailer = next.4;
+    parts = refl;
+    is_body = refl;
+  },
+)
+
 -- Where the end comes next the body is whole.
 pub walk_whole : (rest left after : List ℕ) (count total : ℕ) (chunks : List Chunk) → Walked rest left count total chunks
     → ComesNext count total left (next_end after) → Reaches Chunked rest (Whole (length rest - length after))
 walk_whole rest left after count total chunks w next =
-    let coded : List ℕ = print_chunks chunks ++ (print_chunk_line next.0 ++ next.1) in
-    let whole : rest ≡ coded ++ after =
-    w.parts ∙ ap (λ t. print_chunks chunks ++ t) (next.5 ∙ sym (append_assoc (print_chunk_line next.0) next.1 after))
-    ∙ sym (append_assoc (print_chunks chunks) (print_chunk_line next.0 ++ next.1) after) in
-    let sizes = ap length whole ∙ length-append coded after in
+    let whole = whole_there rest left after count total chunks w next in
+    let coded = whole.0 in
+    let sizes = ap length whole.1 ∙ length-append coded after in
     let used : length rest - length after ≡ length coded = omega arith in
     let front : take (length rest - length after) rest ≡ coded =
-    ap (λ (n : ℕ). take n rest) used ∙ ap (λ (t : List ℕ). take (length coded) t) whole ∙ take-append_seam coded after in (
-      omega arith,
-      joined chunks,
-      record {
-        chunks = chunks;
-        are = w.are;
-        last = next.0;
-        is_line = next.2;
-        is_last = next.3;
-        trailer = next.1;
-        is_trailer = next.4;
-        parts = front;
-        is_body = refl;
-      },
-    )
+    ap (λ (n : ℕ). take n rest) used ∙ ap (λ (t : List ℕ). take (length coded) t) whole.1 ∙ take-append_seam coded after in
+    (omega arith, joined chunks, subst (λ (t : List ℕ). SpellsChunks t (joined chunks)) (sym front) whole.2)
 
 -- What was walked of the bytes before is walked.
 pub walk_again : (rest left : List ℕ) (walk : Walk) → (w : IsWalked rest walk) → left ≡ drop walk.end rest

@@ -3,6 +3,7 @@ pub mod Sought
 pub mod Fields
 pub mod Chunks
 pub mod Parts
+pub mod Passed
 pub mod Walked
 pub mod Body
 pub mod Connection
@@ -11,3 +12,4 @@ pub mod Digest
 pub mod Request
 pub mod Framing
 pub mod Form
+pub mod Decoded

@@ -135,7 +135,7 @@ pub fn frame_with_body(
 }
 
 /// The refusal of bytes that begin with no body.
-fn refusal_of(flaw: Flaw) -> Refusal
+pub(crate) fn refusal_of(flaw: Flaw) -> Refusal
     ensures { result ≡ refusal_of flaw }
 {
     match flaw {
@@ -154,7 +154,11 @@ fn read_request(alloc: Global, lines: Lines<'_>, coded: &[u8]) -> Result<Request
 }
 
 /// The request of a head and its body.
-fn request_of(alloc: Global, lines: Lines<'_>, body: Vec<u8>) -> Result<Request, AllocError>
+pub(crate) fn request_of(
+    alloc: Global,
+    lines: Lines<'_>,
+    body: Vec<u8>,
+) -> Result<Request, AllocError>
     ensures { (h : RequestHead) → IsToldBy lines.entry h → IfOk result (λ request. request ≡ request_of h body.items) }
 {
     let intact = fits_digest(lines.digest, body.as_slice());

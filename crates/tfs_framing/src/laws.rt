@@ -6,6 +6,8 @@ ghost use Rattle.http_header.specs.FieldValue.{IsFieldValue};
 ghost use Rattle.httparse.specs.Grammar.{RequestHead, field_value};
 ghost use Rattle.tfs_framing.specs.Head.{IsHeadOf};
 ghost use Rattle.tfs_framing.specs.Framing.{Frames, IsKnown, IsSizedHead};
+ghost use Rattle.tfs_framing.specs.Decoded.{Decodes};
+ghost use Rattle.tfs_framing.specs.declared.decoded.ChunkedBody.{ChunkedBody};
 ghost use Rattle.tfs_framing.specs.declared.known.Known.{Known};
 ghost use Rattle.tfs_framing.specs.declared.known.SizedHead.{SizedHead};
 ghost use Rattle.tfs_framing.specs.declared.taken.Take.{Take};
@@ -24,6 +26,8 @@ pub fn what_bytes_begin_with_is_one_thing_and_stays()
 pub fn what_is_known_stays_whatever_bytes_follow()
     ensures stays { (bytes more : List ℕ) (known : Known) → IsKnown bytes known → IsKnown (bytes ++ more) known }
     ensures sized { (bytes more : List ℕ) (head : SizedHead) → IsSizedHead bytes head → IsSizedHead (bytes ++ more) head }
+    ensures decoded { (bytes more before left : List ℕ) (body : ChunkedBody) → Decodes bytes before body left
+        → Decodes (bytes ++ more) before body (left ++ more) }
 {}
 
 /// The crate `http_header` takes each field of a head of the grammar, so that none is refused for it.

@@ -5,6 +5,7 @@
 mod body;
 mod chunks;
 mod connection;
+mod decoded;
 mod digest;
 mod fields;
 mod form;
@@ -16,11 +17,13 @@ mod length;
 mod limits;
 mod lines;
 mod part;
+mod passing;
 mod request;
 mod taken;
 #[cfg(test)]
 mod tests;
 
+pub use decoded::{ChunkedBody, FramedChunks, frame_chunks};
 pub use form::Form;
 pub use framing::{frame, frame_with_body, take};
 pub use head::Search;

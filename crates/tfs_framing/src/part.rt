@@ -82,7 +82,7 @@ pub(crate) fn part_at(count: usize, total: usize, left: &[u8], ahead: Ahead) -> 
 }
 
 /// The chunk line that comes first, in the first 1,024 bytes; so many of them have no line feed.
-fn chunk_line_at(left: &[u8], seen: usize) -> Line
+pub(crate) fn chunk_line_at(left: &[u8], seen: usize) -> Line
     requires { HasNoFeedIn seen left.now }
     ensures line { TellsLine left.now result }
     ensures seen { result ≡ Wanted → HasNoFeedIn (length left.now) left.now }
@@ -131,7 +131,7 @@ fn chunk_behind(left: &[u8], len: usize, size: usize) -> Part<'_>
 }
 
 /// The bytes behind the CR LF that comes first, if it does.
-fn strip_line_end(bytes: &[u8]) -> Option<&[u8]>
+pub(crate) fn strip_line_end(bytes: &[u8]) -> Option<&[u8]>
     ensures found { IfSome result (λ rest. bytes.now ≡ print_end crlf ++ rest.now) }
     ensures absent { IfNone result ((rest : List ℕ) → ¬ (bytes.now ≡ print_end crlf ++ rest)) }
 {

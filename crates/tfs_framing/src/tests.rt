@@ -1,6 +1,7 @@
 //! Messages, each worked out by hand.
 
 mod chunks;
+mod decoded;
 mod fields;
 mod messages;
 

@@ -2,7 +2,7 @@
 use Rattle.std.proofs.Common.{List, length}
 use Rattle.tfs_framing.specs.Chunks.{Chunk}
 use Rattle.tfs_framing.specs.Parts.{IsAhead}
-use Rattle.tfs_framing.proofs.WalkLemmas.{Walked}
+use Rattle.tfs_framing.specs.Passed.{Walked}
 use Rattle.tfs_framing.proofs.chunks.chunks_end.Given as goal
 
 abbrev pub invariant-loop-bytes : goal.invariant-loop-bytes

@@ -1,7 +1,7 @@
 -- The bytes of the chunks that were walked are joined.
 use Rattle.std.proofs.Common.{◌≡◌, List, length, vec_len}
 use Rattle.tfs_framing.specs.Chunks.{Chunk, joined}
-use Rattle.tfs_framing.proofs.WalkLemmas.{Walked}
+use Rattle.tfs_framing.specs.Passed.{Walked}
 use Rattle.tfs_framing.proofs.chunks.join_chunks.Given as goal
 
 abbrev pub invariant-loop-bytes : goal.invariant-loop-bytes
