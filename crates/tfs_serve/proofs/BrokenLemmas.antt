@@ -1,6 +1,6 @@
 -- Laws of conversations that a fault breaks off.
-use Rattle.std.proofs.Common.{◌≡◌, ◌<◌, ℕ, List, [], ◌∷◌, ◌++◌, length, drop, Option, Some}
-use Rattle.std.proofs.Common.{refl, sym, ◌∙◌, inl, inr}
+use Rattle.std.proofs.Common.{◌≡◌, ℕ, List, [], ◌∷◌, ◌++◌, drop, Option, Some}
+use Rattle.std.proofs.Common.{refl, ◌∙◌, inl, inr}
 use Rattle.std.proofs.Common.{append-nil}
 use Rattle.std.specs.Io.KnownBytes.{Consumes}
 use Rattle.tfs_calls.specs.declared.call.Call.{Call}
@@ -9,48 +9,32 @@ use Rattle.tfs_calls.specs.Refusal.{refusal_value}
 use Rattle.tfs_calls.specs.Reply.{ReplyValue, refused}
 use Rattle.tfs_framing.specs.Request.{RequestValue}
 use Rattle.tfs_framing.specs.Form.{form_of}
-use Rattle.tfs_framing.specs.Framing.{BeginsWith, AreWanted, framing_refusal}
+use Rattle.tfs_framing.specs.Framing.{BeginsWith, framing_refusal}
 use Rattle.tfs_http.specs.ReplyText.{reply_text}
-use Rattle.tfs_serve.specs.Conversation.{AnswersRequest, Exchange, Course, ComesInReads, MayGoOn}
+use Rattle.tfs_serve.specs.Arrived.{BreaksThere}
+use Rattle.tfs_serve.specs.Conversation.{AnswersRequest, Exchange, Course, ComesInReads}
 use Rattle.tfs_serve.specs.Conversation.{closing_form}
-use Rattle.tfs_serve.specs.Turns.{WritesPart, FailsReading, moment, course_of, HasBroken}
+use Rattle.tfs_serve.specs.Turns.{WritesPart, moment, course_of, HasBroken}
 use Rattle.tfs_serve.specs.declared.fault.ServeFault.{ServeFault}
-use Rattle.tfs_serve.specs.declared.fault.ServeFault.TheVariants.{NoMemory}
 use Rattle.tfs_serve.proofs.CourseLemmas.{takes_none, takes_refusal, takes_one}
-use Rattle.tfs_serve.proofs.FaultLemmas.{between_messages, comes_reading, comes_writing}
-use Rattle.tfs_serve.proofs.ConversationLemmas.{still_unfinished, moved_nowhere, moved_reading, moved_writing}
+use Rattle.tfs_serve.proofs.FaultLemmas.{comes_between, comes_writing}
+use Rattle.tfs_serve.proofs.ConversationLemmas.{moved_reading, moved_writing}
 
 module _ {S : Type 0} (step : S → Call → ReplyValue → S → Type 0) where
-  -- A fault while more was read.
-  pub broken_reading : (desk : S) (from reader writer : Option (List ℕ)) (before after : ℕ) (input left more : List ℕ) (wanted : ℕ) (fault : ServeFault)
-      → left ≡ input ++ more → Consumes from reader more → ComesInReads more before after → AreWanted input wanted → length left < wanted
-      → FailsReading fault before after → HasBroken step (moment desk from writer before input) (moment desk reader writer after left) fault
-  broken_reading desk from reader writer before after input left more wanted fault is consumed came w short fails = record {
+  -- A fault between messages: while more was read, or memory was refused.
+  pub broken_between : (desk : S) (from reader writer : Option (List ℕ)) (before after : ℕ) (input left more : List ℕ) (fault : ServeFault)
+      → Consumes from reader more → ComesInReads more before after → BreaksThere (input ++ more) fault before after
+      → HasBroken step (moment desk from writer before input) (moment desk reader writer after left) fault
+  broken_between desk from reader writer before after input left more fault consumed came breaks = record {
     more = more;
     text = [];
     moved = moved_reading step desk desk from reader writer before after input left more consumed came;
     breaks = record {
-      course = course_of [] left;
+      course = course_of [] (input ++ more);
       lost = [];
-      takes = takes_none step desk (input ++ more) left (sym is);
+      takes = takes_none step desk (input ++ more) (input ++ more) refl;
       text_is = refl;
-      comes_at = comes_reading fault left before after fails (still_unfinished input left more wanted is w short);
-    };
-  }
-
-  -- Want of memory between messages.
-  pub broken_at_once : (desk : S) (reader writer : Option (List ℕ)) (reads : ℕ) (input left : List ℕ) → MayGoOn input
-      → HasBroken step (moment desk reader writer reads input) (moment desk reader writer reads left) NoMemory
-  broken_at_once desk reader writer reads input left may = record {
-    more = [];
-    text = [];
-    moved = moved_nowhere step desk desk reader writer reads input left;
-    breaks = record {
-      course = course_of [] input;
-      lost = [];
-      takes = takes_none step desk (input ++ []) input (append-nil input);
-      text_is = refl;
-      comes_at = inl (between_messages input, may);
+      comes_at = comes_between fault (input ++ more) before after breaks;
     };
   }
 

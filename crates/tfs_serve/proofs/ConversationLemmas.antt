@@ -1,8 +1,8 @@
 -- Laws of conversations: one more read, one more message, and each way to end.
-use Rattle.std.proofs.Common.{◌≡◌, ◌<◌, ◌⊎◌, ℕ, Bool, true, false, List, [], ◌∷◌, ◌++◌, length, drop, Option, Some, None, IfSome, if◌then◌else◌}
+use Rattle.std.proofs.Common.{◌≡◌, ◌<◌, ℕ, Bool, true, false, List, [], ◌∷◌, ◌++◌, length, drop, Option, Some, None, IfSome, if◌then◌else◌}
 use Rattle.std.proofs.Common.{refl, sym, ◌∙◌, ap, subst, inl, inr}
 use Rattle.std.proofs.Common.{append_assoc, append-nil}
-use Rattle.std.specs.Io.KnownBytes.{Appends, Consumes, IsAtEnd}
+use Rattle.std.specs.Io.KnownBytes.{Appends, Consumes}
 use Rattle.tfs_calls.specs.declared.call.Call.{Call}
 use Rattle.tfs_calls.specs.declared.refusal.Refusal.{Refusal}
 use Rattle.tfs_calls.specs.Refusal.{refusal_value}
@@ -12,12 +12,13 @@ use Rattle.tfs_framing.specs.Form.{form_of}
 use Rattle.tfs_framing.specs.Framing.{BeginsWith, AreWanted, IsUnfinished, framing_refusal}
 use Rattle.tfs_http.specs.ReplyText.{reply_text}
 use Rattle.tfs_serve.specs.Messages.{Stop}
+use Rattle.tfs_serve.specs.Arrived.{EndsSo}
 use Rattle.tfs_serve.specs.Conversation.{AnswersRequest, Course, messages_of, closing_form, replies_text, course_text, TakesCourse}
 use Rattle.tfs_serve.specs.Conversation.{IsReadThrough, ComesInReads}
 use Rattle.tfs_serve.specs.Turns.{Moment, moment, Moved, course_of, Went, HasEnded, HasBroken}
 use Rattle.tfs_serve.specs.declared.fault.ServeFault.{ServeFault}
 use Rattle.tfs_serve.specs.declared.ended.Ended.{Ended}
-use Rattle.tfs_serve.specs.declared.ended.Ended.TheVariants.{Clean, Cut, Asked, Refused}
+use Rattle.tfs_serve.specs.declared.ended.Ended.TheVariants.{Asked, Refused}
 use Rattle.tfs_serve.proofs.IoLemmas.{appends_more, consumes_more, appends_nothing, consumes_nothing, comes_more, comes_nothing}
 use Rattle.tfs_serve.proofs.CourseLemmas.{later, later_text, replies_then, asked_behind, stop_later, takes_then, takes_none, takes_refusal, takes_one}
 use Rattle.tfs_serve.proofs.FaultLemmas.{comes_later}
@@ -185,24 +186,20 @@ module _ {S : Type 0} (step : S → Call → ReplyValue → S → Type 0) where
   }
 
   -- The input ended.
-  pub ended_with_input : (desk : S) (from reader writer : Option (List ℕ)) (before after : ℕ) (input left more : List ℕ) (wanted : ℕ) (ended : Ended)
-      → left ≡ input ++ more → Consumes from reader more → ComesInReads more before after → AreWanted input wanted → length left < wanted → IsAtEnd reader
-      → ((ended ≡ Clean) × (left ≡ [])) ⊎ ((ended ≡ Cut) × ¬ (left ≡ []))
+  pub ended_with_input : (desk : S) (from reader writer : Option (List ℕ)) (before after : ℕ) (input left more : List ℕ) (ended : Ended)
+      → Consumes from reader more → ComesInReads more before after → EndsSo (input ++ more) ended → IsReadThrough ended reader
       → HasEnded step (moment desk from writer before input) (moment desk reader writer after left) ended
-  ended_with_input desk from reader writer before after input left more wanted ended is consumed came w short at_end how = record {
+  ended_with_input desk from reader writer before after input left more ended consumed came how at_end = record {
     more = more;
     text = [];
     moved = moved_reading desk desk from reader writer before after input left more consumed came;
-    through = elim how [
-      | inl p ↦ subst (λ (e : Ended). IsReadThrough e reader) (sym p.0) at_end
-      | inr p ↦ subst (λ (e : Ended). IsReadThrough e reader) (sym p.0) at_end
-    ];
+    through = at_end;
     converses = record {
-      course = course_of [] left;
-      takes = takes_none step desk (input ++ more) left (sym is);
+      course = course_of [] (input ++ more);
+      takes = takes_none step desk (input ++ more) (input ++ more) refl;
       stop = elim how [
-        | inl p ↦ subst (Stop (messages_of (course_of [] left))) (sym p.0) (refl, p.1, refl)
-        | inr p ↦ subst (Stop (messages_of (course_of [] left))) (sym p.0) (refl, p.1, still_unfinished input left more wanted is w short, refl)
+        | inl p ↦ subst (Stop (messages_of (course_of [] (input ++ more)))) (sym p.0) (refl, p.1, refl)
+        | inr p ↦ subst (Stop (messages_of (course_of [] (input ++ more)))) (sym p.0) (refl, p.1, p.2, refl)
       ];
       text_is = refl;
     };

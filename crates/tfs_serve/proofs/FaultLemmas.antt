@@ -2,6 +2,7 @@
 use Rattle.std.proofs.Common.{◌≡◌, ◌≢◌, ◌≤◌, ◌⊎◌, false, ℕ, List, [], ◌∷◌, ◌++◌, refl, sym, ◌∙◌, ap, subst, arith, inl, inr}
 use Rattle.std.proofs.Common.{append_assoc}
 use Rattle.tfs_framing.specs.Framing.{IsUnfinished}
+use Rattle.tfs_serve.specs.Arrived.{BreaksThere}
 use Rattle.tfs_serve.specs.Messages.{one_asks}
 use Rattle.tfs_serve.specs.Conversation.{Exchange, requests_of, Course, IsBetween, IsLastReply, ComesAt}
 use Rattle.tfs_serve.specs.Turns.{FailsReading, course_of}
@@ -10,16 +11,23 @@ use Rattle.tfs_serve.specs.declared.fault.ServeFault.TheVariants.{Read as ReadFa
 use Rattle.tfs_serve.proofs.CourseLemmas.{later, asked_behind}
 
 -- Between messages nothing is lost.
-pub between_messages : (rest : List ℕ) → IsBetween (course_of [] rest) []
+between_messages : (rest : List ℕ) → IsBetween (course_of [] rest) []
 between_messages rest = record { refusal = refl; lost_is = refl; goes_on = refl }
 
 -- A fault while more is read comes between messages.
-pub comes_reading : (fault : ServeFault) (rest : List ℕ) (before after : ℕ) → FailsReading fault before after → IsUnfinished rest
+comes_reading : (fault : ServeFault) (rest : List ℕ) (before after : ℕ) → FailsReading fault before after → IsUnfinished rest
     → ComesAt fault (course_of [] rest) [] before after
 comes_reading ReadFault rest before after fails more = (between_messages rest, more, fails)
 comes_reading Write rest before after fails more = absurd fails
 comes_reading TooManyReads rest before after fails more = (between_messages rest, more, fails)
 comes_reading NoMemory rest before after fails more = inl (between_messages rest, inl more)
+
+-- So does want of memory, where the bytes that are left have no refusal.
+pub comes_between : (fault : ServeFault) (rest : List ℕ) (before after : ℕ) → BreaksThere rest fault before after
+    → ComesAt fault (course_of [] rest) [] before after
+comes_between fault rest before after (inl fails) = comes_reading fault rest before after fails.1 fails.0
+comes_between fault rest before after (inr memory) =
+    subst (λ (f : ServeFault). ComesAt f (course_of [] rest) [] before after) (sym memory.0) (inl (between_messages rest, memory.1))
 
 -- A fault while a reply is written loses its end: of the last exchange's, or of the one that was to end the conversation.
 pub comes_writing : (fault : ServeFault) (c : Course) (text part lost : List ℕ) (before after : ℕ) → IsLastReply c text → text ≡ part ++ lost

@@ -6,6 +6,7 @@ pub mod CourseLemmas
 pub mod FaultLemmas
 pub mod ConversationLemmas
 pub mod BrokenLemmas
+pub mod ArrivedLemmas
 pub mod StepLemmas
 pub mod OutputLemmas
 pub mod ExistenceLemmas

@@ -57,6 +57,22 @@ pub(crate) fn split_body(
     Ok(body)
 }
 
+/// Takes the first so many bytes off, into a vector of their own.
+pub(crate) fn split_front(
+    alloc: Global,
+    unused: &mut BytesMut,
+    count: usize,
+) -> Result<Vec<u8>, AllocError>
+    requires { count ≤ length unused.old.items }
+    ensures ok { IfOk result (λ front. (front.items ≡ take count unused.old.items) × (unused.new.items ≡ drop count unused.old.items)) }
+    ensures err { OnErr result (unused.new.items ≡ unused.old.items) }
+{
+    let (front, _) = unused.as_slice().split_at(count);
+    let front = Vec::from_slice(alloc, front)?;
+    unused.advance(count);
+    Ok(front)
+}
+
 /// Reads once behind the first so many bytes of a body, and no more than it has in all. Its room is used step by step: only what
 /// the next read may fill is made zeros.
 pub(crate) fn read_body<R: Read>(

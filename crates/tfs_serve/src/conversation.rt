@@ -7,18 +7,19 @@ ghost use Rattle.tfs_framing.specs.Form.{form_of};
 ghost use Rattle.tfs_http.specs.ReplyText.{reply_text};
 ghost use Rattle.tfs_serve.specs.Conversation.{AnswersRequest, ComesInReads, Converses, BreaksOff, IsReadThrough};
 ghost use Rattle.tfs_serve.specs.Turns.{WritesPart, moment, Went, HasEnded, HasBroken, work_left};
-ghost use Rattle.tfs_serve.specs.declared.ended.Ended.TheVariants.{Clean, Cut, Asked};
+ghost use Rattle.tfs_serve.specs.declared.ended.Ended.TheVariants.{Asked};
 
+use crate::arrived::{Arrived, arrive};
 use crate::desk::Desk;
 use crate::ended::Ended;
 use crate::fault::ServeFault;
-use crate::input::{Input, fill};
+use crate::input::Input;
 use crate::output::{JOINED_BYTES, write_joined};
 use crate::reads::Reads;
 use std::alloc::{AllocError, Global};
 use std::io::{Read, Write};
 use tfs_calls::{Refusal, Reply};
-use tfs_framing::{Form, Framed, Request};
+use tfs_framing::{Form, Request};
 use tfs_http::{Routes, body_of, call_of, write_head};
 
 /// The form of a reply after which the conversation ends.
@@ -120,39 +121,27 @@ fn turn<R: Read, W: Write, D: Desk>(
     ensures fault { IfErr result (HasBroken D.step (moment desk.old (R.remaining reader.old) (W.contents writer.old) reads.old line.old.input)
         (moment desk.new (R.remaining reader.new) (W.contents writer.new) reads.new line.new.input)) }
 {
-    let framed = match line.input.frame(alloc) {
-        Ok(framed) => framed,
-        Err(_) => return Err(ServeFault::NoMemory),
+    let arrived = match arrive(alloc, &mut line.input, reader, reads) {
+        Ok(Some(arrived)) => arrived,
+        Ok(None) => return Ok(None),
+        Err(fault) => return Err(fault),
     };
-    match framed {
-        Framed::Want(wanted, known) => {
-            if line.input.keep(alloc, known).is_err() {
-                return Err(ServeFault::NoMemory);
-            }
-            match fill(&mut line.input, reader, reads, wanted) {
-                Ok(more) => {
-                    if more {
-                        return Ok(None);
-                    }
-                    Ok(Some(end_of(&line.input)))
-                }
-                Err(fault) => Err(fault),
-            }
-        }
-        Framed::Got(request, _) => {
+    match arrived {
+        Arrived::Message(request) => {
             let asks_to_close = request.form().close;
             match reply_to(alloc, line, writer, desk, request) {
                 Ok(()) => Ok(end_after(asks_to_close)),
                 Err(fault) => Err(fault),
             }
         }
-        Framed::Fault(refusal) => {
+        Arrived::Refused(refusal) => {
             let reply = Reply::Refused(refusal);
             match send(alloc, &mut line.text, writer, &reply, CLOSING) {
                 Ok(()) => Ok(Some(Ended::Refused)),
                 Err(fault) => Err(fault),
             }
         }
+        Arrived::Ended(ended) => Ok(Some(ended)),
     }
 }
 
@@ -164,17 +153,6 @@ fn end_after(asks_to_close: bool) -> Option<Ended>
         Some(Ended::Asked)
     } else {
         None
-    }
-}
-
-/// How the conversation ends with the input.
-fn end_of(input: &Input) -> Ended
-    ensures { ((result ≡ Clean) × (input.now ≡ [])) ⊎ ((result ≡ Cut) × ¬ (input.now ≡ [])) }
-{
-    if input.is_empty() {
-        Ended::Clean
-    } else {
-        Ended::Cut
     }
 }
 

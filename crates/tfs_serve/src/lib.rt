@@ -2,8 +2,10 @@
 //! work of the commands that read a journal is here too.
 #![tactic(auto)]
 
+mod arrived;
 mod body;
 mod check;
+mod chunked;
 mod conversation;
 mod desk;
 mod ended;

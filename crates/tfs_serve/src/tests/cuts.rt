@@ -56,6 +56,76 @@ fn a_push_in_chunks_is_answered_however_it_is_cut(rt: HostRuntime) -> Result<(),
     Ok(())
 }
 
+/// Where the head of the push in chunks has ended, and where its body has.
+const CHUNKS_HEAD_BYTES: usize = 68;
+
+const CHUNKS_BYTES: usize = 141;
+
+#[test]
+fn a_push_in_chunks_that_is_cut_short_changes_nothing(rt: HostRuntime) -> Result<(), Fail> {
+    for len in CHUNKS_HEAD_BYTES..CHUNKS_BYTES {
+        for most in [1, 20, usize::MAX] {
+            let mut table = table_of(&rt);
+            let mut reader = Pieces::new(CHUNKS_AND_READ, most);
+            reader.rest = CHUNKS_AND_READ.as_bytes().split_at(len).0;
+            let mut writer = Vec::new(rt.alloc());
+            let ended = talk(rt.alloc(), &mut reader, &mut writer, &mut table);
+            assert!(rt; ended == Ok(Ended::Cut), "{len}");
+            assert!(rt; writer.is_empty(), "{len}");
+            assert!(rt; reader.told_end, "{len}");
+            assert_eq!(rt; table.len(), 0);
+        }
+    }
+    Ok(())
+}
+
+#[test]
+fn a_reader_that_fails_amid_chunks_breaks_off(rt: HostRuntime) -> Result<(), Fail> {
+    for call in CHUNKS_HEAD_BYTES + 1..CHUNKS_BYTES + 2 {
+        let mut table = table_of(&rt);
+        let mut writer = Vec::new(rt.alloc());
+        let mut reader = Pieces::new(CHUNKS_AND_READ, 1);
+        reader.fails_at = call;
+        let ended = talk(rt.alloc(), &mut reader, &mut writer, &mut table);
+        let (written, entries) = match call {
+            0..=CHUNKS_BYTES => (0, 0),
+            _ => (PUSH_REPLY_BYTES, 1),
+        };
+        assert!(rt; ended == Err(ServeFault::Read), "{call}");
+        let wanted = BOTH_REPLIES.as_bytes().split_at(written).0;
+        assert!(rt; writer.as_slice() == wanted, "{call}");
+        assert_eq!(rt; table.len(), entries);
+    }
+    Ok(())
+}
+
+#[test]
+fn a_chunk_that_cannot_be_ends_the_conversation(rt: HostRuntime) -> Result<(), Fail> {
+    let bad =
+        "HTTP/1.1 400 Bad Request\r\nConnection: close\r\nContent-Type: application/json\r\nContent-Length: 20\r\n\r\n{\"error\":\"BadChunk\"}";
+    let large =
+        "HTTP/1.1 413 Content Too Large\r\nConnection: close\r\nContent-Type: application/json\r\nContent-Length: 24\r\n\r\n{\"error\":\"BodyTooLarge\"}";
+    for (chunks, reply) in [
+        ("2\r\n{}xy", bad),
+        ("2\r\n{}\r\ng\r\n", bad),
+        ("1\r\n{\r\n1000000\r\n", large),
+    ] {
+        let input = format!(in rt.alloc();
+            "POST /state/a HTTP/1.1\r\nHost: h\r\nTransfer-Encoding: chunked\r\n\r\n{chunks}{PUSH_AND_READ}"
+        )?;
+        for most in [1, usize::MAX] {
+            let mut table = table_of(&rt);
+            let mut writer = Vec::new(rt.alloc());
+            let mut reader = Pieces::new(input.as_str(), most);
+            let ended = talk(rt.alloc(), &mut reader, &mut writer, &mut table);
+            assert!(rt; ended == Ok(Ended::Refused), "{chunks}");
+            assert!(rt; writer.as_slice() == reply.as_bytes(), "{chunks}");
+            assert_eq!(rt; table.len(), 0);
+        }
+    }
+    Ok(())
+}
+
 #[test]
 fn the_input_is_read_to_its_end(rt: HostRuntime) -> Result<(), Fail> {
     for cut in [0, 1, 53, 95, 96, 129] {

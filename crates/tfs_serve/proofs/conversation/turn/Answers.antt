@@ -1,94 +1,168 @@
--- Each end of a turn is a law of turns.
-use Rattle.std.proofs.Common.{◌≡◌, ◌∙◌, sym, ap, subst, Ok, None, unwrap_or, ℕ, List, ◌++◌, inl, inr}
-use Rattle.tfs_framing.specs.Framing.{AreWanted, FramesOrWants, IsUnfinished, framing_refusal}
-use Rattle.tfs_serve.specs.Turns.{moment, HasEnded}
-use Rattle.tfs_framing.specs.declared.form.Form.{Form}
+-- More is read, and then what comes is a law of turns over all the bytes.
+use Rattle.std.proofs.Common.{◌∙◌, refl, sym, ap, None, unwrap_or, ◌++◌}
 use Rattle.std.specs.Result.{result_ok}
-use Rattle.tfs_serve.proofs.InputLemmas.{where_wanted, where_got}
-use Rattle.tfs_serve.proofs.ConversationLemmas.{went_reading, ended_with_input, went_answering, ended_asked, ended_refusing, not_asked, asked_ends}
-use Rattle.tfs_serve.proofs.BrokenLemmas.{broken_at_once, broken_reading, broken_answering, broken_refusing}
+use Rattle.tfs_framing.specs.Framing.{framing_refusal}
+use Rattle.tfs_framing.specs.declared.form.Form.{Form}
+use Rattle.tfs_framing.proofs.MessageLemmas.{body_fits}
+use Rattle.tfs_serve.specs.Turns.{moment, HasEnded}
+use Rattle.tfs_serve.specs.declared.arrived.Arrived.{Arrived}
+use Rattle.tfs_serve.specs.declared.ended.Ended.TheVariants.{Asked, Refused}
+use Rattle.tfs_serve.proofs.ArrivedLemmas.{some_arrives, none_arrives, ended_through, less_behind}
+use Rattle.tfs_serve.proofs.ConversationLemmas.{went_reading, went_then, went_then_ended, went_then_broken}
+use Rattle.tfs_serve.proofs.ConversationLemmas.{ended_with_input, went_answering, ended_asked, ended_refusing, not_asked, asked_ends}
+use Rattle.tfs_serve.proofs.BrokenLemmas.{broken_between, broken_answering, broken_refusing}
 use Rattle.tfs_serve.proofs.conversation.turn.Goals as goal
+
+-- ---- nothing has come, or a fault did
+
+pub returns-in-Ok-None-clause-went : goal.returns-in-Ok-None-clause-went
+returns-in-Ok-None-clause-went g c e =
+    let read = c.in-Ok-None.ensures.bytes in
+    went_reading g.D.Desk.step c.args.desk.now (g.R.Read.remaining c.args.reader.now) (g.R.Read.remaining c.arrive.new.reader)
+    (g.W.Write.contents c.args.writer.now) c.args.reads.now c.arrive.new.reads c.args.line.now.input
+    c.arrive.new.input read.0
+    (none_arrives (c.args.line.now.input ++ read.0) c.arrive.new.input c.in-Ok-None.field-0 c.in-Ok-None.field-0-is read.3) read.1 read.2
 
 pub returns-in-Err-clause-fault : goal.returns-in-Err-clause-fault
 returns-in-Err-clause-fault g c =
-    broken_at_once g.D.Desk.step c.args.desk.now _ _ _ c.args.line.now.input _ (inr c.in-Err.ensures.memory)
+    let read = c.in-Err.ensures.bytes in
+    broken_between g.D.Desk.step c.args.desk.now (g.R.Read.remaining c.args.reader.now) (g.R.Read.remaining c.arrive.new.reader)
+    (g.W.Write.contents c.args.writer.now) c.args.reads.now c.arrive.new.reads c.args.line.now.input
+    c.arrive.new.input read.0 c.in-Err.fault read.1 read.2 read.4
 
-pub keep-requires : goal.keep-requires
-keep-requires g c =
-    let wants = where_wanted c.args.line.now.input _ _ _ _ c.in-Want.is c.in-Ok.ensures.ok c.in-Ok.ensures.left in
-    record { known = wants.is_known; unfinished = wants.unfinished }
+-- ---- a message
 
-pub returns-then-is_err-clause-fault : goal.returns-then-is_err-clause-fault
-returns-then-is_err-clause-fault g c =
-    let wants = where_wanted c.args.line.now.input _ _ _ _ c.in-Want.is c.in-Ok.ensures.ok c.in-Ok.ensures.left in
-    broken_at_once g.D.Desk.step c.args.desk.now _ _ _ c.args.line.now.input _ (inl (subst IsUnfinished wants.left_is wants.unfinished))
+pub reply_to-requires : goal.reply_to-requires
+reply_to-requires g c =
+    let read = c.in-Ok-Some.ensures.bytes in
+    let message = some_arrives (c.args.line.now.input ++ read.0) c.arrive.new.input c.in-Ok-Some.field-0 c.in-Ok-Some.arrived
+    (Arrived.Message c.in-Message.request) c.in-Ok-Some.field-0-is c.in-Message.is read.3 in
+    body_fits (c.args.line.now.input ++ read.0) c.in-Message.request message.0 message.1
 
-pub fill-requires : goal.fill-requires
-fill-requires g c =
-    let wants = where_wanted c.args.line.now.input _ _ _ _ c.in-Want.is c.in-Ok.ensures.ok c.in-Ok.ensures.left in
-    subst (λ (i : List ℕ). AreWanted i c.in-Want.wanted) (sym (c.keep.ensures ∙ wants.left_is)) wants.are_wanted
-
-pub returns-then-more-clause-went : goal.returns-then-more-clause-went
-returns-then-more-clause-went g c e =
-    let wants = where_wanted c.args.line.now.input _ _ _ _ c.in-Want.is c.in-Ok.ensures.ok c.in-Ok.ensures.left in
-    let more = c.in-Ok-fill.ensures.bytes in
-    went_reading g.D.Desk.step c.args.desk.now _ _ _ _ _ c.args.line.now.input c.fill.new.input more.0
-    (subst (λ (i : List ℕ). c.fill.new.input ≡ i ++ more.0) (c.keep.ensures ∙ wants.left_is) more.1) more.2 more.3
-
-pub returns-in-Ok-fill-clause-ended : goal.returns-in-Ok-fill-clause-ended
-returns-in-Ok-fill-clause-ended g c =
-    let wants = where_wanted c.args.line.now.input _ _ _ _ c.in-Want.is c.in-Ok.ensures.ok c.in-Ok.ensures.left in
-    let more = c.in-Ok-fill.ensures.bytes in
-    let end = c.in-Ok-fill.ensures.short (ap Ok c.if-more.false) in
-    ended_with_input g.D.Desk.step c.args.desk.now _ _ _ _ _ c.args.line.now.input c.fill.new.input more.0 c.in-Want.wanted c.end_of.result
-    (subst (λ (i : List ℕ). c.fill.new.input ≡ i ++ more.0) (c.keep.ensures ∙ wants.left_is) more.1) more.2 more.3 wants.are_wanted end.0 end.1
-    c.end_of.ensures
-
-pub returns-in-Want-clause-fault : goal.returns-in-Want-clause-fault
-returns-in-Want-clause-fault g c =
-    let wants = where_wanted c.args.line.now.input _ _ _ _ c.in-Want.is c.in-Ok.ensures.ok c.in-Ok.ensures.left in
-    let more = c.in-Err-fill.ensures.bytes in
-    let fault = c.in-Err-fill.ensures.fault in
-    broken_reading g.D.Desk.step c.args.desk.now _ _ _ _ _ c.args.line.now.input c.fill.new.input more.0 c.in-Want.wanted c.in-Err-fill.fault
-    (subst (λ (i : List ℕ). c.fill.new.input ≡ i ++ more.0) (c.keep.ensures ∙ wants.left_is) more.1) more.2 more.3 wants.are_wanted fault.0 fault.1
-
-pub returns-in-Ok-reply_to-clause-went : goal.returns-in-Ok-reply_to-clause-went
-returns-in-Ok-reply_to-clause-went g c e =
-    let got = where_got c.args.line.now.input _ _ _ _ c.in-Got.is c.in-Ok.ensures.ok c.in-Ok.ensures.left in
-    let reply = c.in-Ok-reply_to.ensures.ok in
-    went_answering g.D.Desk.step c.args.desk.now c.reply_to.new.desk _ _ _ _ c.args.line.now.input c.reply_to.new.line.input c.in-Got.request _
-    reply.0 got.0 (c.in-Ok-reply_to.ensures.input ∙ got.1) reply.1 reply.2
+pub returns-in-Ok-clause-went : goal.returns-in-Ok-clause-went
+returns-in-Ok-clause-went g c e =
+    let read = c.in-Ok-Some.ensures.bytes in
+    let message = some_arrives (c.args.line.now.input ++ read.0) c.arrive.new.input c.in-Ok-Some.field-0 c.in-Ok-Some.arrived
+    (Arrived.Message c.in-Message.request) c.in-Ok-Some.field-0-is c.in-Message.is read.3 in
+    let reply = c.in-Ok.ensures.ok in
+    went_then g.D.Desk.step
+    (moment c.args.desk.now (g.R.Read.remaining c.args.reader.now) (g.W.Write.contents c.args.writer.now) c.args.reads.now c.args.line.now.input)
+    (moment c.args.desk.now (g.R.Read.remaining c.arrive.new.reader) (g.W.Write.contents c.args.writer.now)
+    c.arrive.new.reads (c.args.line.now.input ++ read.0))
+    (moment c.reply_to.new.desk (g.R.Read.remaining c.arrive.new.reader) (g.W.Write.contents c.reply_to.new.writer)
+    c.arrive.new.reads c.reply_to.new.line.input)
+    (went_reading g.D.Desk.step c.args.desk.now (g.R.Read.remaining c.args.reader.now) (g.R.Read.remaining c.arrive.new.reader)
+    (g.W.Write.contents c.args.writer.now) c.args.reads.now c.arrive.new.reads c.args.line.now.input
+    (c.args.line.now.input ++ read.0) read.0 refl read.1 read.2)
+    (went_answering g.D.Desk.step c.args.desk.now c.reply_to.new.desk (g.R.Read.remaining c.arrive.new.reader) (g.W.Write.contents c.args.writer.now)
+    (g.W.Write.contents c.reply_to.new.writer) c.arrive.new.reads (c.args.line.now.input ++ read.0)
+    c.reply_to.new.line.input c.in-Message.request message.0
+    reply.0 message.1 (c.in-Ok.ensures.input ∙ message.2) reply.1 reply.2
     (sym (ap (λ (f : Form). f.close) c.form-asks_to_close.ensures.value) ∙ not_asked c.form-asks_to_close.result.close c.end_after.result
-    c.end_after.ensures (ap (λ r. unwrap_or (result_ok r) None) e))
+    c.end_after.ensures (ap (λ r. unwrap_or (result_ok r) None) e)))
 
-pub returns-in-Ok-reply_to-clause-ended : goal.returns-in-Ok-reply_to-clause-ended
-returns-in-Ok-reply_to-clause-ended g c =
-    let got = where_got c.args.line.now.input _ _ _ _ c.in-Got.is c.in-Ok.ensures.ok c.in-Ok.ensures.left in
-    let reply = c.in-Ok-reply_to.ensures.ok in
+pub returns-in-Ok-clause-less : goal.returns-in-Ok-clause-less
+returns-in-Ok-clause-less g c e =
+    let read = c.in-Ok-Some.ensures.bytes in
+    let message = some_arrives (c.args.line.now.input ++ read.0) c.arrive.new.input c.in-Ok-Some.field-0 c.in-Ok-Some.arrived
+    (Arrived.Message c.in-Message.request) c.in-Ok-Some.field-0-is c.in-Message.is read.3 in
+    less_behind c.args.reads.now c.arrive.new.reads c.args.line.now.input read.0 c.reply_to.new.line.input c.in-Message.request message.0
+    read.2 message.1 (c.in-Ok.ensures.input ∙ message.2) c.in-Ok-Some.ensures.limit
+
+pub returns-in-Ok-clause-ended : goal.returns-in-Ok-clause-ended
+returns-in-Ok-clause-ended g c =
+    let read = c.in-Ok-Some.ensures.bytes in
+    let message = some_arrives (c.args.line.now.input ++ read.0) c.arrive.new.input c.in-Ok-Some.field-0 c.in-Ok-Some.arrived
+    (Arrived.Message c.in-Message.request) c.in-Ok-Some.field-0-is c.in-Message.is read.3 in
+    let reply = c.in-Ok.ensures.ok in
     asked_ends (HasEnded g.D.Desk.step
     (moment c.args.desk.now (g.R.Read.remaining c.args.reader.now) (g.W.Write.contents c.args.writer.now) c.args.reads.now c.args.line.now.input)
-    (moment c.reply_to.new.desk (g.R.Read.remaining c.args.reader.now) (g.W.Write.contents c.reply_to.new.writer) c.args.reads.now
-    c.reply_to.new.line.input))
+    (moment c.reply_to.new.desk (g.R.Read.remaining c.arrive.new.reader) (g.W.Write.contents c.reply_to.new.writer)
+    c.arrive.new.reads c.reply_to.new.line.input))
     c.form-asks_to_close.result.close c.end_after.result c.end_after.ensures
-    (λ asks. ended_asked g.D.Desk.step c.args.desk.now c.reply_to.new.desk _ _ _ _ c.args.line.now.input c.reply_to.new.line.input
-    c.in-Got.request _ reply.0 got.0 (c.in-Ok-reply_to.ensures.input ∙ got.1) reply.1 reply.2
-    (sym (ap (λ (f : Form). f.close) c.form-asks_to_close.ensures.value) ∙ asks))
+    (λ asks. went_then_ended g.D.Desk.step
+    (moment c.args.desk.now (g.R.Read.remaining c.args.reader.now) (g.W.Write.contents c.args.writer.now) c.args.reads.now c.args.line.now.input)
+    (moment c.args.desk.now (g.R.Read.remaining c.arrive.new.reader) (g.W.Write.contents c.args.writer.now)
+    c.arrive.new.reads (c.args.line.now.input ++ read.0))
+    (moment c.reply_to.new.desk (g.R.Read.remaining c.arrive.new.reader) (g.W.Write.contents c.reply_to.new.writer)
+    c.arrive.new.reads c.reply_to.new.line.input)
+    Asked (went_reading g.D.Desk.step c.args.desk.now (g.R.Read.remaining c.args.reader.now) (g.R.Read.remaining c.arrive.new.reader)
+    (g.W.Write.contents c.args.writer.now) c.args.reads.now c.arrive.new.reads c.args.line.now.input
+    (c.args.line.now.input ++ read.0) read.0 refl read.1 read.2)
+    (ended_asked g.D.Desk.step c.args.desk.now c.reply_to.new.desk (g.R.Read.remaining c.arrive.new.reader) (g.W.Write.contents c.args.writer.now)
+    (g.W.Write.contents c.reply_to.new.writer) c.arrive.new.reads (c.args.line.now.input ++ read.0)
+    c.reply_to.new.line.input c.in-Message.request message.0
+    reply.0 message.1 (c.in-Ok.ensures.input ∙ message.2) reply.1 reply.2
+    (sym (ap (λ (f : Form). f.close) c.form-asks_to_close.ensures.value) ∙ asks)))
 
-pub returns-in-Got-clause-fault : goal.returns-in-Got-clause-fault
-returns-in-Got-clause-fault g c =
-    let got = where_got c.args.line.now.input _ _ _ _ c.in-Got.is c.in-Ok.ensures.ok c.in-Ok.ensures.left in
+pub returns-in-Message-clause-fault : goal.returns-in-Message-clause-fault
+returns-in-Message-clause-fault g c =
+    let read = c.in-Ok-Some.ensures.bytes in
+    let message = some_arrives (c.args.line.now.input ++ read.0) c.arrive.new.input c.in-Ok-Some.field-0 c.in-Ok-Some.arrived
+    (Arrived.Message c.in-Message.request) c.in-Ok-Some.field-0-is c.in-Message.is read.3 in
     let reply = c.in-Err-reply_to.ensures.err in
-    broken_answering g.D.Desk.step c.args.desk.now c.reply_to.new.desk _ _ _ _ c.args.line.now.input c.reply_to.new.line.input c.in-Got.request _
-    reply.0 c.in-Err-reply_to.fault got.0 (c.in-Err-reply_to.ensures.input ∙ got.1) reply.1 reply.2
+    went_then_broken g.D.Desk.step
+    (moment c.args.desk.now (g.R.Read.remaining c.args.reader.now) (g.W.Write.contents c.args.writer.now) c.args.reads.now c.args.line.now.input)
+    (moment c.args.desk.now (g.R.Read.remaining c.arrive.new.reader) (g.W.Write.contents c.args.writer.now)
+    c.arrive.new.reads (c.args.line.now.input ++ read.0))
+    (moment c.reply_to.new.desk (g.R.Read.remaining c.arrive.new.reader) (g.W.Write.contents c.reply_to.new.writer)
+    c.arrive.new.reads c.reply_to.new.line.input)
+    c.in-Err-reply_to.fault (went_reading g.D.Desk.step c.args.desk.now (g.R.Read.remaining c.args.reader.now) (g.R.Read.remaining c.arrive.new.reader)
+    (g.W.Write.contents c.args.writer.now) c.args.reads.now c.arrive.new.reads c.args.line.now.input
+    (c.args.line.now.input ++ read.0) read.0 refl read.1 read.2)
+    (broken_answering g.D.Desk.step c.args.desk.now c.reply_to.new.desk
+    (g.R.Read.remaining c.arrive.new.reader) (g.W.Write.contents c.args.writer.now)
+    (g.W.Write.contents c.reply_to.new.writer) c.arrive.new.reads (c.args.line.now.input ++ read.0)
+    c.reply_to.new.line.input c.in-Message.request message.0
+    reply.0 c.in-Err-reply_to.fault message.1 (c.in-Err-reply_to.ensures.input ∙ message.2) reply.1 reply.2)
+
+-- ---- a refusal
 
 pub returns-in-Ok-send-clause-ended : goal.returns-in-Ok-send-clause-ended
 returns-in-Ok-send-clause-ended g c =
-    let is : framing_refusal c.args.line.now.input c.in-Fault.refusal =
-    subst (FramesOrWants c.args.line.now.input) c.in-Fault.is c.in-Ok.ensures.ok in
-    ended_refusing g.D.Desk.step c.args.desk.now _ _ _ _ c.args.line.now.input _ c.in-Fault.refusal is c.in-Ok-send.ensures.ok
+    let read = c.in-Ok-Some.ensures.bytes in
+    let is : framing_refusal (c.args.line.now.input ++ read.0) c.in-Refused.refusal =
+    some_arrives (c.args.line.now.input ++ read.0) c.arrive.new.input c.in-Ok-Some.field-0 c.in-Ok-Some.arrived
+    (Arrived.Refused c.in-Refused.refusal) c.in-Ok-Some.field-0-is c.in-Refused.is read.3 in
+    went_then_ended g.D.Desk.step
+    (moment c.args.desk.now (g.R.Read.remaining c.args.reader.now) (g.W.Write.contents c.args.writer.now) c.args.reads.now c.args.line.now.input)
+    (moment c.args.desk.now (g.R.Read.remaining c.arrive.new.reader) (g.W.Write.contents c.args.writer.now)
+    c.arrive.new.reads (c.args.line.now.input ++ read.0))
+    (moment c.args.desk.now (g.R.Read.remaining c.arrive.new.reader) (g.W.Write.contents c.send.new.writer) c.arrive.new.reads c.arrive.new.input)
+    Refused (went_reading g.D.Desk.step c.args.desk.now (g.R.Read.remaining c.args.reader.now) (g.R.Read.remaining c.arrive.new.reader)
+    (g.W.Write.contents c.args.writer.now) c.args.reads.now c.arrive.new.reads c.args.line.now.input
+    (c.args.line.now.input ++ read.0) read.0 refl read.1 read.2)
+    (ended_refusing g.D.Desk.step c.args.desk.now (g.R.Read.remaining c.arrive.new.reader) (g.W.Write.contents c.args.writer.now)
+    (g.W.Write.contents c.send.new.writer) c.arrive.new.reads (c.args.line.now.input ++ read.0) c.arrive.new.input c.in-Refused.refusal
+    is c.in-Ok-send.ensures.ok)
 
-pub returns-clause-fault : goal.returns-clause-fault
-returns-clause-fault g c =
-    let is : framing_refusal c.args.line.now.input c.in-Fault.refusal =
-    subst (FramesOrWants c.args.line.now.input) c.in-Fault.is c.in-Ok.ensures.ok in
-    broken_refusing g.D.Desk.step c.args.desk.now _ _ _ _ c.args.line.now.input _ c.in-Fault.refusal c.in-Err-send.fault is c.in-Err-send.ensures.err
+pub returns-in-Refused-clause-fault : goal.returns-in-Refused-clause-fault
+returns-in-Refused-clause-fault g c =
+    let read = c.in-Ok-Some.ensures.bytes in
+    let is : framing_refusal (c.args.line.now.input ++ read.0) c.in-Refused.refusal =
+    some_arrives (c.args.line.now.input ++ read.0) c.arrive.new.input c.in-Ok-Some.field-0 c.in-Ok-Some.arrived
+    (Arrived.Refused c.in-Refused.refusal) c.in-Ok-Some.field-0-is c.in-Refused.is read.3 in
+    went_then_broken g.D.Desk.step
+    (moment c.args.desk.now (g.R.Read.remaining c.args.reader.now) (g.W.Write.contents c.args.writer.now) c.args.reads.now c.args.line.now.input)
+    (moment c.args.desk.now (g.R.Read.remaining c.arrive.new.reader) (g.W.Write.contents c.args.writer.now)
+    c.arrive.new.reads (c.args.line.now.input ++ read.0))
+    (moment c.args.desk.now (g.R.Read.remaining c.arrive.new.reader) (g.W.Write.contents c.send.new.writer) c.arrive.new.reads c.arrive.new.input)
+    c.in-Err-send.fault (went_reading g.D.Desk.step c.args.desk.now (g.R.Read.remaining c.args.reader.now) (g.R.Read.remaining c.arrive.new.reader)
+    (g.W.Write.contents c.args.writer.now) c.args.reads.now c.arrive.new.reads c.args.line.now.input
+    (c.args.line.now.input ++ read.0) read.0 refl read.1 read.2)
+    (broken_refusing g.D.Desk.step c.args.desk.now (g.R.Read.remaining c.arrive.new.reader) (g.W.Write.contents c.args.writer.now)
+    (g.W.Write.contents c.send.new.writer) c.arrive.new.reads (c.args.line.now.input ++ read.0) c.arrive.new.input c.in-Refused.refusal
+    c.in-Err-send.fault is c.in-Err-send.ensures.err)
+
+-- ---- the end of the input
+
+pub returns-clause-ended : goal.returns-clause-ended
+returns-clause-ended g c =
+    let read = c.in-Ok-Some.ensures.bytes in
+    ended_with_input g.D.Desk.step c.args.desk.now (g.R.Read.remaining c.args.reader.now) (g.R.Read.remaining c.arrive.new.reader)
+    (g.W.Write.contents c.args.writer.now) c.args.reads.now c.arrive.new.reads c.args.line.now.input
+    c.arrive.new.input read.0 c.in-Ended.ended read.1 read.2
+    (some_arrives (c.args.line.now.input ++ read.0) c.arrive.new.input c.in-Ok-Some.field-0 c.in-Ok-Some.arrived
+    (Arrived.Ended c.in-Ended.ended) c.in-Ok-Some.field-0-is c.in-Ended.is read.3)
+    (ended_through (g.R.Read.remaining c.arrive.new.reader) c.in-Ok-Some.field-0 c.in-Ok-Some.arrived c.in-Ended.ended c.in-Ok-Some.field-0-is
+    c.in-Ended.is c.in-Ok-Some.ensures.end)
