@@ -1,7 +1,7 @@
 """Refuses the built program's requests for memory, by a preloaded shim: each request of a conversation in turn, and all
 from each one on. Each run ends by itself, and what it wrote is whole replies that the model allows. One conversation is the
-stored run, whose outputs are written here by hand; another one is like it, with a state that doesn't come in one read; the third
-has locks, unlocks and a deletion.
+stored run, whose outputs are written here by hand; two are like it, with a state that doesn't come in one read, in chunks
+in one of them; the last has locks, unlocks and a deletion.
 
 All requests are the program's own, by malloc and realloc; the loader and the C library make none. The first ones are
 for the arguments: refused, the arguments can't be had and count as other arguments."""
@@ -27,6 +27,9 @@ LOCKS = [
 ]
 LONG = S1 + b" " * (200_000 - len(S1))
 PUSH_AND_GET_LONG = request_text("POST", "/state/a", LONG) + request_text("GET", "/state/a", b"")
+IN_CHUNKS = b"".join(b"2710\r\n" + LONG[at : at + 10_000] + b"\r\n" for at in range(0, len(LONG), 10_000)) + b"0\r\n\r\n"
+CHUNKED_HEAD = b"POST /state/a HTTP/1.1\r\nHost: h\r\nTransfer-Encoding: chunked\r\n\r\n"
+PUSH_IN_CHUNKS_AND_GET = CHUNKED_HEAD + IN_CHUNKS + request_text("GET", "/state/a", b"")
 LONG_STATE = reply_text(200, LONG)
 LOCKS_TEXT = b"".join(request_text(*request) for request in LOCKS)
 LOCKS_REPLIES = [DONE, DONE, STATE, reply_text(423, A), DONE, DONE]
@@ -79,17 +82,28 @@ def check_each_request_of_the_stored_run_is_refused_in_turn():
         expect((output, status) in seen, True, f"some request gives {status}, {output}")
 
 
-def check_each_request_of_a_push_that_comes_in_pieces_is_refused_in_turn():
-    requests, for_arguments = ample_counts(PUSH_AND_GET_LONG, DONE + LONG_STATE)
+def expect_long_push_is_refused_in_turn(data, harmless=frozenset()):
+    """Refuses each request of a conversation with a long push and a read: each outcome that the model allows comes, and each that is
+    harmless, and no other."""
+    requests, for_arguments = ample_counts(data, DONE + LONG_STATE)
     faults = {(b"", 1, FAULT), (DONE, 1, FAULT)}
-    allowed = faults | {(NO_MEMORY + NO_STATE, 0, b""), (DONE + NO_MEMORY, 0, b"")}
+    allowed = faults | harmless | {(NO_MEMORY + NO_STATE, 0, b""), (DONE + NO_MEMORY, 0, b"")}
     seen = set()
     for request in range(for_arguments + 1, requests + 1):
-        *ran, _, others = run_refused(request, request, data=PUSH_AND_GET_LONG)
+        *ran, _, others = run_refused(request, request, data=data)
         expect((tuple(ran) in allowed, others), (True, 0), f"request {request}, {ran[0][:100]}, {ran[1:]}")
         seen.add(tuple(ran))
     expect(seen, allowed, "each of these comes")
-    expect(run_refused(requests + 1, FOREVER, data=PUSH_AND_GET_LONG)[:3], (DONE + LONG_STATE, 0, b""), "there is no further request")
+    expect(run_refused(requests + 1, FOREVER, data=data)[:3], (DONE + LONG_STATE, 0, b""), "there is no further request")
+
+
+def check_each_request_of_a_push_that_comes_in_pieces_is_refused_in_turn():
+    expect_long_push_is_refused_in_turn(PUSH_AND_GET_LONG)
+
+
+def check_each_request_of_a_push_in_chunks_is_refused_in_turn():
+    # A body that was joined is shrunk; where that is refused, it keeps its room.
+    expect_long_push_is_refused_in_turn(PUSH_IN_CHUNKS_AND_GET, {(DONE + LONG_STATE, 0, b"")})
 
 
 def check_all_requests_from_each_one_on_are_refused():

@@ -158,6 +158,27 @@ def check_a_long_module_path_takes_a_few_times_its_bytes():
     expect(server.ask("GET", "/state/a"), (200, text))
 
 
+def in_chunks(text, size):
+    """A push of the text in chunks of so many bytes, each with an extension of 1,000 bytes on its line."""
+    line = b"%x;%s\r\n" % (size, b"x" * 1000)
+    chunks = b"".join(line + text[at : at + size] + b"\r\n" for at in range(0, len(text), size))
+    return b"POST /state/a HTTP/1.1\r\nHost: h\r\nTransfer-Encoding: chunked\r\n\r\n" + chunks + b"0\r\n\r\n"
+
+
+def check_chunks_take_the_memory_of_the_bytes_in_them():
+    server, text = Server(workers=1), S1.ljust(1 << 20)
+    with server.connect() as connection:
+        expect(asked(connection, "POST", "/state/b", S1), (200, b""))
+        before = most_memory(server)
+        push = in_chunks(text, 16)
+        connection.sendall(push)
+        with connection.makefile("rb") as file:
+            expect(reply_of(file), (200, b""))
+        grown = most_memory(server) - before
+        expect(grown < TIMES_ITS_BYTES * len(text), True, f"it took {grown} bytes for {len(push)} on the wire")
+        expect(asked(connection, "GET", "/state/a"), (200, text))
+
+
 def ask_small(server, serial):
     """A push, a read and a query, each on a connection of its own: the statuses, none where a connection ends without a reply; and the
     seconds that the longest took."""
