@@ -109,6 +109,21 @@ fn is_refused<K: Sink>(
     Ok(())
 }
 
+/// Changes of `a` are answered in turn, each by a position or by the name of a refusal.
+fn are_answered<K: Sink>(
+    rt: &(impl Alloc<A = Global> + Abort),
+    table: &mut Table<K>,
+    changes: &[(Change<'_>, Result<u64, &str>)],
+) -> Result<(), Fail> {
+    for (change, expected) in changes {
+        match expected {
+            Ok(position) => is_done(rt, table, "a", *change, *position)?,
+            Err(refusal) => is_refused(rt, table, "a", *change, refusal)?,
+        }
+    }
+    Ok(())
+}
+
 /// The state of a name is of these bytes; no bytes stand for no state.
 fn has_state<K: Sink>(
     rt: &(impl Alloc<A = Global> + Abort),
