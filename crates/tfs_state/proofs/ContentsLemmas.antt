@@ -13,6 +13,7 @@ use Rattle.tfs_state.specs.declared.fault.StateFault.TheVariants.{Version, Seria
 use Rattle.tfs_state.specs.declared.fault.StateFault.{StateFault}
 use Rattle.tfs_state.specs.Tables.{ReadsResources}
 use Rattle.tfs_state.specs.Contents.{Stand, ReadsInstancesOf, ReadsContent}
+use Rattle.tfs_state.specs.Packed.{ArePacked}
 use Rattle.tfs_state.specs.declared.content.Content.{Content}
 use Rattle.tfs_state.specs.declared.tables.Tables.{Tables}
 use Rattle.tfs_state.proofs.ListLemmas.{zip_length}
@@ -33,7 +34,7 @@ all_read value values lists is e =
 -- At most 4,096 instances were read as tables, of which the blocks and the rows stay.
 pub instances_read : (value : Data) (values : List Data) (tables kept : Tables) → Some values ≡ list_at (codes "resources") value
     → ReadsResources values tables → AreApart tables.names → length tables.rows.items ≤ 4096
-    → kept.blocks.items ≡ tables.blocks.items → kept.rows.items ≡ tables.rows.items → ReadsInstancesOf value kept
+    → kept.blocks.items ≡ tables.blocks.items → kept.rows ≡ tables.rows → ReadsInstancesOf value kept
 instances_read value values tables kept is r apart few blocks rows =
     let long = zip_length _ tables.rows.items (joined r.lists) r.stand in
     let limit : length (joined r.lists) ≤ 4096 = omega (arith, long, few) in
@@ -43,7 +44,7 @@ instances_read value values tables kept is r apart few blocks rows =
           ∙ ap (λ b. cond b (Ok (joined r.lists)) (Err TooManyInstances)) (le-leb (length (joined r.lists)) 4096 limit);
       limit = limit;
       stand = subst (λ bs. Stand bs kept.rows.items (joined r.lists)) (sym blocks)
-          (subst (λ rs. Stand tables.blocks.items rs (joined r.lists)) (sym rows)
+          (subst (λ v. Stand tables.blocks.items v.items (joined r.lists)) (sym rows)
           (record { names = tables.names; apart = apart; each = r.stand }));
     }
 
@@ -58,17 +59,18 @@ many_instances value values tables is r many =
 -- The content of a value whose parts were read.
 pub content_read : (value : Data) (parts : Content) (tables : Tables) → version_of value ≡ Some 4 → serial_of value ≡ Some parts.serial
     → lineage_of value ≡ Some (string_bytes parts.lineage) → ReadsInstancesOf value tables
-    → parts.blocks ≡ tables.blocks → parts.rows ≡ tables.rows → ReadsContent value parts
+    → parts.blocks ≡ tables.blocks → ArePacked parts.packed tables.rows.items → ReadsContent value parts
 unfolding content_of
-content_read value parts tables version serial lineage r blocks rows = record {
+content_read value parts tables version serial lineage r blocks packed = record {
   content = record { serial = parts.serial; lineage = string_bytes parts.lineage; instances = r.instances };
   read = rw version (rw serial (rw lineage (rw r.read refl)));
   holds = record {
     serial = refl;
     lineage = refl;
     limit = r.limit;
-    stand = subst (λ v. Stand v.items parts.rows.items r.instances) (sym blocks) (subst (λ v. Stand tables.blocks.items v.items r.instances) (sym
-        rows) r.stand);
+    rows = tables.rows.items;
+    packed = packed;
+    stand = subst (λ v. Stand v.items tables.rows.items r.instances) (sym blocks) r.stand;
   };
 }
 

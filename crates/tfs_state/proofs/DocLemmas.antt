@@ -14,7 +14,9 @@ use Rattle.tfs_state.specs.Tables.{HasDigests, StandsForBare, StandsFor}
 use Rattle.tfs_state.specs.Contents.{Keeps}
 use Rattle.tfs_state.specs.declared.content.Content.{Content}
 use Rattle.tfs_state.specs.declared.tables.Block.{Block}
+use Rattle.tfs_state.specs.declared.packed.PackedRow.{PackedRow}
 use Rattle.tfs_state.specs.declared.tables.Row.{Row}
+use Rattle.tfs_state.specs.Packed.{IsPacked, IsWithin, dependencies_of}
 use Rattle.tfs_state.proofs.ListLemmas.{zip_length, zip_at}
 use Rattle.tfs_state.proofs.StateTextLemmas.{kept_document}
 
@@ -55,68 +57,92 @@ module _ (bytes : List ℕ) (parts : Content) (keeps : Keeps bytes parts) (d : D
   same_instances = ap (λ (e : Document). e.instances) (sym (kept_document bytes parts keeps) ∙ is)
 
   -- There is a row for each instance.
-  pub kept_length : length parts.rows.items ≡ length d.instances
-  kept_length = zip_length _ parts.rows.items keeps.content.instances keeps.holds.stand.each ∙ ap (λ (us : List Instance). length us) same_instances
+  pub kept_length : length parts.packed.rows.items ≡ length d.instances
+  kept_length = zip_length _ parts.packed.rows.items keeps.holds.rows keeps.holds.packed
+      ∙ zip_length _ keeps.holds.rows keeps.content.instances keeps.holds.stand.each ∙ ap (λ (us : List Instance). length us) same_instances
 
   -- There are at most 4,096 instances.
   pub kept_limit : length d.instances ≤ 4096
   kept_limit = subst (λ (us : List Instance). length us ≤ 4096) same_instances keeps.holds.limit
 
-  -- The instance that a row stands for.
-  pub kept_row : (i : ℕ) (row : Row) → slice_get parts.rows.items i ≡ Some row
-      → (u : Instance) × (slice_get d.instances i ≡ Some u) × StandsFor keeps.holds.stand.names parts.blocks.items row u
-  kept_row i row at =
-      let found = zip_at _ parts.rows.items keeps.content.instances i row keeps.holds.stand.each at in
-      (found.0, ap (λ (us : List Instance). slice_get us i) (sym same_instances) ∙ found.1, found.2)
+  -- What a packed row is: the instance that it stands for, and the row that was read of it.
+  pub record KeptRow (i : ℕ) (packed : PackedRow) : Type 0 where
+    pub instance : Instance
+    pub found : slice_get d.instances i ≡ Some instance
+    pub row : Row
+    pub packing : IsPacked parts.packed.numbers.items packed row
+    pub stands : StandsFor keeps.holds.stand.names parts.blocks.items row instance
+
+  -- The instance that a packed row stands for.
+  pub kept_row : (i : ℕ) (packed : PackedRow) → slice_get parts.packed.rows.items i ≡ Some packed → KeptRow i packed
+  kept_row i packed at =
+      let row = zip_at _ parts.packed.rows.items keeps.holds.rows i packed keeps.holds.packed at in
+      let found = zip_at _ keeps.holds.rows keeps.content.instances i row.0 keeps.holds.stand.each row.1 in
+      record {
+        instance = found.0;
+        found = ap (λ (us : List Instance). slice_get us i) (sym same_instances) ∙ found.1;
+        row = row.0;
+        packing = row.2;
+        stands = found.2;
+      }
 
   -- The block of a row is there.
-  pub kept_block : (i : ℕ) (row : Row) → slice_get parts.rows.items i ≡ Some row → row.block < length parts.blocks.items
-  kept_block i row at = let found = kept_row i row at in slice_get_within parts.blocks.items row.block found.2.block found.2.placed
+  pub kept_block : (i : ℕ) (row : PackedRow) → slice_get parts.packed.rows.items i ≡ Some row → row.block < length parts.blocks.items
+  kept_block i row at = let found = kept_row i row at in
+      slice_get_within parts.blocks.items row.block found.stands.block (ap (slice_get parts.blocks.items) found.packing.block ∙ found.stands.placed)
 
-  module _ (i : ℕ) (row : Row) (block : Block) (at : slice_get parts.rows.items i ≡ Some row) (placed : slice_get parts.blocks.items row.block ≡ Some
-      block) where
+  -- The dependencies of a row are in the list of all.
+  pub kept_within : (i : ℕ) (row : PackedRow) → slice_get parts.packed.rows.items i ≡ Some row → IsWithin parts.packed.numbers.items row
+  kept_within i row at = let found = kept_row i row at in found.packing.within
+
+  module _ (i : ℕ) (row : PackedRow) (block : Block) (at : slice_get parts.packed.rows.items i ≡ Some row) (placed : slice_get parts.blocks.items
+      row.block ≡ Some block) where
+    -- The block of the row that was read.
+    same_block : (found : KeptRow i row) → found.stands.block ≡ block
+    same_block found =
+        let read : slice_get parts.blocks.items row.block ≡ Some found.stands.block
+        = ap (slice_get parts.blocks.items) found.packing.block ∙ found.stands.placed in
+        cc
+
     -- The parts of an address are the address.
     pub kept_address : address_of d i ≡ Some (string_bytes block.front ++ string_bytes row.tail)
     kept_address =
         let found = kept_row i row at in
-        let u = found.0 in
-        let same : found.2.block ≡ block = let e = found.2.placed in cc in
-        ap (option_map (λ (v : Instance). instance_address v.path v.mode v.kind v.name v.key v.deposed)) found.1
+        let u = found.instance in
+        ap (option_map (λ (v : Instance). instance_address v.path v.mode v.kind v.name v.key v.deposed)) found.found
         ∙ ap Some (append_assoc (module_part u.path u.path ++ resource_part u.mode u.kind u.name) (key_part u.key) (deposed_part u.deposed)
-        ∙ ap (λ t. module_part u.path u.path ++ resource_part u.mode u.kind u.name ++ t) (sym found.2.tail)
-        ∙ ap (λ t. t ++ string_bytes row.tail) (sym found.2.front ∙ ap (λ (b : Block). string_bytes b.front) same))
+        ∙ ap (λ t. module_part u.path u.path ++ resource_part u.mode u.kind u.name ++ t) (sym (found.packing.tail ∙ found.stands.tail))
+        ∙ ap (λ t. t ++ string_bytes row.tail) (sym found.stands.front ∙ ap (λ (b : Block). string_bytes b.front) (same_block found)))
 
     -- The configuration address.
     pub kept_config : config_of d i ≡ Some (string_bytes block.config)
     kept_config =
         let found = kept_row i row at in
-        let same : found.2.block ≡ block = let e = found.2.placed in cc in
-        ap (option_and_then instance_config) found.1 ∙ found.2.config ∙ ap (λ (b : Block). Some (string_bytes b.config)) same
+        ap (option_and_then instance_config) found.found ∙ found.stands.config ∙ ap (λ (b : Block). Some (string_bytes b.config)) (same_block found)
 
     -- The block has the digests of its texts.
     pub kept_digests : HasDigests block
     kept_digests =
         let found = kept_row i row at in
-        let same : found.2.block ≡ block = let e = found.2.placed in cc in
-        subst HasDigests same found.2.digests
+        subst HasDigests (same_block found) found.stands.digests
 
     -- The number stands for the configuration address.
     kept_named : slice_get keeps.holds.stand.names block.number ≡ Some (string_bytes block.config)
     kept_named =
         let found = kept_row i row at in
-        let same : found.2.block ≡ block = let e = found.2.placed in cc in
-        subst (λ (b : Block). slice_get keeps.holds.stand.names b.number ≡ Some (string_bytes b.config)) same found.2.named
+        subst (λ (b : Block). slice_get keeps.holds.stand.names b.number ≡ Some (string_bytes b.config)) (same_block found) found.stands.named
 
     -- An instance depends on this one exactly where the number of the block is among its numbers.
-    pub kept_depends : (u : ℕ) (other : Row) → slice_get parts.rows.items u ≡ Some other
-        → IsTrue (list_any (λ y. nat_eq y block.number) other.dependencies.items) ↔ DependsOn d u i
+    pub kept_depends : (u : ℕ) (other : PackedRow) → slice_get parts.packed.rows.items u ≡ Some other
+        → IsTrue (list_any (λ y. nat_eq y block.number) (dependencies_of parts.packed.numbers.items other)) ↔ DependsOn d u i
     kept_depends u other there =
-        let found = kept_row u other there in (
+        let found = kept_row u other there in
+        subst (λ (ns : List ℕ). IsTrue (list_any (λ y. nat_eq y block.number) ns) ↔ DependsOn d u i) (sym found.packing.dependencies) (
           λ any. let text = text_of_number keeps.holds.stand.names block.number (string_bytes block.config) kept_named
-              other.dependencies.items found.0.dependencies found.2.dependencies any in
+              found.row.dependencies.items found.instance.dependencies found.stands.dependencies any in
               record {
-                instance = found.0;
-                found = found.1;
+                instance = found.instance;
+                found = found.found;
                 text = text.1;
                 place = text.0;
                 listed = text.2;
@@ -125,10 +151,10 @@ module _ (bytes : List ℕ) (parts : Content) (keeps : Keeps bytes parts) (d : D
                 same = kept_config;
               },
           λ depends.
-              let same : depends.instance ≡ found.0 = let e = depends.found in let f = found.1 in cc in
+              let same : depends.instance ≡ found.instance = let e = depends.found in let f = found.found in cc in
               let address : depends.address ≡ string_bytes block.config = let e = depends.same in let f = kept_config in cc in
               number_of_text keeps.holds.stand.names block.number (string_bytes block.config) kept_named keeps.holds.stand.apart
-              other.dependencies.items found.0.dependencies depends.place depends.text found.2.dependencies
+              found.row.dependencies.items found.instance.dependencies depends.place depends.text found.stands.dependencies
               (ap (λ (v : Instance). slice_get v.dependencies depends.place) (sym same) ∙ depends.listed)
               (depends.stripped ∙ ap Some address),
         )

@@ -6,6 +6,7 @@ pub mod ListLemmas
 pub mod MemoryLemmas
 pub mod NamesLemmas
 pub mod NumberingLemmas
+pub mod PackedLemmas
 pub mod ResultLemmas
 pub mod StateTextLemmas
 pub mod TablesLemmas

@@ -6,6 +6,7 @@ use Rattle.tfs_state.specs.Document.{Instance}
 use Rattle.tfs_state.specs.Names.{AreApart}
 use Rattle.tfs_state.specs.StateText.{content_of, text_content, instances_of}
 use Rattle.tfs_state.specs.StateText as text
+use Rattle.tfs_state.specs.Packed.{ArePacked}
 use Rattle.tfs_state.specs.Tables.{StandsFor}
 use Rattle.tfs_state.specs.declared.content.Content.{Content}
 use Rattle.tfs_state.specs.declared.tables.Block.{Block}
@@ -18,12 +19,14 @@ pub record Stand (blocks : List Block) (rows : List Row) (instances : List Insta
   pub apart : AreApart names
   pub each : AllZip (StandsFor names blocks) rows instances
 
--- The parts hold a content.
+-- The parts hold a content: their rows are those of a table that stands for its instances.
 pub record Holds (parts : Content) (content : text.Content) : Type 0 where
   pub serial : content.serial ≡ parts.serial
   pub lineage : content.lineage ≡ string_bytes parts.lineage
   pub limit : length content.instances ≤ 4096
-  pub stand : Stand parts.blocks.items parts.rows.items content.instances
+  pub rows : List Row
+  pub packed : ArePacked parts.packed rows
+  pub stand : Stand parts.blocks.items rows content.instances
 
 -- The content of a value was read.
 pub record ReadsContent (value : Data) (parts : Content) : Type 0 where

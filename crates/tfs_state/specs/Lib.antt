@@ -5,6 +5,7 @@ pub mod Document
 pub mod FirstFault
 pub mod Names
 pub mod Numbering
+pub mod Packed
 pub mod Parts
 pub mod Resources
 pub mod StateText

@@ -5,7 +5,8 @@ use Rattle.std.specs.List.{list_any}
 use Rattle.tfs_state.specs.Dependency.{DependsOn}
 use Rattle.tfs_state.specs.Document.{Document}
 use Rattle.tfs_state.specs.declared.tables.Block.{Block}
-use Rattle.tfs_state.specs.declared.tables.Row.{Row}
+use Rattle.tfs_state.specs.declared.packed.PackedRow.{PackedRow}
+use Rattle.tfs_state.specs.Packed.{IsWithin, dependencies_of}
 
 -- A number for each instance's configuration address, and a list of numbers for each instance's dependencies.
 pub record NumberTable : Type 0 where
@@ -22,13 +23,13 @@ pub record IsNumbering (d : Document) (table : NumberTable) : Type 0 where
 -- ---- in memory
 
 -- The number of a row's block.
-abbrev pub row_number : List Block → Row → ℕ
+abbrev pub row_number : List Block → PackedRow → ℕ
 row_number blocks row = unwrap_or (option_map (λ (block : Block). block.number) (slice_get blocks row.block)) 0
 
--- The numbers of rows.
-abbrev pub table_of : List Block → List Row → NumberTable
-table_of blocks rows = record { configs = map (row_number blocks) rows; dependencies = map (λ (row : Row). row.dependencies.items) rows }
+-- The numbers of rows, with those of all dependencies in one list.
+abbrev pub table_of : List Block → List PackedRow → List ℕ → NumberTable
+table_of blocks rows numbers = record { configs = map (row_number blocks) rows; dependencies = map (dependencies_of numbers) rows }
 
--- Each row has its block.
-abbrev pub HasBlocks : List Block → List Row → Type 0
-HasBlocks blocks rows = (i : ℕ) (row : Row) → slice_get rows i ≡ Some row → row.block < length blocks
+-- Each row has its block, and its dependencies in the list of all.
+abbrev pub Fits : List Block → List PackedRow → List ℕ → Type 0
+Fits blocks rows numbers = (i : ℕ) (row : PackedRow) → slice_get rows i ≡ Some row → (row.block < length blocks) × IsWithin numbers row

@@ -8,7 +8,8 @@ ghost use Rattle.tfs_state.specs.declared.fault.StateFault.TheVariants.{NoMemory
 
 use crate::fault::StateFault;
 use crate::members::{lineage_of, serial_of, version_of};
-use crate::tables::{Block, Row, Tables, block_at, row_at};
+use crate::packed::{Packed, PackedRow, pack, packed_row_at};
+use crate::tables::{Block, Tables, block_at};
 use serde_json::Value;
 use std::alloc::Global;
 use tfs_json::{JsonFault, list_at, read_value};
@@ -22,16 +23,16 @@ pub(crate) struct Content {
     pub(crate) serial: u64,
     pub(crate) lineage: String,
     pub(crate) blocks: Vec<Block>,
-    pub(crate) rows: Vec<Row>,
+    pub(crate) packed: Packed,
 }
 
 impl Content {
     /// The row at a place.
-    pub(crate) fn row(&self, place: usize) -> &Row
-        requires { place < length self.now.rows.items }
-        ensures { slice_get self.now.rows.items place ≡ Some result.now }
+    pub(crate) fn row(&self, place: usize) -> &PackedRow
+        requires { place < length self.now.packed.rows.items }
+        ensures { slice_get self.now.packed.rows.items place ≡ Some result.now }
     {
-        row_at(self.rows.as_slice(), place)
+        packed_row_at(self.packed.rows.as_slice(), place)
     }
 
     /// The block at a place.
@@ -71,12 +72,13 @@ fn read_content(alloc: Global, value: &Value) -> Result<Content, StateFault>
         return Err(StateFault::Lineage);
     };
     let Tables { blocks, rows, .. } = read_tables(alloc, value)?;
+    let packed = pack(alloc, rows)?;
     let lineage = String::from_str(alloc, lineage)?;
     Ok(Content {
         serial,
         lineage,
         blocks,
-        rows,
+        packed,
     })
 }
 
@@ -94,6 +96,5 @@ fn read_tables(alloc: Global, value: &Value) -> Result<Tables, StateFault>
     }
     tables.names.apart();
     tables.blocks.shrink_to_fit();
-    tables.rows.shrink_to_fit();
     Ok(tables)
 }

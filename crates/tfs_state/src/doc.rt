@@ -13,7 +13,8 @@ use crate::address::Address;
 use crate::content::{Content, read_text};
 use crate::fault::StateFault;
 use crate::numbers::Numbers;
-use crate::tables::{Block, Row};
+use crate::packed::{PackedRow, dependencies_at};
+use crate::tables::Block;
 use std::alloc::Global;
 use std::marker::Model;
 
@@ -82,7 +83,7 @@ impl Doc {
         ensures value { result ≡ length self.now.instances }
         ensures limit { result ≤ 4096 }
     {
-        self.content.rows.len()
+        self.content.packed.rows.len()
     }
 
     /// The address of an instance.
@@ -113,7 +114,7 @@ impl Doc {
     }
 
     /// The row of an instance, and its block.
-    fn row_and_block(&self, i: usize) -> (&Row, &Block)
+    fn row_and_block(&self, i: usize) -> (&PackedRow, &Block)
         requires { i < length self.now.instances }
         ensures address { address_of self.now i
             ≡ Some (string_bytes result.1.now.front ++ string_bytes result.0.now.tail) }
@@ -129,7 +130,11 @@ impl Doc {
     pub fn numbers(&self) -> Numbers<'_>
         ensures value { IsNumbering self.now result }
     {
-        Numbers::new(self.content.blocks.as_slice(), self.content.rows.as_slice())
+        Numbers::new(
+            self.content.blocks.as_slice(),
+            self.content.packed.rows.as_slice(),
+            self.content.packed.numbers.as_slice(),
+        )
     }
 
     /// Whether instance u depends on instance v.
@@ -141,7 +146,8 @@ impl Doc {
         let row = self.content.row(v);
         let block = self.content.block(row.block);
         let other = self.content.row(u);
-        has_number(other.dependencies.as_slice(), block.number)
+        let numbers = dependencies_at(self.content.packed.numbers.as_slice(), other);
+        has_number(numbers, block.number)
     }
 }
 

@@ -12,6 +12,7 @@ mod laws;
 mod members;
 mod names;
 mod numbers;
+mod packed;
 mod resource;
 mod tables;
 mod texts;

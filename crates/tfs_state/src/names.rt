@@ -52,7 +52,7 @@ impl Names {
 }
 
 /// The number in 32 bits: a state of 16 MiB has fewer texts than there are such numbers.
-fn short(number: usize) -> Result<u32, AllocError>
+pub(crate) fn short(number: usize) -> Result<u32, AllocError>
     ensures { IfOk result (λ n. n ≡ number) }
 {
     match u32::try_from(number) {

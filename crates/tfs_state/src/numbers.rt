@@ -2,7 +2,8 @@
 
 ghost use Rattle.std.specs.Prelude.{◌≡◌, ◌<◌, Some, length, slice_get};
 
-use crate::tables::{Block, Row, block_at, row_at};
+use crate::packed::{PackedRow, dependencies_at, packed_row_at};
+use crate::tables::{Block, block_at};
 use std::marker::Model;
 
 /// The configuration addresses and the dependencies of a document's instances as numbers, lent: an instance depends on another
@@ -10,28 +11,33 @@ use std::marker::Model;
 #[derive(Drop)]
 pub struct Numbers<'a> {
     blocks: &'a [Block],
-    rows: &'a [Row],
+    rows: &'a [PackedRow],
+    numbers: &'a [u32],
 }
 
 impl<'a> Model for Numbers<'a> {
-    ghost use Rattle.tfs_state.specs.Numbering.{NumberTable, table_of, HasBlocks};
+    ghost use Rattle.tfs_state.specs.Numbering.{NumberTable, table_of, Fits};
 
     ghost Value = { NumberTable };
 
-    ghost view = { λ n. table_of n.blocks.now n.rows.now };
+    ghost view = { λ n. table_of n.blocks.now n.rows.now n.numbers.now };
 
-    ghost invariant = { λ n. HasBlocks n.blocks.now n.rows.now };
+    ghost invariant = { λ n. Fits n.blocks.now n.rows.now n.numbers.now };
 }
 
 impl<'a> Numbers<'a> {
-    ghost use Rattle.tfs_state.specs.Numbering.{table_of, HasBlocks};
+    ghost use Rattle.tfs_state.specs.Numbering.{table_of, Fits};
 
-    /// The numbers of these rows.
-    pub(crate) fn new(blocks: &'a [Block], rows: &'a [Row]) -> Numbers<'a>
-        requires { HasBlocks blocks.now rows.now }
-        ensures { result ≡ table_of blocks.now rows.now }
+    /// The numbers of these rows, whose dependencies stand in a list of all.
+    pub(crate) fn new(blocks: &'a [Block], rows: &'a [PackedRow], numbers: &'a [u32]) -> Numbers<'a>
+        requires { Fits blocks.now rows.now numbers.now }
+        ensures { result ≡ table_of blocks.now rows.now numbers.now }
     {
-        Numbers { blocks, rows }
+        Numbers {
+            blocks,
+            rows,
+            numbers,
+        }
     }
 
     /// The number of an instance's configuration address.
@@ -39,7 +45,7 @@ impl<'a> Numbers<'a> {
         requires { v < length self.now.configs }
         ensures value { slice_get self.now.configs v ≡ Some result }
     {
-        let row = row_at(self.rows, v);
+        let row = packed_row_at(self.rows, v);
         let block = block_at(self.blocks, row.block);
         block.number
     }
@@ -49,7 +55,7 @@ impl<'a> Numbers<'a> {
         requires { u < length self.now.dependencies }
         ensures value { slice_get self.now.dependencies u ≡ Some result.now }
     {
-        let row = row_at(self.rows, u);
-        row.dependencies.as_slice()
+        let row = packed_row_at(self.rows, u);
+        dependencies_at(self.numbers, row)
     }
 }

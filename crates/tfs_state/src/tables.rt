@@ -30,7 +30,7 @@ pub(crate) struct Block {
     pub(crate) number: u32,
 }
 
-/// An instance: the place of its block, what its address ends with, and the numbers of its dependencies.
+/// An instance as it was read: the place of its block, what its address ends with, and the numbers of its dependencies.
 #[derive(Drop)]
 pub(crate) struct Row {
     pub(crate) block: usize,
@@ -229,14 +229,6 @@ fn keep<T: Drop>(list: &mut Vec<T>, element: T) -> Result<(), AllocError>
 {
     list.push(element)?;
     Ok(())
-}
-
-/// The row at a place.
-pub(crate) fn row_at(rows: &[Row], place: usize) -> &Row
-    requires { place < length rows.now }
-    ensures { slice_get rows.now place ≡ Some result.now }
-{
-    &rows[place]
 }
 
 /// The block at a place.

@@ -24,8 +24,13 @@ returns-in_err-blocks-clause-err c = err_carried c.from_residual.result c.in_err
 
 pub returns-clause-ok : goal.returns-clause-ok
 returns-clause-ok c = content_read (view c.args.value.now)
-    (record { serial = c.in-Some.serial; lineage = c.in_ok-lineage.lineage; blocks = c.in_ok-blocks.field-0.blocks; rows = c.in_ok-blocks.field-0.rows })
+    (record {
+      serial = c.in-Some.serial;
+      lineage = c.in_ok-lineage.lineage;
+      blocks = c.in_ok-blocks.field-0.blocks;
+      packed = c.in_ok-packed.packed;
+    })
     c.in_ok-blocks.field-0
     (right_version (view c.args.value.now) c.version_of.result c.version_of.ensures c.if-ne.ensures)
     (sym c.in-Some.ensures) (sym c.in-Some-lineage_of.ensures ∙ ap Some (sym c.in_ok-lineage.ensures.ok))
-    c.in_ok-blocks.ensures.ok refl refl
+    c.in_ok-blocks.ensures.ok refl c.in_ok-packed.ensures

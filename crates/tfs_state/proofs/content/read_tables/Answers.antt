@@ -1,5 +1,5 @@
 -- The instances of a value, or the first fault of its resources.
-use Rattle.std.proofs.Common.{arith, map}
+use Rattle.std.proofs.Common.{arith, map, refl}
 use Rattle.serde_json.specs.View.{view}
 use Rattle.tfs_state.proofs.ContentsLemmas.{no_list, refused_resource, many_instances, instances_read}
 use Rattle.tfs_state.proofs.ResultLemmas.{err_carried}
@@ -19,5 +19,5 @@ returns-then-len-gt-MAX_INSTANCES-clause-err c _ = many_instances (view c.args.v
 
 pub returns-clause-ok : goal.returns-clause-ok
 returns-clause-ok c = instances_read (view c.args.value.now) (map view c.in-Some.list.now) c.in_ok-tables.tables
-    (record { blocks = c.shrink_to_fit.new.self; rows = c.shrink_to_fit-2.new.self; names = c.in_ok-tables.tables.names })
-    c.in-Some.ensures.value c.in_ok-tables.ensures.ok c.apart.ensures (omega arith) c.shrink_to_fit.ensures.items c.shrink_to_fit-2.ensures.items
+    (record { blocks = c.shrink_to_fit.new.self; rows = c.in_ok-tables.tables.rows; names = c.in_ok-tables.tables.names })
+    c.in-Some.ensures.value c.in_ok-tables.ensures.ok c.apart.ensures (omega arith) c.shrink_to_fit.ensures.items refl
