@@ -49,7 +49,8 @@ def check_a_conversation_ends_after_a_request_that_asks_to_close():
         b'Connection: "close"\r\n',
     ]
     for more in closing:
-        expect(run(request(b"GET", more) + GET), (CLOSING_NO_STATE, ASKED, b""), more)
+        for behind in (GET, b"", b"GET", b"x\n\n"):
+            expect(run(request(b"GET", more) + behind), (CLOSING_NO_STATE, ASKED, b""), (more, behind))
     for more in staying:
         expect(run(request(b"GET", more) + GET), (NO_STATE * 2, CLEAN, b""), more)
     done = b"HTTP/1.1 200 OK\r\nConnection: close\r\nContent-Length: 0\r\n\r\n"

@@ -1,16 +1,12 @@
 //! Conversations over a table, with replies worked out by hand.
 
 mod bodies;
-mod closing;
 mod commands;
 mod cuts;
 mod desks;
 mod faults;
-mod impacts;
 mod limits;
-mod locks;
 mod pipes;
-mod replies;
 mod stops;
 mod writes;
 
@@ -52,21 +48,6 @@ fn talk<R: io::Read, W: io::Write, K: Sink>(
     converse_over_table(alloc, reader, writer, table, &mut Reads::new())
 }
 
-/// The input in one piece is answered with this output and this end.
-fn expect_end<K: Sink>(
-    rt: &(impl Alloc<A = Global> + Abort),
-    table: &mut Table<K>,
-    input: &str,
-    output: &str,
-    end: Ended,
-) {
-    let mut reader = input.as_bytes();
-    let mut writer = Vec::new(rt.alloc());
-    let ended = talk(rt.alloc(), &mut reader, &mut writer, table);
-    assert!(rt; ended == Ok(end), "{input}");
-    assert!(rt; writer.as_slice() == output.as_bytes(), "{input}");
-}
-
 /// The input in one piece is answered with this output, and the conversation is Clean.
 fn expect<K: Sink>(
     rt: &(impl Alloc<A = Global> + Abort),
@@ -74,7 +55,11 @@ fn expect<K: Sink>(
     input: &str,
     output: &str,
 ) {
-    expect_end(rt, table, input, output, Ended::Clean);
+    let mut reader = input.as_bytes();
+    let mut writer = Vec::new(rt.alloc());
+    let ended = talk(rt.alloc(), &mut reader, &mut writer, table);
+    assert!(rt; ended == Ok(Ended::Clean), "{input}");
+    assert!(rt; writer.as_slice() == output.as_bytes(), "{input}");
 }
 
 /// A push of the text to `a`.

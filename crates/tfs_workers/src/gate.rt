@@ -29,11 +29,13 @@ pub trait Gate {
 pub struct Open;
 
 impl Gate for Open {
-    ghost use Rattle.std.specs.Prelude.{None};
+    ghost use Rattle.std.specs.Prelude.{◌≡◌, None, true};
 
     ghost told = { λ gate. None };
 
-    fn admit(&mut self) -> bool {
+    fn admit(&mut self) -> bool
+        ensures open { result ≡ true }
+    {
         true
     }
 

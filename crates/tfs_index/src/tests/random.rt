@@ -3,7 +3,7 @@ ghost use Rattle.std.specs.Prelude.{◌<◌, ◌≤◌};
 
 use super::expect;
 use super::states::{resources, version_of};
-use crate::plain;
+use crate::{Version, plain};
 use std::alloc::Global;
 use std::process::Abort;
 use std::test::Fail;
@@ -71,6 +71,23 @@ fn random_state(rt: &impl Alloc<A = Global>, seed: u64, count: u64) -> Result<St
     resources(rt, list.as_str())
 }
 
+/// The answers of a version to some texts are those of the plain search: whether an instance is among those of `any`.
+fn agrees(rt: &(impl Alloc<A = Global> + Abort), version: &Version, texts: &[&str]) -> bool {
+    let any = plain::any(rt.alloc(), version.doc(), texts);
+    let all = plain::all(rt.alloc(), version.doc(), texts);
+    match (any, all) {
+        (Ok(any), Ok(all)) => {
+            expect(rt, version, texts, Ok(any.as_slice()), Ok(all.as_slice()));
+            !any.is_empty()
+        }
+        (Err(any), Err(all)) => {
+            expect(rt, version, texts, Err(any), Err(all));
+            false
+        }
+        _ => panic!(rt; "one of the two is a fault"),
+    }
+}
+
 #[test]
 fn versions_of_random_states_agree_with_the_plain_search(rt: HostRuntime) -> Result<(), Fail> {
     let mut answered: usize = 0;
@@ -84,24 +101,8 @@ fn versions_of_random_states_agree_with_the_plain_search(rt: HostRuntime) -> Res
             ["t.c1", "module.m[1].t.c1[\"k\"]"],
             ["module.m.t.c2", "t.c0"],
         ] {
-            let doc = version.doc();
-            let any = plain::any(rt.alloc(), doc, &texts);
-            let all = plain::all(rt.alloc(), doc, &texts);
-            if let Ok(numbers) = &any {
-                answered = answered.saturating_add(usize::from(!numbers.is_empty()));
-            }
-            match (any, all) {
-                (Ok(any), Ok(all)) => {
-                    expect(
-                        &rt,
-                        &version,
-                        &texts,
-                        Ok(any.as_slice()),
-                        Ok(all.as_slice()),
-                    );
-                }
-                (Err(any), Err(all)) => expect(&rt, &version, &texts, Err(any), Err(all)),
-                _ => panic!(rt; "one of the two is a fault"),
+            if agrees(&rt, &version, texts.as_slice()) {
+                answered = answered.saturating_add(1);
             }
         }
     }
