@@ -8,7 +8,7 @@
 #include <string.h>
 #include <time.h>
 
-enum { ROUNDS = 40, TURNS = 20000, BLOCKS = 10, MOST = 64 };
+enum { ROUNDS = 40, TURNS = 200000, BLOCKS = 10, MOST = 64 };
 
 static double now(void) {
     struct timespec time;

@@ -73,7 +73,7 @@ fn print_counts<R: Threads + Wait + Clock + Print + AllocGlobal + Sync>(rt: &R) 
 /// Prints the shortest times of all rounds, in each of which all that is compared takes its turn.
 fn print_times<R: Threads + Wait + Clock + Print + AllocGlobal + Sync>(rt: &R) -> Result<()> {
     let sessions = thread::available_parallelism(rt)?.get().clamp(2, 16);
-    let turns = 20_000;
+    let turns = 200_000;
     let mut best = ask(rt, sessions, turns)?;
     let count = PUSHES;
     let mut applied = apply(rt, count)?;
