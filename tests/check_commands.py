@@ -18,11 +18,12 @@ FOLDER = tempfile.TemporaryDirectory(prefix="tfstated-")
 FIRST, SECOND = b"TFJ1\n", b"TFJ2\n"
 A, B = b'{"ID":"A" ,"Who":""}', b'{"ID":"B"}'
 PUSH, LOCK = record_text(3, b"a", push_content(b"", S1)), record_text(1, b"a", B)
+UNLOCK = record_text(2, b"a", b"B")
 TEXT = FIRST + PUSH + LOCK
 REBASED = SECOND + base_text(2, [(b"a", B, S1)])
 METHODS = {"lock": "LOCK", "unlock": "UNLOCK", "push": "POST", "delete": "DELETE"}
 STATUSES = {"whole": 0, "torn": 3, "damaged": 4}
-MAX_POSITION = 2**62
+MAX_POSITION, MAX_NAMES = 2**62, 1024
 
 
 def path_of(name, content=None):
@@ -66,9 +67,18 @@ def check_records_and_their_end_are_listed():
         (FIRST + later + PUSH, ["1 push a", "2 push a", "unlawful 2"], 5), (REBASED, ["base 2 1", "whole"], 0),
         (REBASED + later, ["base 2 1", "1 push a", "unlawful 1"], 5), (REBASED[:91], ["torn 5"], 3),
         (REBASED + LOCK[:20], ["base 2 1", "torn 92"], 3), (REBASED + b"\0", ["base 2 1", "damaged 92"], 4),
+        (REBASED + UNLOCK + later, ["base 2 1", "1 unlock a", "2 push a", "whole"], 0),
+        ((FIRST + later + PUSH)[:-1], ["1 push a", "torn 71"], 3),
     ]
     for data, lines, status in table:
         expect(check(data), (told(*lines), status, b""), data)
+
+
+def check_the_1025th_name_is_unlawful():
+    locks = [record_text(1, b"n%d" % number, B) for number in range(MAX_NAMES + 1)]
+    lines = [f"{number + 1} lock n{number}" for number in range(MAX_NAMES + 1)]
+    expect(check(FIRST + b"".join(locks[:-1])), (told(*lines[:-1], "whole"), 0, b""), "1,024 names")
+    expect(check(FIRST + b"".join(locks)), (told(*lines, f"unlawful {MAX_NAMES + 1}"), 5, b""), "one more")
 
 
 def check_a_journal_goes_on_from_a_base():
@@ -84,7 +94,8 @@ def check_faults_of_a_rebase():
     expect(rebase(most), (told(f"rebased {MAX_POSITION} 0"), 0, b"", most))
     changed = REBASED[:30] + bytes([REBASED[30] ^ 1]) + REBASED[31:]
     unlawful = FIRST + record_text(3, b"a", push_content(b"", S2)) + PUSH
-    table = [(changed, 4, b"Damaged"), (REBASED[:50], 3, b"TornBase"), (unlawful, 5, b"Unlawful"), (SECOND + far + PUSH, 1, b"TooFar")]
+    table = [(changed, 4, b"Damaged"), (REBASED[:50], 3, b"TornBase"), (unlawful, 5, b"Unlawful"),
+             (unlawful + b"\t", 4, b"Damaged"), (SECOND + far + PUSH, 1, b"TooFar")]
     for data, status, name in table:
         expect(rebase(data), (b"", status, b"tfstated: " + name + b"\n", b""), name)
 

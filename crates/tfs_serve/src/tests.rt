@@ -5,7 +5,6 @@ mod commands;
 mod cuts;
 mod desks;
 mod faults;
-mod limits;
 mod pipes;
 mod stops;
 mod writes;

@@ -138,10 +138,3 @@ fn has_state<K: Sink>(
     }
     Ok(())
 }
-
-/// The name of a number.
-fn numbered(rt: &(impl Alloc<A = Global> + Abort), number: u64) -> Result<Name, Fail> {
-    let mut text = String::new(rt.alloc());
-    write!(text, "n{number}")?;
-    Ok(Name::read(text).expect(rt, "a name"))
-}

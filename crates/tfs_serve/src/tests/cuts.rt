@@ -3,58 +3,10 @@
 use super::pipes::{Pieces, Taking};
 use super::*;
 
-#[test]
-fn a_push_and_a_read_are_answered_however_they_are_cut(rt: HostRuntime) -> Result<(), Fail> {
-    for cut in 0..PUSH_AND_READ.len() {
-        let mut table = table_of(&rt);
-        let mut reader = Pieces::new(PUSH_AND_READ, usize::MAX);
-        reader.before_cut = cut;
-        let mut writer = Vec::new(rt.alloc());
-        let ended = talk(rt.alloc(), &mut reader, &mut writer, &mut table);
-        assert!(rt; ended == Ok(Ended::Clean), "{cut}");
-        assert!(rt; writer.as_slice() == BOTH_REPLIES.as_bytes(), "{cut}");
-    }
-    for most in [1, 2, 3, 7, 64] {
-        let mut table = table_of(&rt);
-        let mut reader = Pieces::new(PUSH_AND_READ, most);
-        let mut writer = Taking::new(rt.alloc(), 1);
-        let ended = talk(rt.alloc(), &mut reader, &mut writer, &mut table);
-        assert!(rt; ended == Ok(Ended::Clean), "{most}");
-        assert!(rt;
-            writer.taken.as_slice() == BOTH_REPLIES.as_bytes(),
-            "{most}"
-        );
-        assert_eq!(rt; table.len(), 1);
-    }
-    Ok(())
-}
-
 /// The same push in chunks, behind empty lines and with a trailer, and the same read.
 const CHUNKS_AND_READ: &str =
     "\r\n\n\r\nPOST /state/a HTTP/1.1\r\nHost: h\r\nTransfer-Encoding: chunked\r\n\r\n\
      0B;x=y\r\n{\"version\":\r\n1e\r\n4, \"serial\":1 ,\"lineage\":\"L1\"}\r\n000\r\nA: b\nB:\r\n\r\nGET /state/a HTTP/1.1\r\nHost: h\r\n\r\n";
-
-#[test]
-fn a_push_in_chunks_is_answered_however_it_is_cut(rt: HostRuntime) -> Result<(), Fail> {
-    for cut in 0..CHUNKS_AND_READ.len() {
-        let mut table = table_of(&rt);
-        let mut reader = Pieces::new(CHUNKS_AND_READ, usize::MAX);
-        reader.before_cut = cut;
-        let mut writer = Vec::new(rt.alloc());
-        let ended = talk(rt.alloc(), &mut reader, &mut writer, &mut table);
-        assert!(rt; ended == Ok(Ended::Clean), "{cut}");
-        assert!(rt; writer.as_slice() == BOTH_REPLIES.as_bytes(), "{cut}");
-    }
-    for most in [1, 2, 3, 7, 64] {
-        let mut table = table_of(&rt);
-        let mut reader = Pieces::new(CHUNKS_AND_READ, most);
-        let mut writer = Vec::new(rt.alloc());
-        let ended = talk(rt.alloc(), &mut reader, &mut writer, &mut table);
-        assert!(rt; ended == Ok(Ended::Clean), "{most}");
-        assert!(rt; writer.as_slice() == BOTH_REPLIES.as_bytes(), "{most}");
-    }
-    Ok(())
-}
 
 /// Where the head of the push in chunks has ended, and where its body has.
 const CHUNKS_HEAD_BYTES: usize = 68;
@@ -100,33 +52,6 @@ fn a_reader_that_fails_amid_chunks_breaks_off(rt: HostRuntime) -> Result<(), Fai
 }
 
 #[test]
-fn a_chunk_that_cannot_be_ends_the_conversation(rt: HostRuntime) -> Result<(), Fail> {
-    let bad =
-        "HTTP/1.1 400 Bad Request\r\nConnection: close\r\nContent-Type: application/json\r\nContent-Length: 20\r\n\r\n{\"error\":\"BadChunk\"}";
-    let large =
-        "HTTP/1.1 413 Content Too Large\r\nConnection: close\r\nContent-Type: application/json\r\nContent-Length: 24\r\n\r\n{\"error\":\"BodyTooLarge\"}";
-    for (chunks, reply) in [
-        ("2\r\n{}xy", bad),
-        ("2\r\n{}\r\ng\r\n", bad),
-        ("1\r\n{\r\n1000000\r\n", large),
-    ] {
-        let input = format!(in rt.alloc();
-            "POST /state/a HTTP/1.1\r\nHost: h\r\nTransfer-Encoding: chunked\r\n\r\n{chunks}{PUSH_AND_READ}"
-        )?;
-        for most in [1, usize::MAX] {
-            let mut table = table_of(&rt);
-            let mut writer = Vec::new(rt.alloc());
-            let mut reader = Pieces::new(input.as_str(), most);
-            let ended = talk(rt.alloc(), &mut reader, &mut writer, &mut table);
-            assert!(rt; ended == Ok(Ended::Refused), "{chunks}");
-            assert!(rt; writer.as_slice() == reply.as_bytes(), "{chunks}");
-            assert_eq!(rt; table.len(), 0);
-        }
-    }
-    Ok(())
-}
-
-#[test]
 fn the_input_is_read_to_its_end(rt: HostRuntime) -> Result<(), Fail> {
     for cut in [0, 1, 53, 95, 96, 129] {
         let mut table = table_of(&rt);
@@ -143,47 +68,6 @@ fn the_input_is_read_to_its_end(rt: HostRuntime) -> Result<(), Fail> {
     let ended = talk(rt.alloc(), &mut reader, &mut writer, &mut table);
     assert!(rt; ended == Ok(Ended::Cut));
     assert!(rt; reader.told_end);
-    Ok(())
-}
-
-#[test]
-fn an_input_that_is_cut_short_has_the_replies_to_its_whole_messages(
-    rt: HostRuntime,
-) -> Result<(), Fail> {
-    for len in 0..PUSH_AND_READ.len() + 1 {
-        let mut table = table_of(&rt);
-        let mut reader = PUSH_AND_READ.as_bytes().split_at(len).0;
-        let mut writer = Vec::new(rt.alloc());
-        let ended = talk(rt.alloc(), &mut reader, &mut writer, &mut table);
-        let (written, end) = match len {
-            0 => (0, Ended::Clean),
-            1..=95 => (0, Ended::Cut),
-            96 => (PUSH_REPLY_BYTES, Ended::Clean),
-            97..=129 => (PUSH_REPLY_BYTES, Ended::Cut),
-            _ => (BOTH_REPLIES.len(), Ended::Clean),
-        };
-        assert!(rt; ended == Ok(end), "{len}");
-        let wanted = BOTH_REPLIES.as_bytes().split_at(written).0;
-        assert!(rt; writer.as_slice() == wanted, "{len}");
-    }
-    Ok(())
-}
-
-#[test]
-fn a_long_body_comes_in_pieces(rt: HostRuntime) -> Result<(), Fail> {
-    let mut body = String::from_str(rt.alloc(), S1)?;
-    for _ in 0..300_000 {
-        body.push(' ')?;
-    }
-    let push = push_of(&rt, body.as_str())?;
-    for most in [64, 65_536, usize::MAX] {
-        let mut table = table_of(&rt);
-        let mut writer = Vec::new(rt.alloc());
-        let mut reader = Pieces::new(push.as_str(), most);
-        let ended = talk(rt.alloc(), &mut reader, &mut writer, &mut table);
-        assert!(rt; ended == Ok(Ended::Clean), "{most}");
-        assert!(rt; writer.as_slice() == DONE.as_bytes(), "{most}");
-    }
     Ok(())
 }
 

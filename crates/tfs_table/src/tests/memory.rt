@@ -2,16 +2,30 @@
 //! N-th request of each test.
 
 use super::opened::{TEXT_92, TEXT_104, bytes_of};
-use super::tables::{TWO, query_of};
 use super::{Change, S1, draft_of, has_state, name_of};
 use crate::{OpenFault, Prepared, Table, first_unlawful};
 use std::alloc::{AllocError, Global};
 use std::process::Abort;
 use std::test::Fail;
-use tfs_calls::{Draft, Query, Refusal};
+use tfs_calls::{Draft, Kind, Query, Refusal, Text, Texts};
 use tfs_journal::Discard;
 use tfs_reading::decode;
 use tfs_rules::Name;
+
+/// Two instances, of which the second depends on the first.
+const TWO: &str = "{\"version\":4,\"serial\":2,\"lineage\":\"L1\",\"resources\":[\
+{\"mode\":\"managed\",\"type\":\"t\",\"name\":\"a\",\"instances\":[{}]},\
+{\"mode\":\"managed\",\"type\":\"t\",\"name\":\"b\",\"instances\":[{\"dependencies\":[\"t.a\"]}]}]}";
+
+/// The query for all that a change of one address reaches.
+fn query_of(rt: &impl Alloc<A = Global>, text: &str) -> Result<Query, AllocError> {
+    let mut texts = Vec::new(rt.alloc());
+    texts.push(Text::new(String::from_str(rt.alloc(), text)?))?;
+    Ok(Query {
+        kind: Kind::Any,
+        texts: Texts::new(texts),
+    })
+}
 
 /// The push of TWO to `a` by B.
 fn push_of(rt: &(impl Alloc<A = Global> + Abort)) -> Result<(Name, Draft), AllocError> {

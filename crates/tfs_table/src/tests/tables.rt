@@ -1,14 +1,11 @@
 //! Tables over sinks in memory.
 
-use super::{
-    A, B, Change, S1, S2, are_answered, draft_of, has_state, is_done, is_refused, name_of, numbered,
-};
+use super::{A, B, Change, S1, S2, are_answered, draft_of, has_state, name_of};
 use crate::{OpenFault, Prepared, Ready, Table};
-use std::alloc::{AllocError, Global};
+use std::alloc::Global;
 use std::process::Abort;
 use std::test::Fail;
-use tfs_calls::{Kind, Query, Refusal, Text, Texts};
-use tfs_journal::{Discard, MemorySink, Sink};
+use tfs_journal::{Discard, MemorySink};
 
 #[test]
 fn a_push_and_a_lock_take_130_bytes(rt: HostRuntime) -> Result<(), Fail> {
@@ -78,37 +75,6 @@ fn a_sink_may_fail_at_each_call(rt: HostRuntime) -> Result<(), Fail> {
     Ok(())
 }
 
-#[test]
-fn there_are_1024_names(rt: HostRuntime) -> Result<(), Fail> {
-    let mut table = Table::new(rt.alloc(), Discard).ok().expect(&rt, "a table");
-    for number in 0..1024 {
-        let draft = draft_of(&rt, Change::Lock(B))?.ok().expect(&rt, "a draft");
-        let given = table.apply(numbered(&rt, number)?, draft);
-        assert!(rt; given.ok() == Some(number + 1), "{number}");
-    }
-    is_refused(&rt, &mut table, "n1024", Change::Lock(B), "TableFull")?;
-    is_done(&rt, &mut table, "n0", Change::Unlock(B), 1025)?;
-    for number in 1..1024 {
-        assert!(rt; table.holder(&numbered(&rt, number)?).is_some(), "{number}");
-    }
-    let name = table.name(1000).expect(&rt, "a name");
-    assert!(rt; name.text() == "n1000" && table.name(1024).is_none());
-    Ok(())
-}
-
-#[test]
-fn there_are_65536_entries(rt: HostRuntime) -> Result<(), Fail> {
-    let mut table = Table::new(rt.alloc(), Discard).ok().expect(&rt, "a table");
-    for number in 0..65_536 {
-        let draft = draft_of(&rt, Change::Lock(B))?.ok().expect(&rt, "a draft");
-        let given = table.apply(name_of(&rt, "a")?, draft);
-        assert!(rt; given.ok() == Some(number + 1), "{number}");
-    }
-    is_refused(&rt, &mut table, "a", Change::Unlock(B), "JournalFull")?;
-    is_refused(&rt, &mut table, "z", Change::Lock(B), "JournalFull")?;
-    has_state(&rt, &table, "a", "")
-}
-
 /// A lock of `a` that a table has accepted.
 fn lock_of(
     rt: &(impl Alloc<A = Global> + Abort),
@@ -138,61 +104,4 @@ fn the_version_is_of_the_new_state(rt: HostRuntime) -> Result<(), Fail> {
     assert!(rt; version.doc().bytes() == S1.as_bytes());
     assert!(rt; ready.name().text() == "a");
     Ok(())
-}
-
-/// Two instances, of which the second depends on the first.
-pub(super) const TWO: &str = "{\"version\":4,\"serial\":2,\"lineage\":\"L1\",\"resources\":[\
-{\"mode\":\"managed\",\"type\":\"t\",\"name\":\"a\",\"instances\":[{}]},\
-{\"mode\":\"managed\",\"type\":\"t\",\"name\":\"b\",\"instances\":[{\"dependencies\":[\"t.a\"]}]}]}";
-
-/// The query for all that a change of one address reaches.
-pub(super) fn query_of(rt: &impl Alloc<A = Global>, text: &str) -> Result<Query, AllocError> {
-    let mut texts = Vec::new(rt.alloc());
-    texts.push(Text::new(String::from_str(rt.alloc(), text)?))?;
-    Ok(Query {
-        kind: Kind::Any,
-        texts: Texts::new(texts),
-    })
-}
-
-#[test]
-fn a_query_is_answered_over_the_state(rt: HostRuntime) -> Result<(), Fail> {
-    let mut table = Table::new(rt.alloc(), Discard).ok().expect(&rt, "a table");
-    let name = name_of(&rt, "a")?;
-    let none = table.impact(&name, &query_of(&rt, "t.a")?);
-    assert!(rt; none.err().expect(&rt, "refused").name() == "NoState");
-    is_done(&rt, &mut table, "a", Change::Push(None, TWO), 1)?;
-    let unknown = table.impact(&name, &query_of(&rt, "x.y")?);
-    assert!(rt; unknown.err().expect(&rt, "refused").name() == "UnknownAddress");
-    let answer = table
-        .impact(&name, &query_of(&rt, "t.a")?)
-        .ok()
-        .expect(&rt, "an answer");
-    assert!(rt; answer.chosen.as_slice() == [1].as_slice());
-    assert_eq!(rt; answer.position, 1);
-    assert!(rt; answer.version.doc().serial() == 2);
-    Ok(())
-}
-
-/// A table of a push and a lock, rebased over a sink in memory.
-fn rebased(rt: &(impl Alloc<A = Global> + Abort)) -> Result<Table<MemorySink>, Fail> {
-    let mut old = Table::new(rt.alloc(), Discard).ok().expect(rt, "a table");
-    let changes = [(Change::Push(None, S1), Ok(1)), (Change::Lock(B), Ok(2))];
-    are_answered(rt, &mut old, changes.as_slice())?;
-    let sink = MemorySink::new(rt.alloc(), 4096, 100);
-    Ok(old.rebase(sink).ok().expect(rt, "a table"))
-}
-
-#[test]
-fn a_rebased_table_goes_on_where_the_old_one_was(rt: HostRuntime) -> Result<(), Fail> {
-    let mut table = rebased(&rt)?;
-    assert_eq!(rt; table.sink().bytes().len(), 92);
-    assert_eq!(rt; table.base().position(), 2);
-    assert_eq!(rt; table.len(), 0);
-    has_state(&rt, &table, "a", S1)?;
-    let changes = [
-        (Change::Push(None, S2), Err("Locked")),
-        (Change::Push(Some("B"), S2), Ok(3)),
-    ];
-    are_answered(&rt, &mut table, changes.as_slice())
 }
