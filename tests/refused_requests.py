@@ -24,11 +24,16 @@ def build_shim():
 
 
 def built(crate):
-    """The program of a crate. `rt ci` leaves it built; where it isn't there it is proved and built now."""
-    program = TOP / "crates" / crate / "out" / crate
-    where = {"cwd": TOP / "crates" / crate, "stdin": subprocess.DEVNULL, "stdout": subprocess.DEVNULL, "check": False}
-    if not program.is_file() and subprocess.run(["rt", "run"], **where).returncode:
-        sys.exit(f"the program can't be built: see `rt run` in crates/{crate}")
+    """The program of a crate. `rt ci` leaves it built; where it isn't there it is proved, built and run once now, as `rt ci` runs it."""
+    folder = TOP / "crates" / crate
+    program, args, given = (folder / name for name in (f"out/{crate}", "args", "stdin"))
+    if not program.is_file():
+        words = args.read_text(encoding="utf-8").split("\n") if args.is_file() else []
+        with open(given if given.is_file() else os.devnull, "rb") as text:
+            command = ["rt", "run", "--", *filter(None, words)]
+            ran = subprocess.run(command, cwd=folder, stdin=text, stdout=subprocess.DEVNULL, check=False)
+        if ran.returncode:
+            sys.exit(f"the program can't be built: see `rt run` in crates/{crate}")
     return str(program)
 
 
