@@ -10,10 +10,10 @@ use Rattle.tfs_journal.proofs.entry.Entry.TheSendSync as entry
 use Rattle.tfs_journal.proofs.out.Out.TheSendSync as out
 use Rattle.tfs_table.specs.contracts.table.Table as Table
 use Rattle.tfs_table.proofs.workspace.Workspace.TheSendSync as workspace
-use Rattle.tfs_shared.specs.declared.naming.Naming as naming
+use Rattle.tfs_published.specs.declared.naming.Naming as naming
 use Rattle.tfs_shared.specs.contracts.held.Held as Held
 use Rattle.tfs_shared.specs.contracts.shared.Shared as Shared
-use Rattle.tfs_shared.proofs.board.Board.TheSendSync as board
+use Rattle.tfs_published.proofs.board.Board.TheSendSync as board
 
 -- A table may go where its sink may.
 pub table_send : (K : RattleType) (g : sink.Ghosts K.Denot) → IsSend K → IsSend (Table.the_row K g)

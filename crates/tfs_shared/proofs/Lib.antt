@@ -1,13 +1,4 @@
-pub mod Adding
-pub mod Boards
 pub mod Captures
 pub mod Crossing
-pub mod Finding
-pub mod Places
-pub mod Prefixes
 pub mod Refusing
-pub mod Room
-pub mod Seeing
 pub mod Shares
-pub mod Taken
-pub mod Views

@@ -7,7 +7,8 @@ use Rattle.tfs_calls.specs.Reply.{refused}
 use Rattle.tfs_calls.specs.Transition.{open_model}
 use Rattle.tfs_table.specs.Lawful.{IsLawful}
 use Rattle.tfs_shared.specs.Locked.{AnswersChange}
-use Rattle.tfs_shared.specs.View.{SessionView, BeginsWith}
+use Rattle.tfs_published.specs.Beginning.{BeginsWith}
+use Rattle.tfs_shared.specs.View.{SessionView}
 
 -- Want of memory is an answer to any change over a lawful journal that begins with what the session had seen.
 pub lacks_memory : (name : List ℕ) (act : ActValue) (old new : SessionView) (j : Journal) → IsLawful j → BeginsWith j old.journal → new.journal ≡ j

@@ -2,7 +2,7 @@
 use Rattle.std.specs.Prelude.{◌≡◌, ℕ, ◌+◌, length, false, None}
 use Rattle.tfs_journal.specs.Journal.{Journal}
 use Rattle.tfs_table.specs.Table.{TableValue}
-use Rattle.tfs_shared.specs.Board.{BoardView}
+use Rattle.tfs_published.specs.Board.{BoardView}
 
 -- What callers see: the table, what is published of it, and how many changes were accepted since it was shared.
 pub record HeldView : Type 0 where

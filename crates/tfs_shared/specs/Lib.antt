@@ -1,13 +1,4 @@
-pub mod Board
-pub mod Change
-pub mod Found
 pub mod Held
-pub mod History
 pub mod Impact
 pub mod Locked
-pub mod Place
-pub mod PlaceView
-pub mod Published
-pub mod Sight
-pub mod Token
 pub mod View

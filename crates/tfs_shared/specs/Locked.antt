@@ -7,7 +7,8 @@ use Rattle.tfs_calls.specs.Reply.{ReplyValue, refused}
 use Rattle.tfs_calls.specs.Transition.{TableModel, AnswersAct, answer_of, open_model}
 use Rattle.tfs_calls.specs.declared.call.Call.TheVariants.{Read}
 use Rattle.tfs_table.specs.Lawful.{IsLawful}
-use Rattle.tfs_shared.specs.View.{SessionView, BeginsWith}
+use Rattle.tfs_published.specs.Beginning.{BeginsWith}
+use Rattle.tfs_shared.specs.View.{SessionView}
 
 -- The reply to a change: the transition of a table whose lawful journal begins with all that the session had seen, and whose
 -- journal afterwards the session has then seen.

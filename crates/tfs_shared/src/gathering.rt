@@ -1,14 +1,14 @@
 //! The end of sharing.
 
 ghost use Rattle.std.specs.Prelude.{◌≡◌, ◌+◌, ◌<◌, ◌≤◌, ◌↔◌, All, length, sum_by, IfOk, IfErr};
-ghost use Rattle.tfs_shared.specs.View.{BeginsWith};
+ghost use Rattle.tfs_published.specs.Beginning.{BeginsWith};
 ghost use Rattle.tfs_shared.specs.declared.gathering.Lack.TheVariants.{Missing};
 
-use crate::naming::Naming;
 use crate::session::Session;
 use crate::shared::Shared;
 use std::sync::{Mutex, Wait};
 use tfs_journal::Sink;
+use tfs_published::Naming;
 use tfs_table::Table;
 
 /// Why a table isn't gathered.

@@ -6,15 +6,13 @@ ghost use Rattle.std.specs.Arc.{arc_value};
 ghost use Rattle.tfs_calls.specs.Refusal.{refusal_value, no_copy};
 ghost use Rattle.tfs_calls.specs.Reply.{state, refused};
 ghost use Rattle.tfs_table.specs.Table.{IsTable, change_reply};
-ghost use Rattle.tfs_shared.specs.Board.{Shows};
+ghost use Rattle.tfs_published.specs.Board.{Shows};
 ghost use Rattle.tfs_shared.specs.Held.{IsHeld};
 ghost use Rattle.tfs_shared.specs.Locked.{AnswersChange, AnswersRead};
-ghost use Rattle.tfs_shared.specs.View.{BeginsWith};
+ghost use Rattle.tfs_published.specs.Beginning.{BeginsWith};
 
-use crate::board::Board;
 use crate::locked::change;
 use crate::merge::merged;
-use crate::naming::Naming;
 use crate::session::Session;
 use std::marker::Model;
 use std::sync::ledger::Book;
@@ -22,6 +20,7 @@ use std::sync::{Arc, Wait};
 use tfs_calls::Refusal;
 use tfs_index::Version;
 use tfs_journal::Sink;
+use tfs_published::{Board, Naming};
 use tfs_rules::Name;
 use tfs_state::Doc;
 use tfs_table::{Prepared, Table};
@@ -80,12 +79,11 @@ impl<J: Naming, K: Sink> Held<J, K> {
         ensures refused { OnErr result (session.new.accepted ≡ session.old.accepted) }
     {
         self.table.len();
-        if !self.board.covers(session.token()) {
+        if !session.is_covered(&self.board) {
             return Err(Refusal::NoCopy);
         }
         let answer = change(rt, &mut self.table, &mut self.board, prepared);
-        let (token, position) = self.board.reached();
-        session.see(token, position);
+        session.see(&self.board);
         if answer.is_ok() {
             self.table.len();
             session.count(&mut self.book);
@@ -107,11 +105,10 @@ impl<J: Naming, K: Sink> Held<J, K> {
         ensures accepted { session.new.accepted ≡ session.old.accepted }
     {
         self.table.len();
-        if !self.board.covers(session.token()) {
+        if !session.is_covered(&self.board) {
             return Refusal::NoCopy;
         }
-        let (token, position) = self.board.reached();
-        session.see(token, position);
+        session.see(&self.board);
         Refusal::OutOfMemory
     }
 
@@ -124,11 +121,10 @@ impl<J: Naming, K: Sink> Held<J, K> {
         ensures accepted { session.new.accepted ≡ session.old.accepted }
     {
         self.table.len();
-        if !self.board.covers(session.token()) {
+        if !session.is_covered(&self.board) {
             return Err(Refusal::NoCopy);
         }
-        let (token, position) = self.board.reached();
-        session.see(token, position);
+        session.see(&self.board);
         self.table.state(name)
     }
 
@@ -161,7 +157,7 @@ impl<J: Naming, K: Sink> Held<J, K> {
     fn covers(&self, session: &Session<J>) -> bool
         ensures yes { result ≡ true → BeginsWith self.now.table.journal session.now.journal }
     {
-        self.board.covers(session.token())
+        session.is_covered(&self.board)
     }
 
     /// The table. At least as many sessions as there are in all end their readers, and then the writer ends.

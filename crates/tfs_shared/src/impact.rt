@@ -6,10 +6,8 @@ ghost use Rattle.tfs_calls.specs.Refusal.{no_copy};
 ghost use Rattle.tfs_calls.specs.Reply.{refused};
 ghost use Rattle.tfs_table.specs.Table.{impact_reply};
 ghost use Rattle.tfs_shared.specs.Impact.{AnswersImpact, AnswersQuery};
-ghost use Rattle.tfs_shared.specs.View.{BeginsWith};
+ghost use Rattle.tfs_published.specs.Beginning.{BeginsWith};
 
-use crate::found::Found;
-use crate::naming::Naming;
 use crate::session::Session;
 use crate::shared::Shared;
 use std::alloc::Global;
@@ -17,6 +15,7 @@ use std::sync::Arc;
 use tfs_calls::{Impact, Query, Refusal};
 use tfs_index::Version;
 use tfs_journal::Sink;
+use tfs_published::{Found, Naming};
 use tfs_rules::Name;
 
 impl<J: Naming> Session<J> {

@@ -5,11 +5,10 @@ ghost use Rattle.tfs_calls.specs.Transition.{AnswersAct};
 ghost use Rattle.tfs_table.specs.Table.{model_of, change_reply};
 ghost use Rattle.tfs_shared.specs.Held.{ArePublished};
 
-use crate::board::Board;
-use crate::naming::Naming;
 use std::sync::Wait;
 use tfs_calls::Refusal;
 use tfs_journal::Sink;
+use tfs_published::{Board, Naming};
 use tfs_table::{Prepared, Table};
 
 /// Makes a change and publishes it, or says why not. Whatever takes memory comes before the sink, so that what is written is

@@ -2,9 +2,9 @@
 
 ghost use Rattle.std.specs.Prelude.{◌≡◌, ◌≤◌, [], length, sum_by, IfSome, IfNone};
 
-use crate::naming::Naming;
 use crate::session::Session;
 use std::sync::ledger::Share;
+use tfs_published::Naming;
 
 /// The shares of sessions, as one.
 #[tactic(auto, using(crate::proofs::Shares::accepted_more))]

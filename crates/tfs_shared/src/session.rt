@@ -1,28 +1,24 @@
 //! The sessions of a shared table.
 
-ghost use Rattle.std.specs.Prelude.{◌≡◌, ◌⊎◌, ◌+◌, ◌<◌, IfSome, IfNone, IfOk, OnOk, OnErr, MatchResult};
+ghost use Rattle.std.specs.Prelude.{◌≡◌, ◌⊎◌, ◌+◌, ◌<◌, true, IfSome, IfNone, IfOk, OnOk, OnErr, MatchResult};
 ghost use Rattle.std.specs.Arc.{arc_value};
 ghost use Rattle.tfs_rules.specs.History.{state_of};
 ghost use Rattle.tfs_journal.specs.Journal.{position_of, acts_of};
 ghost use Rattle.tfs_calls.specs.Refusal.{refusal_value, no_copy};
 ghost use Rattle.tfs_calls.specs.Reply.{state, refused};
 ghost use Rattle.tfs_table.specs.Table.{change_reply};
-ghost use Rattle.tfs_shared.specs.Change.{journal_after};
-ghost use Rattle.tfs_shared.specs.Found.{IsFound};
+ghost use Rattle.tfs_published.specs.Found.{IsFound};
 ghost use Rattle.tfs_shared.specs.Locked.{AnswersChange, AnswersRead};
-ghost use Rattle.tfs_shared.specs.View.{BeginsWith};
+ghost use Rattle.tfs_published.specs.Beginning.{BeginsWith};
 
-use crate::found::Found;
-use crate::naming::Naming;
-use crate::rule::{CopyReader, enter};
 use crate::shared::Shared;
-use crate::token::Token;
 use std::alloc::{AllocError, Global};
 use std::marker::Model;
 use std::sync::ledger::{Book, Share};
 use std::sync::{Arc, MutexGuard, Wait};
 use tfs_calls::{Draft, Refusal};
 use tfs_journal::Sink;
+use tfs_published::{Board, Found, Naming, Viewer};
 use tfs_rules::Name;
 use tfs_state::Doc;
 use tfs_table::{Parts, Prepared};
@@ -30,46 +26,31 @@ use tfs_table::{Parts, Prepared};
 /// A caller's own side of a shared table. Contracts see the journal that it has seen, and how many of its changes were accepted.
 #[derive(Drop)]
 pub struct Session<J: Naming> {
-    reader: Option<CopyReader<J>>,
-    token: Token,
-    position: u64,
+    viewer: Viewer<J>,
     share: Share<J>,
     accepted: u64,
 }
 
 impl<J: Naming> Model for Session<J> {
     ghost use Rattle.std.specs.Prelude.{◌≡◌};
-    ghost use Rattle.tfs_journal.specs.Journal.{position_of};
-    ghost use Rattle.tfs_shared.specs.Change.{journal_after};
     ghost use Rattle.tfs_shared.specs.View.{SessionView};
 
     ghost Value = { SessionView };
 
-    ghost view = { λ s. record { journal = journal_after J.opening s.token.changes; accepted = s.accepted } };
+    ghost view = { λ s. record { journal = s.viewer; accepted = s.accepted } };
 
-    ghost invariant = { λ s. (s.token.book ≡ J.book)
-        × (s.position ≡ position_of (journal_after J.opening s.token.changes))
-        × (s.share.parts ≡ 1) × (s.share.amount ≡ s.accepted) };
+    ghost invariant = { λ s. (s.share.parts ≡ 1) × (s.share.amount ≡ s.accepted) };
 }
 
 impl<J: Naming> Session<J> {
-    /// A session that has seen the journal of a token, by its position, and has made no changes.
-    pub(crate) fn new(
-        reader: CopyReader<J>,
-        token: Token,
-        position: u64,
-        share: Share<J>,
-    ) -> Session<J>
-        requires book { token.book ≡ J.book }
-        requires position { position ≡ position_of (journal_after J.opening token.changes) }
+    /// A session that has seen what its viewer has, and has made no changes.
+    pub(crate) fn new(viewer: Viewer<J>, share: Share<J>) -> Session<J>
         requires parts { share.parts ≡ 1 }
         requires amount { share.amount ≡ 0 }
-        ensures value { result ≡ record { journal = journal_after J.opening token.changes; accepted = 0 } }
+        ensures value { result ≡ record { journal = viewer; accepted = 0 } }
     {
         Session {
-            reader: Some(reader),
-            token,
-            position,
+            viewer,
             share,
             accepted: 0,
         }
@@ -86,7 +67,7 @@ impl<J: Naming> Session<J> {
     pub fn seen(&self) -> u64
         ensures value { result ≡ position_of self.now.journal }
     {
-        self.position
+        self.viewer.position()
     }
 
     /// Makes a change, or says why not, over a journal that begins with all that the session had seen. Afterwards it has seen the
@@ -139,23 +120,19 @@ impl<J: Naming> Session<J> {
         answer
     }
 
-    /// The token of the journal that it has seen.
-    pub(crate) fn token(&self) -> &Token
-        ensures book { result.now.book ≡ J.book }
-        ensures journal { journal_after J.opening result.now.changes ≡ self.now.journal }
+    /// Whether what is published begins with what it has seen.
+    pub(crate) fn is_covered(&self, board: &Board<J>) -> bool
+        ensures yes { result ≡ true → BeginsWith board.now.journal self.now.journal }
     {
-        &self.token
+        board.covers(&self.viewer)
     }
 
-    /// Has it see the journal of a token, by its position.
-    pub(crate) fn see(&mut self, token: Token, position: u64)
-        requires book { token.book ≡ J.book }
-        requires position { position ≡ position_of (journal_after J.opening token.changes) }
-        ensures journal { self.new.journal ≡ journal_after J.opening token.changes }
+    /// Has it see what is published.
+    pub(crate) fn see(&mut self, board: &Board<J>)
+        ensures journal { self.new.journal ≡ board.now.journal }
         ensures accepted { self.new.accepted ≡ self.old.accepted }
     {
-        self.token = token;
-        self.position = position;
+        board.show(&mut self.viewer);
     }
 
     /// Its share of the ledger. Its reader is given back.
@@ -164,9 +141,7 @@ impl<J: Naming> Session<J> {
         ensures amount { result.amount ≡ self.accepted }
     {
         let Session {
-            reader: _reader,
-            token: _token,
-            position: _,
+            viewer: _viewer,
             share,
             accepted: _,
         } = self;
@@ -187,22 +162,13 @@ impl<J: Naming> Session<J> {
 
     /// Looks a name up in a published copy that begins with all that the session has seen. Afterwards it has seen the journal
     /// that the copy stands for. There is nothing, and nothing changes, where no such copy is handed out. It waits for nobody.
-    #[tactic(auto, using(crate::proofs::Views::begins_with_itself, crate::proofs::Views::later_begins))]
     pub(crate) fn look(&mut self, name: &Name) -> Option<Found>
         ensures found { IfSome result (λ found. IsFound found (state_of (acts_of name.now self.new.journal))) }
         ensures later { BeginsWith self.new.journal self.old.journal }
         ensures kept { IfNone result (self.new ≡ self.old) }
         ensures accepted { self.new.accepted ≡ self.old.accepted }
     {
-        let reader = self.reader.take()?;
-        let (reader, sight) = enter(reader, &self.token, name);
-        self.reader = Some(reader);
-        let Some(sight) = sight else {
-            return None;
-        };
-        self.token = sight.token;
-        self.position = sight.position;
-        Some(sight.found)
+        self.viewer.look(name)
     }
 }
 

@@ -2,14 +2,14 @@
 
 ghost use Rattle.std.specs.Prelude.{◌≡◌};
 ghost use Rattle.tfs_journal.specs.Journal.{position_of};
-ghost use Rattle.tfs_shared.specs.View.{BeginsWith};
+ghost use Rattle.tfs_published.specs.Beginning.{BeginsWith};
 
 use crate::held::Held;
-use crate::naming::Naming;
 use std::alloc::Global;
 use std::marker::Model;
 use std::sync::{Mutex, MutexGuard, Wait};
 use tfs_journal::Sink;
+use tfs_published::Naming;
 use tfs_table::Table;
 
 /// A table behind one lock, and the position that it was opened at. Contracts see the number of its sessions.

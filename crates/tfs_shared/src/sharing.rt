@@ -2,16 +2,14 @@
 
 ghost use Rattle.std.specs.Prelude.{◌≡◌, ◌≤◌, length, replicate, IfOk, IfErr};
 
-use crate::board::Board;
 use crate::held::Held;
-use crate::history::Opened;
-use crate::naming::Naming;
 use crate::session::Session;
 use crate::shared::Shared;
 use std::alloc::Global;
 use std::sync::Wait;
 use std::sync::ledger::{Blank, Share};
 use tfs_journal::Sink;
+use tfs_published::{Board, Naming, Opened};
 use tfs_table::Table;
 
 /// Why a table isn't shared.
@@ -49,9 +47,8 @@ pub fn share<J: Naming, K: Sink, R: Wait>(
     ensures sessions { IfOk result (λ made. made.1.items ≡ replicate number (record { journal = J.opening; accepted = 0 })) }
     ensures back { IfErr result (λ unshared. unshared.table ≡ table) }
 {
-    let (history, newest) = opened.named::<J>();
     let (book, all) = blank.open::<J>();
-    let Ok(board) = Board::new(rt, alloc, &table, history, newest, number) else {
+    let Ok(board) = Board::new(rt, alloc, &table, opened, number) else {
         let why = Cause::NoMemory;
         return Err(Unshared { table, why });
     };
@@ -85,10 +82,10 @@ fn sessions_of<J: Naming>(
     };
     for made in 0..number {
         let share = rest.split_off(1, 0);
-        let Some(session) = board.session(share) else {
+        let Some(viewer) = board.viewer() else {
             return Err(Cause::NoPlace);
         };
-        let Ok(()) = sessions.push(session) else {
+        let Ok(()) = sessions.push(Session::new(viewer, share)) else {
             return Err(Cause::NoMemory);
         };
     }

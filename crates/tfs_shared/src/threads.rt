@@ -1,9 +1,9 @@
 //! What may go to other threads, and what several may use. The functions compute nothing: they are laws of types.
 
-use crate::naming::Naming;
 use crate::session::Session;
 use crate::shared::Shared;
 use tfs_journal::Sink;
+use tfs_published::Naming;
 
 fn takes_send<T: Send>(_: &T) {}
 

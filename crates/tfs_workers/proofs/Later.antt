@@ -10,8 +10,9 @@ use Rattle.tfs_calls.specs.Draft.{act_of}
 use Rattle.tfs_calls.specs.Refusal.{RefusalValue}
 use Rattle.tfs_calls.specs.Reply.{ReplyValue}
 use Rattle.tfs_calls.specs.Transition.{TableModel, Answers, act_refusal, journal_after, journal_after_act}
-use Rattle.tfs_shared.specs.View.{SessionView, BeginsWith}
-use Rattle.tfs_shared.proofs.Views.{begins_with_itself, begins_with_earlier}
+use Rattle.tfs_published.specs.Beginning.{BeginsWith}
+use Rattle.tfs_shared.specs.View.{SessionView}
+use Rattle.tfs_published.proofs.Beginnings.{begins_with_itself, begins_with_earlier}
 use Rattle.tfs_workers.specs.Session.{SessionStep, IsLater}
 
 -- A session that stays has gone on.

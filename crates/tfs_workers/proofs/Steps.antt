@@ -11,8 +11,9 @@ use Rattle.tfs_calls.specs.Reply.{ReplyValue, refused}
 use Rattle.tfs_calls.specs.Transition.{TableModel, Answers, AnswersAct, act_answer, journal_after_act, answer_of, open_model}
 use Rattle.tfs_shared.specs.Impact.{AnswersImpact}
 use Rattle.tfs_shared.specs.Locked.{AnswersChange, AnswersRead}
-use Rattle.tfs_shared.specs.View.{SessionView, BeginsWith}
-use Rattle.tfs_shared.proofs.Views.{begins_with_itself}
+use Rattle.tfs_published.specs.Beginning.{BeginsWith}
+use Rattle.tfs_shared.specs.View.{SessionView}
+use Rattle.tfs_published.proofs.Beginnings.{begins_with_itself}
 use Rattle.tfs_workers.specs.Session.{SessionStep, accepted_by}
 
 -- The answer to a query.

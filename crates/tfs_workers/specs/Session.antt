@@ -4,7 +4,8 @@ use Rattle.tfs_calls.specs.declared.call.Call.{Call}
 use Rattle.tfs_calls.specs.Refusal.{no_copy}
 use Rattle.tfs_calls.specs.Reply.{ReplyValue, done, state, impact, refused}
 use Rattle.tfs_calls.specs.Transition.{TableModel, Answers}
-use Rattle.tfs_shared.specs.View.{SessionView, BeginsWith}
+use Rattle.tfs_published.specs.Beginning.{BeginsWith}
+use Rattle.tfs_shared.specs.View.{SessionView}
 
 -- How many changes a reply tells of that were accepted.
 abbrev pub accepted_by : ReplyValue → ℕ

@@ -1,6 +1,7 @@
 -- The session that is compared is one more.
 use Rattle.std.proofs.Common.{refl}
-use Rattle.tfs_shared.specs.View.{SessionView, BeginsWith}
+use Rattle.tfs_published.specs.Beginning.{BeginsWith}
+use Rattle.tfs_shared.specs.View.{SessionView}
 use Rattle.tfs_shared.proofs.Shares.{each_more}
 use Rattle.tfs_shared.proofs.held.Held.covers_all.Goals as goal
 

@@ -1,6 +1,7 @@
 -- What the sessions so far have seen is begun with.
 use Rattle.std.proofs.Common.{ℕ, ◌<◌, get_or}
-use Rattle.tfs_shared.specs.View.{BeginsWith, SessionView}
+use Rattle.tfs_published.specs.Beginning.{BeginsWith}
+use Rattle.tfs_shared.specs.View.{SessionView}
 use Rattle.tfs_shared.proofs.held.Held.covers_all.Given as goal
 
 abbrev pub invariant-loop-session : goal.invariant-loop-session

@@ -1,7 +1,7 @@
 -- Want of memory is answered over the table's journal.
 use Rattle.std.proofs.Common.{refl, subst, ◌∙◌, inr}
 use Rattle.tfs_journal.specs.Journal.{Journal}
-use Rattle.tfs_shared.specs.View.{BeginsWith}
+use Rattle.tfs_published.specs.Beginning.{BeginsWith}
 use Rattle.tfs_shared.proofs.Refusing.{lacks_memory}
 use Rattle.tfs_shared.proofs.held.Held.lack_memory.Goals as goal
 
@@ -9,7 +9,6 @@ pub returns-clause-answered : goal.returns-clause-answered
 returns-clause-answered g c name act =
     let table = c.self.inside.table in
     let published = c.self.invariant.published.journal in
-    let fresh = subst (λ (j : Journal). BeginsWith j c.args.session.now.journal) published
-    (subst (λ (j : Journal). BeginsWith c.self.inside.board.journal j) c.token.ensures.journal (c.if-not-covers.ensures.yes refl)) in
+    let fresh = subst (λ (j : Journal). BeginsWith j c.args.session.now.journal) published (c.if-not-is_covered.ensures.yes refl) in
     inr (lacks_memory name act c.args.session.now c.see.new.self table.journal c.len.ensures.kept.lawful fresh
-    (c.see.ensures.journal ∙ (c.reached-token.ensures.journal ∙ published)))
+    (c.see.ensures.journal ∙ published))

@@ -1,0 +1,9 @@
+pub mod Adding
+pub mod Beginnings
+pub mod Boards
+pub mod Finding
+pub mod Places
+pub mod Prefixes
+pub mod Room
+pub mod Seeing
+pub mod Taken

@@ -1,0 +1,16 @@
+-- The longer of two tokens of one history begins with the shorter.
+use Rattle.std.proofs.Common.{subst}
+use Rattle.tfs_journal.specs.Journal.{Journal}
+use Rattle.tfs_published.specs.Beginning.{BeginsWith}
+use Rattle.tfs_published.specs.Change.{journal_after}
+use Rattle.tfs_published.proofs.Beginnings.{later_begins}
+use Rattle.tfs_published.proofs.board.Board.covers.Goals as goal
+
+pub returns : goal.returns
+returns g c =
+    let opening = g.J.Naming.opening in
+    let newest = c.self.inside.newest.changes in record {
+      yes = λ is. rw (← c.self.view_is)
+          (subst (λ (j : Journal). BeginsWith (journal_after opening newest) j) c.token.ensures.journal
+          (later_begins opening c.token.result.now.changes newest (c.begins_with.ensures.yes is)));
+    }

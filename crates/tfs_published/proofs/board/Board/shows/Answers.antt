@@ -1,0 +1,23 @@
+-- The copy that readers are shown has the newest token.
+use Rattle.std.proofs.Common.{ap, sym, subst, ◌∙◌}
+use Rattle.tfs_journal.specs.Journal.{Journal}
+use Rattle.tfs_published.specs.Change.{journal_after}
+use Rattle.tfs_published.specs.Published.{IsPublished}
+use Rattle.tfs_published.specs.Token.{TokenValue}
+use Rattle.tfs_published.specs.Beginning.{BeginsWith}
+use Rattle.tfs_published.proofs.Beginnings.{opening_begins}
+use Rattle.tfs_published.proofs.board.Board.shows.Goals as goal
+
+pub returns : goal.returns
+returns g c =
+    let board = c.self.invariant.1 in
+    let same = ap (λ v. v.journal) c.self.view_is in
+    let journal = ap (λ (t : TokenValue). journal_after g.J.Naming.opening t.changes) board.newest_is ∙ same in
+    record {
+      value = record {
+        copy = board.copy;
+        shown = sym (ap (λ v. v.shown) c.self.view_is) ∙ board.shows;
+        published = subst (λ (j : Journal). IsPublished board.copy j) journal board.stands.published;
+      };
+      begins = subst (λ (j : Journal). BeginsWith j g.J.Naming.opening) same (opening_begins g.J.Naming.opening c.self.inside.newest.changes);
+    }

@@ -1,0 +1,10 @@
+pub mod Beginning
+pub mod Board
+pub mod Change
+pub mod Found
+pub mod History
+pub mod Place
+pub mod PlaceView
+pub mod Published
+pub mod Sight
+pub mod Token

@@ -1,0 +1,24 @@
+//! What the history of a shared table lists.
+
+use std::marker::Model;
+use std::sync::Arc;
+use tfs_index::Version;
+use tfs_journal::Entry;
+
+/// An accepted change: its entry, and the version that its name has afterwards. No value of it is made, since the history
+/// exists for contracts alone.
+#[derive(Drop)]
+pub struct Change {
+    entry: Entry,
+    version: Option<Arc<Version>>,
+}
+
+impl Model for Change {
+    ghost use Rattle.std.specs.Prelude.{option_map};
+    ghost use Rattle.std.specs.Arc.{arc_value};
+    ghost use Rattle.tfs_published.specs.Change.{ChangeValue};
+
+    ghost Value = { ChangeValue };
+
+    ghost view = { λ c. record { entry = c.entry; state = option_map arc_value c.version } };
+}

@@ -1,0 +1,19 @@
+//! Laws of views.
+
+ghost use Rattle.std.specs.Prelude.{◌≡◌, ◌≤◌, List};
+ghost use mathlib.Core.List.{IsPrefix};
+ghost use Rattle.tfs_journal.specs.Journal.{Journal, position_of};
+ghost use Rattle.tfs_published.specs.Change.{ChangeValue, journal_after};
+ghost use Rattle.tfs_published.specs.Beginning.{BeginsWith};
+
+/// A view is one journal. It begins with itself and with what its beginnings begin with. Of two beginnings of one journal the
+/// one whose position isn't lower begins with the other, so that it says all that both say. More changes give a later one.
+pub fn a_view_is_one_journal()
+    ensures itself { (j : Journal) → BeginsWith j j }
+    ensures earlier { (last middle first : Journal) → BeginsWith last middle
+        → BeginsWith middle first → BeginsWith last first }
+    ensures longer { (whole a b : Journal) → BeginsWith whole a → BeginsWith whole b
+        → position_of b ≤ position_of a → BeginsWith a b }
+    ensures more { (opening : Journal) (first more : List ChangeValue) → IsPrefix first more
+        → BeginsWith (journal_after opening more) (journal_after opening first) }
+{}

@@ -1,0 +1,75 @@
+//! What published copies take in.
+
+ghost use Rattle.std.specs.Prelude.{◌≡◌, ◌<◌, option_map};
+ghost use Rattle.std.specs.Arc.{arc_value};
+ghost use Rattle.tfs_published.specs.Change.{state_told};
+ghost use Rattle.tfs_published.specs.PlaceView.{place_with};
+
+use crate::place_name::PlaceName;
+use crate::token::Token;
+use std::marker::Model;
+use std::sync::Arc;
+use tfs_index::Version;
+use tfs_rules::Name;
+
+/// A change, as a published copy takes it in.
+#[derive(Drop)]
+pub struct Update {
+    pub(crate) number: usize,
+    pub(crate) name: PlaceName,
+    pub(crate) version: Option<Arc<Version>>,
+    pub(crate) position: u64,
+    pub(crate) token: Token,
+}
+
+impl Model for Update {
+    ghost use Rattle.std.specs.Prelude.{◌≡◌, ◌<◌, option_map};
+    ghost use Rattle.std.specs.Arc.{arc_value};
+    ghost use Rattle.tfs_published.specs.Change.{state_told};
+    ghost use Rattle.tfs_published.specs.PlaceView.{place_with};
+    ghost use Rattle.tfs_published.specs.declared.view.UpdateView.{UpdateView};
+
+    ghost Value = { UpdateView };
+
+    ghost view = { λ u. record { number = u.number; place = place_with u.name (option_map arc_value u.version); position = u.position; token = u.token } };
+
+    ghost invariant = { λ u. (u.number < 1024) × (state_told u.token.changes ≡ option_map arc_value u.version) };
+}
+
+impl Update {
+    /// What tells a change at the place of a number: the name, the version that it has afterwards, and the position and the token
+    /// that have the change.
+    pub(crate) fn new(
+        number: usize,
+        name: &Name,
+        version: Option<Arc<Version>>,
+        position: u64,
+        token: &Token,
+    ) -> Update
+        requires number { number < 1024 }
+        requires told { state_told token.now.changes ≡ option_map arc_value version }
+        ensures value { result ≡ record {
+          number = number;
+          place = place_with name.now (option_map arc_value version);
+          position = position;
+          token = token.now;
+        } }
+    {
+        Update {
+            number,
+            name: PlaceName::of(name),
+            version,
+            position,
+            token: token.again(),
+        }
+    }
+}
+
+/// What a published copy takes in.
+#[derive(Drop)]
+pub enum Operation {
+    /// Nothing, which only makes room where operations are queued.
+    Nothing,
+    /// An update.
+    Take(Update),
+}

@@ -1,0 +1,134 @@
+//! Published copies, and how they take in a change.
+
+ghost use Rattle.std.specs.Prelude.{◌≡◌, ◌<◌, IfSome, IfOk, map, vec_len};
+ghost use Rattle.std.specs.List.{range_with_len};
+ghost use Rattle.tfs_journal.specs.Journal.{position_of};
+ghost use Rattle.tfs_published.specs.Place.{place_view};
+ghost use Rattle.tfs_published.specs.Published.{updated, place_given};
+ghost use Rattle.tfs_published.specs.Sight.{IsSight};
+
+use crate::operation::{Operation, Update};
+use crate::place::{Place, filled, first_place, version_of};
+use crate::search::find;
+use crate::sight::Sight;
+use crate::token::Token;
+use crate::view::CopyView;
+use left_right::Absorb;
+use std::alloc::{AllocError, Global};
+use std::marker::Model;
+use std::sync::Arc;
+use tfs_index::Version;
+use tfs_journal::Sink;
+use tfs_rules::Name;
+use tfs_table::Table;
+
+/// How many places a copy has, as many as a table may have names.
+const PLACES: usize = 1_024;
+
+/// What readers enter: 1,024 places, the position, and the token of the history that the copy has taken in.
+#[derive(Drop)]
+pub struct Published {
+    places: Vec<Place>,
+    position: u64,
+    token: Token,
+}
+
+impl Model for Published {
+    ghost use Rattle.std.specs.Prelude.{◌≡◌, map, vec_len};
+    ghost use Rattle.tfs_published.specs.Place.{place_view};
+    ghost use Rattle.tfs_published.specs.declared.view.CopyView.{CopyView};
+
+    ghost Value = { CopyView };
+
+    ghost view = { λ p. record { places = map place_view p.places.items; position = p.position; token = p.token } };
+
+    ghost invariant = { λ p. vec_len p.places ≡ 1024 };
+}
+
+impl Absorb<Operation> for Published {
+    type State = CopyView;
+
+    ghost use Rattle.tfs_published.specs.Published.{absorbed};
+
+    ghost state = { λ p. p };
+
+    ghost applied = { absorbed };
+
+    ghost never_fails = { Unit {0} };
+
+    fn absorb_first(
+        &mut self,
+        operation: &Operation,
+        _other: &Published,
+    ) -> Result<(), AllocError> {
+        match operation {
+            Operation::Nothing => {}
+            Operation::Take(update) => self.take(update),
+        }
+        Ok(())
+    }
+}
+
+impl Published {
+    /// A copy that stands for the journal of a table, with a token.
+    pub(crate) fn of<K: Sink>(
+        alloc: Global,
+        table: &Table<K>,
+        token: &Token,
+    ) -> Result<Published, AllocError>
+        ensures value { IfOk result (λ copy. copy ≡ record {
+          places = map (place_given table.now.journal) (range_with_len 0 1024);
+          position = position_of table.now.journal;
+          token = token.now;
+        }) }
+    {
+        Ok(Published {
+            places: places_of(alloc, table)?,
+            position: table.position(),
+            token: token.again(),
+        })
+    }
+
+    /// Takes in an update.
+    fn take(&mut self, update: &Update)
+        ensures value { self.new ≡ updated self.old update.now }
+    {
+        self.places[update.number] = filled(&update.name, &update.version, &update.token);
+        self.position = update.position;
+        self.token = update.token.again();
+    }
+
+    /// One more reference to the version at the place of a number, where it has one and the clone isn't refused.
+    pub(crate) fn version(&self, number: usize) -> Option<Arc<Version>>
+        requires { number < 1024 }
+    {
+        version_of(&self.places[number])
+    }
+
+    /// What a session that has seen as much as a token sees of a name, where the copy begins with that.
+    pub(crate) fn sight(&self, token: &Token, name: &Name) -> Option<Sight>
+        requires book { token.now.book ≡ self.now.token.book }
+        ensures value { IfSome result (λ sight. IsSight self.now token.now name.now sight) }
+    {
+        if !self.token.begins_with(token) {
+            return None;
+        }
+        Some(Sight {
+            token: self.token.again(),
+            position: self.position,
+            found: find(self.places.as_slice(), name.text()),
+        })
+    }
+}
+
+/// The places that the journal of a table gives.
+fn places_of<K: Sink>(alloc: Global, table: &Table<K>) -> Result<Vec<Place>, AllocError>
+    ensures value { IfOk result (λ places. map place_view places.items ≡ map (place_given table.now.journal) (range_with_len 0 1024)) }
+    ensures wide { IfOk result (λ places. vec_len places ≡ 1024) }
+{
+    let mut places = Vec::with_capacity(alloc, PLACES)?;
+    for number in 0..PLACES {
+        places.push(first_place(table, number)?)?;
+    }
+    Ok(places)
+}

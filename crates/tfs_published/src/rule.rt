@@ -1,0 +1,120 @@
+//! The rule of published copies, and the steps under it.
+
+ghost use Rattle.std.specs.Prelude.{◌≡◌, [], drop, fold, IfSome, IfOk};
+ghost use Rattle.left_right.specs.Sides.{view};
+ghost use Rattle.tfs_published.specs.Published.{absorbed, updated, Queues};
+ghost use Rattle.tfs_published.specs.Sight.{IsSeen};
+
+use crate::naming::Naming;
+use crate::operation::Operation;
+use crate::published::Published;
+use crate::sight::Sight;
+use crate::token::Token;
+use crossbeam_utils::rule::{Outcome, Protocol};
+use left_right::reader::Reader;
+use left_right::writer::Writer;
+use std::alloc::AllocError;
+use std::marker::PhantomData;
+use std::sync::Wait;
+use tfs_rules::Name;
+
+/// A published copy stands for the journal of its token.
+pub struct Follows<J: Naming>(PhantomData<J>);
+
+impl<J: Naming> Protocol<Published, ()> for Follows<J> {
+    ghost use Rattle.tfs_published.specs.Published.{StandsFor};
+
+    ghost holds = { λ copy views. StandsFor J.book J.opening copy };
+
+    ghost first = { tt };
+}
+
+/// What an entered copy tells.
+pub struct Sees<J: Naming>(PhantomData<J>);
+
+impl<J: Naming> Outcome<Published, ()> for Sees<J> {
+    ghost use Rattle.tfs_published.specs.Published.{StandsFor};
+
+    ghost then = { λ before x y after. StandsFor J.book J.opening y };
+}
+
+pub type CopyReader<J> = Reader<Published, (), Follows<J>>;
+
+pub type CopyWriter<J> = Writer<Published, Operation, (), Follows<J>>;
+
+/// What a session that has seen as much as a token sees of a name. There is nothing where no copy is handed out that begins
+/// with that. It waits for nobody.
+pub(crate) fn enter<J: Naming>(
+    reader: CopyReader<J>,
+    token: &Token,
+    name: &Name,
+) -> (CopyReader<J>, Option<Sight>)
+    requires book { token.now.book ≡ J.book }
+    ensures value { IfSome result.1 (λ sight. IsSeen J.opening token.now name.now sight) }
+{
+    match reader.enter_as::<Sees<J>>() {
+        Ok(reading) => {
+            let sight = reading.get().sight(token, name);
+            (reading.leave(), sight)
+        }
+        Err(reader) => (reader, None),
+    }
+}
+
+/// Shows readers the copy that has the queued update, which tells one more change.
+pub(crate) fn publish<J: Naming, R: Wait>(rt: &R, writer: CopyWriter<J>) -> CopyWriter<J>
+    requires queued { Queues J.opening writer.desk.shown.value (drop writer.behind writer.log.items) }
+    ensures value { (queued : Queues J.opening writer.desk.shown.value (drop writer.behind writer.log.items))
+        → result.desk.shown.value ≡ updated writer.desk.shown.value queued.update }
+    ensures pending { drop result.behind result.log.items ≡ [] }
+{
+    let (writer, outcome) = writer.publish_as::<Sees<J>, R>(rt);
+    let _ = outcome;
+    writer
+}
+
+/// Queues an operation that changes nothing, and says whether there was memory for it.
+#[tactic(auto, using(crate::proofs::Room::nothing_more))]
+fn queue_nothing<J: Naming>(writer: &mut CopyWriter<J>) -> bool
+    requires same { fold absorbed writer.old.desk.shown.value (drop writer.old.behind writer.old.log.items) ≡ writer.old.desk.shown.value }
+    ensures same { fold absorbed writer.new.desk.shown.value (drop writer.new.behind writer.new.log.items) ≡ writer.new.desk.shown.value }
+    ensures shown { writer.new.desk.shown.value ≡ writer.old.desk.shown.value }
+{
+    match writer.append(Operation::Nothing) {
+        Ok(()) => true,
+        Err(_) => false,
+    }
+}
+
+/// Shows readers the copy after queued operations that change nothing.
+fn publish_same<J: Naming, R: Wait>(rt: &R, writer: CopyWriter<J>) -> CopyWriter<J>
+    requires same { fold absorbed writer.desk.shown.value (drop writer.behind writer.log.items) ≡ writer.desk.shown.value }
+    ensures shown { result.desk.shown.value ≡ writer.desk.shown.value }
+    ensures pending { drop result.behind result.log.items ≡ [] }
+{
+    let (writer, outcome) = writer.publish_as::<Sees<J>, R>(rt);
+    let _ = outcome;
+    writer
+}
+
+/// Makes room for two operations, as many as are ever queued: those that the copy shown has and the other lacks, and those that
+/// neither has. Two that change nothing are queued and published, and published again, which takes them off.
+pub(crate) fn with_room<J: Naming, R: Wait>(
+    rt: &R,
+    writer: CopyWriter<J>,
+) -> Result<CopyWriter<J>, AllocError>
+    requires idle { drop writer.behind writer.log.items ≡ [] }
+    ensures shown { IfOk result (λ made. made.desk.shown.value ≡ writer.desk.shown.value) }
+    ensures pending { IfOk result (λ made. drop made.behind made.log.items ≡ []) }
+{
+    let mut writer = writer;
+    let first = queue_nothing(&mut writer);
+    let second = queue_nothing(&mut writer);
+    let writer = publish_same(rt, writer);
+    let writer = publish_same(rt, writer);
+    if first && second {
+        return Ok(writer);
+    }
+    writer.take(rt);
+    Err(AllocError)
+}

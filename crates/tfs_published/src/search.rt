@@ -1,0 +1,44 @@
+//! Looking for a name among places.
+
+ghost use Rattle.std.specs.Prelude.{◌≡◌, ◌<◌, length, map, position, IfSome};
+ghost use Rattle.tfs_rules.specs.History.{state_of};
+ghost use Rattle.tfs_journal.specs.Journal.{Journal, acts_of};
+ghost use Rattle.tfs_published.specs.Found.{IsFound};
+ghost use Rattle.tfs_published.specs.Place.{place_view, has_name};
+ghost use Rattle.tfs_published.specs.Published.{ArePlacesOf};
+
+use crate::found::Found;
+use crate::place::{Place, is_of};
+
+/// What places have of a name.
+pub(crate) fn find(places: &[Place], name: &str) -> Found
+    ensures value { (j : Journal) → ArePlacesOf j (map place_view places.now) → IsFound result (state_of (acts_of name.now j)) }
+{
+    match number_of(places, name) {
+        Some(number) => at(&places[number]),
+        None => Found::NoState,
+    }
+}
+
+/// The number of the first place of a name.
+fn number_of(places: &[Place], name: &str) -> Option<usize>
+    ensures value { result
+        ≡ position (λ place. has_name name.now (place_view place)) places.now }
+    ensures bound { IfSome result (λ number. number < length places.now) }
+{
+    places.iter().position(|place| is_of(place, name))
+}
+
+/// What a place has. A clone of its version may be refused.
+fn at(place: &Place) -> Found
+    ensures value { IfSome (place_view place.now) (λ view. IsFound result view.state) }
+{
+    match place {
+        Place::Kept(_, Some(version)) => match version.clone() {
+            Ok(version) => Found::Kept(version),
+            Err(_) => Found::Lost,
+        },
+        Place::Kept(_, None) | Place::Empty => Found::NoState,
+        Place::Lost(lost) => lost.found(),
+    }
+}
