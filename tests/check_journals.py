@@ -1,4 +1,4 @@
-"""Runs the program `journal_files`, which is the journal's crates over real bytes and files. What it reads, and writes of it again, is
+"""Runs the program `journal_bench`, which has the journal's crates over real bytes and files. What it reads, and writes of it again, is
 compared with a plain reader and writer: four journals with each bit flipped, also under right MD5s, each prefix, and journals at
 random. Its files are compared with what it says of each append: whole ones, a limit on the size of files, a full device, a pipe, a
 closed descriptor. Its requests for memory are refused in turn."""
@@ -16,7 +16,7 @@ from checking import S1, S2, SECONDS, checks_in, expect, run_checks
 from journal_reader import base_text, lines_of, push_content, read_journal, record_text
 from refused_requests import FOREVER, build_shim, built, count_of, fault_of
 
-PROGRAM = built("journal_files")
+PROGRAM = built("journal_bench")
 FOLDER = tempfile.TemporaryDirectory(prefix="tfstated-")
 B = b'{"ID":"B"}'
 FIRST, SECOND = b"TFJ1\n", b"TFJ2\n"
@@ -45,7 +45,7 @@ def path_of(name):
 def run(pieces, *words, **how):
     """Runs the program on a line of hex digits for each piece: what it wrote, its status, and what it wrote on standard error."""
     lines = "".join(piece.hex() + "\n" for piece in pieces).encode()
-    ran = subprocess.run([PROGRAM, *map(str, words)], input=lines, capture_output=True, timeout=SECONDS, check=False, **how)
+    ran = subprocess.run([PROGRAM, *map(str, words or ["readings"])], input=lines, capture_output=True, timeout=SECONDS, check=False, **how)
     return ran.stdout.decode(), ran.returncode, ran.stderr.decode()
 
 
@@ -212,9 +212,9 @@ def check_a_pipe_that_nobody_reads_is_a_fault():
 def check_each_request_for_memory_is_refused_in_turn():
     data = "".join(text.hex() + "\n" for text in TEXTS).encode()
     ample = "".join(line + "\n" for text in TEXTS for line in lines_of(text)).encode()
-    requests = range(1, count_of([PROGRAM], ample, data) + 1)
+    requests = range(1, count_of([PROGRAM, "readings"], ample, data) + 1)
     for last in (0, FOREVER):
-        faults = {fault_of([PROGRAM], ample, request, max(request, last), data)[1] for request in requests}
+        faults = {fault_of([PROGRAM, "readings"], ample, request, max(request, last), data)[1] for request in requests}
         expect([fault for fault in faults if fault and b"memory" not in fault], [], "memory runs out")
         expect(len(faults - {b""}) > 0, True, "some are told")
 

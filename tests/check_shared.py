@@ -8,7 +8,7 @@ from checking import checks_in, expect, run_checks
 from refused_requests import FOREVER, build_shim, built, run_refused
 
 build_shim()
-PROGRAM = built("shared_memory")
+PROGRAM = built("shared_bench")
 SERIAL = 7
 # What is told with ample memory: of sharing, of the push, of what is asked after it, and of the end.
 SHARED, PUSHED = b"shared\n", b"done 1, accepted 1, seen 1\n"
@@ -37,12 +37,12 @@ def impact_of(count):
 
 def ran(text, word, first=0, last=0):
     """What the program wrote, and its status."""
-    return run_refused([PROGRAM, word], first, last, text)[:2]
+    return run_refused([PROGRAM, "memory", word], first, last, text)[:2]
 
 
 def requests_of(text, word, ample):
     """How many requests the program makes with ample memory, of which it has to write this."""
-    output, status, _, requests, _ = run_refused([PROGRAM, word], 0, 0, text)
+    output, status, _, requests, _ = run_refused([PROGRAM, "memory", word], 0, 0, text)
     expect((output, status), (ample, 0), word)
     return requests
 

@@ -7,7 +7,7 @@ from checking import checks_in, expect, run_checks
 from refused_requests import FOREVER, build_shim, built, run_refused
 
 build_shim()
-PROGRAM = built("table_memory")
+PROGRAM = built("table_bench")
 DONE, REFUSED = b"done 1\n", b"refused OutOfMemory\n"
 
 
@@ -20,7 +20,7 @@ def state(count):
 
 def ran(text, word, first=0, last=0):
     """What the program wrote, its status, and the number of its requests."""
-    output, status, _, requests, _ = run_refused([PROGRAM, word], first, last, text)
+    output, status, _, requests, _ = run_refused([PROGRAM, "memory", word], first, last, text)
     return output, status, requests
 
 

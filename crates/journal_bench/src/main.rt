@@ -1,23 +1,33 @@
-//! Measures writing and reading of journals. With no argument it prints how small journals are read; with the argument `times`,
-//! how long large ones take to read, beside what their states and one MD5 of their bytes take, and how long the record of a
-//! push takes to write, beside one MD5 and a copy; with the argument `memory`, a line before each large journal is read and one
-//! while what was read is kept.
+//! Measures writing and reading of journals, and tries them over real bytes and files. With no argument it prints how small journals are
+//! read, and then what it prints with `readings`: how each line of its input, in hex digits, is read, and the text of what was read. With
+//! `times` it prints how long large journals take to read, beside what their states and one MD5 of their bytes take, and how long the
+//! record of a push takes to write, beside one MD5 and a copy; with `memory`, a line before each large journal is read and one while what
+//! was read is kept; with a way to open a file and a path it appends the bytes of each line of its input to that file.
 #![tactic(auto)]
 
+use crate::files::{append_to, print_readings};
 use crate::sample::{SAMPLES, Sample, journal_of};
-use anyhow::Result;
+use anyhow::{Result, bail};
 use std::env;
 use tfs_reading::{Decoded, End, decode};
 
+mod files;
+mod reading;
 mod sample;
 mod times;
 
 fn main(rt: HostRuntime) -> Result<()> {
-    let word = env::args(&rt)?.nth(1);
-    match word {
-        Some(word) if word.as_str() == "times" => print_times(&rt),
-        Some(word) if word.as_str() == "memory" => print_memory(&rt),
-        _ => print_counts(&rt),
+    let mut words = env::args(&rt)?;
+    let Some(word) = words.nth(1) else {
+        print_counts(&rt)?;
+        return print_readings(&rt);
+    };
+    match words.next() {
+        Some(path) => append_to(&rt, word.as_str(), path.as_str()),
+        None if word.as_str() == "readings" => print_readings(&rt),
+        None if word.as_str() == "times" => print_times(&rt),
+        None if word.as_str() == "memory" => print_memory(&rt),
+        None => bail!("the words are readings, times, memory, or a way to open a file and a path"),
     }
 }
 

@@ -2,13 +2,19 @@
 //! prints nanoseconds: of queries by one thread, by as many as there are cores but one, and by these beside one that pushes; and of
 //! pushes by a session and to a table that isn't shared. With `waits` it prints how long one session waits at most while another pushes a
 //! state of 16 MiB into memory, and how long an append of the same record takes alone. With `pushes` it makes the pushes of 1 KB by a session
-//! once, so that their instructions can be counted. With `stress` and a number of seconds 16 sessions make calls of all kinds for as
-//! long, and all that they are answered is compared with the gathered journal.
+//! once, so that their instructions can be counted. With `memory` and a word two sessions make calls over a state from standard input, so
+//! that their requests for memory can be counted: with `read` the push is read, with `share` the table is shared, with `submit` the first
+//! session pushes the state, with `state` the second one is then given it, and with `impact` the first one what its first address
+//! reaches. With `stress` and a number of seconds 16 sessions make calls of all kinds for as long, and all that they are answered is
+//! compared with the gathered journal.
 #![tactic(auto)]
 
 ghost use Rattle.std.specs.Prelude.{◌≤◌};
 
+mod asked;
+mod calls;
 mod input;
+mod memory;
 mod model;
 mod play;
 mod pushes;
@@ -17,13 +23,16 @@ mod steps;
 mod waits;
 mod worker;
 
+use crate::asked::Word;
 use crate::input::States;
+use crate::memory::make_calls;
 use crate::model::check;
 use crate::play::{Outcome, Task, play};
 use crate::pushes::{apply_all, pushes_of};
 use crate::queries::Times;
 use crate::waits::{Recorded, Waits};
 use anyhow::{Result, bail};
+use std::io::Read;
 use std::sync::Wait;
 use std::thread::Threads;
 use std::time::{Clock, Instant};
@@ -39,19 +48,39 @@ const PUSHES: u64 = 1_000;
 fn main(rt: HostRuntime) -> Result<()> {
     let mut words = env::args(&rt)?;
     match words.nth(1) {
-        None => print_counts(&rt),
+        None => {
+            print_counts(&rt)?;
+            let text = input_of(&rt)?;
+            make_calls(&rt, Word::Impact, text.as_slice())
+        }
         Some(word) if word.as_str() == "times" => print_times(&rt),
         Some(word) if word.as_str() == "waits" => print_waits(&rt),
         Some(word) if word.as_str() == "pushes" => {
             submit(&rt, PUSHES)?;
             Ok(())
         }
+        Some(word) if word.as_str() == "memory" => match words.next() {
+            Some(word) => {
+                let text = input_of(&rt)?;
+                make_calls(&rt, Word::read(word.as_str())?, text.as_slice())
+            }
+            None => bail!("the word is missing: read, share, submit, state or impact"),
+        },
         Some(word) if word.as_str() == "stress" => match words.next() {
             Some(seconds) => stress(&rt, seconds.parse()?),
             None => bail!("the seconds are missing"),
         },
-        Some(_) => bail!("the words are times, waits, pushes, or stress and a number of seconds"),
+        Some(_) => bail!(
+            "the words are times, waits, pushes, memory and one of its words, or stress and seconds"
+        ),
     }
+}
+
+/// Standard input, to its end.
+fn input_of(rt: &HostRuntime) -> Result<Vec<u8>> {
+    let mut text = Vec::new(rt.alloc());
+    rt.reader().read_to_end(&mut text)?;
+    Ok(text)
 }
 
 /// Few calls of each kind: four sessions ask and push, one submits, and sixteen make calls of all kinds.

@@ -1,4 +1,4 @@
-//! What is asked of the shared table.
+//! What two sessions ask of a shared table, whose requests for memory are counted.
 
 ghost use Rattle.std.specs.Prelude.{◌<◌, length};
 
@@ -8,7 +8,7 @@ use tfs_calls::{Bytes, Draft, Kind, Query, Raw, Text, Texts};
 use tfs_rules::{Act, Name};
 use tfs_state::{Doc, MAX_STATE_BYTES};
 
-/// How far the program goes.
+/// How far the calls go.
 #[derive(Clone, Copy, PartialEq, Eq)]
 pub(crate) enum Word {
     Read,

@@ -1,8 +1,8 @@
-//! The calls of the two sessions.
+//! The calls of two sessions, whose requests for memory are counted.
 
 ghost use Rattle.std.specs.Prelude.{◌≡◌, ◌≤◌};
 
-use crate::input::{Asked, Word, push_of};
+use crate::asked::{Asked, Word, push_of};
 use anyhow::{Result, bail};
 use std::alloc::Global;
 use std::sync::Wait;

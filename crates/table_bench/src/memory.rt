@@ -1,42 +1,51 @@
-//! One push over a new table, so that its requests for memory can be counted, and refused. The state comes from standard input. With
-//! the word `read` it is read alone; with `apply` it is applied as well and, where that was refused, read and applied once more. A
-//! line tells what became of each push.
-#![tactic(auto)]
+//! One push over a new table, so that its requests for memory can be counted, and refused.
 
 use anyhow::{Result, bail};
 use std::alloc::Global;
-use std::env;
-use std::io::Read;
 use tfs_calls::{Bytes, Draft, Raw, Refusal};
 use tfs_journal::Discard;
 use tfs_rules::Name;
 use tfs_state::MAX_STATE_BYTES;
 use tfs_table::Table;
 
-fn main(rt: HostRuntime) -> Result<()> {
-    let mut words = env::args(&rt)?;
-    let Some(word) = words.nth(1) else {
-        bail!("the word is missing: read or apply");
-    };
-    let mut text = Vec::new(rt.alloc());
-    rt.reader().read_to_end(&mut text)?;
+/// How far the push goes.
+#[derive(Clone, Copy, PartialEq, Eq)]
+pub(crate) enum Word {
+    Read,
+    Apply,
+}
+
+impl Word {
+    /// The word of a text.
+    pub(crate) fn read(text: &str) -> Result<Word> {
+        match text {
+            "read" => Ok(Word::Read),
+            "apply" => Ok(Word::Apply),
+            _ => bail!("the word is none of read and apply"),
+        }
+    }
+}
+
+/// Reads the push of a state and, where the word says so, applies it; where that was refused, it is read and applied once more. A line
+/// tells what became of each push.
+pub(crate) fn push(rt: &(impl AllocGlobal + Print), word: Word, text: &[u8]) -> Result<()> {
     let Ok(mut table) = Table::new(rt.alloc(), Discard) else {
         bail!("there is no memory for a table");
     };
-    let draft = draft_of(rt.alloc(), text.as_slice())?;
+    let draft = draft_of(rt.alloc(), text)?;
     let name = name_of(rt.alloc())?;
-    if word.as_str() == "read" {
+    if word == Word::Read {
         return Ok(());
     }
     let first = table.apply(name, draft);
     let is_done = first.is_ok();
-    tell(&rt, first)?;
+    tell(rt, first)?;
     if is_done {
         return Ok(());
     }
-    let draft = draft_of(rt.alloc(), text.as_slice())?;
+    let draft = draft_of(rt.alloc(), text)?;
     let name = name_of(rt.alloc())?;
-    tell(&rt, table.apply(name, draft))
+    tell(rt, table.apply(name, draft))
 }
 
 /// The push of a state.

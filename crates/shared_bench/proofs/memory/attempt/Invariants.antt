@@ -1,5 +1,5 @@
 -- The names of the history and of the ledger that were just opened, and the journal that the table has.
-use Rattle.shared_memory.proofs.attempt.Given as goal
+use Rattle.shared_bench.proofs.memory.attempt.Given as goal
 
 abbrev pub ghosts-play-J-Naming : goal.ghosts-play-J-Naming
 ghosts-play-J-Naming g a = record { book = a.opened; opening = a.table.journal; sessions = 2 }
