@@ -1,6 +1,6 @@
 -- What begins a journal.
-use Rattle.std.proofs.Common.{◌≡◌, ◌≤◌, length, arith, List, [], ◌++◌, refl, sym, ◌∙◌, ap, append_assoc, append-nil}
-use Rattle.std.proofs.lemmas.List.{map-append}
+use Rattle.std.proofs.Common.{◌≡◌, ◌≤◌, ◌<◌, length, arith, List, [], ◌++◌, refl, sym, ◌∙◌, ap, append_assoc, append-nil, length-append}
+use Rattle.std.proofs.lemmas.List.{map-append, length-map}
 use mathlib.Core.List.{IsPrefix}
 use Rattle.tfs_journal.specs.Journal.{Journal, BaseValue, EntryValue, position_of}
 use Rattle.tfs_published.specs.Change.{ChangeValue, journal_after, entries_of}
@@ -32,6 +32,19 @@ later_begins opening first more p = record {
         ∙ ap (λ (es : List EntryValue). opening.entries ++ es) (sym (map-append (λ (c : ChangeValue). c.entry) first p.0) ∙ ap entries_of p.1),
   );
 }
+
+-- After fewer changes the position is lower.
+pub fewer_are_lower : (opening : Journal) (first more : List ChangeValue) → length first < length more
+    → position_of (journal_after opening first) < position_of (journal_after opening more)
+fewer_are_lower opening first more fewer =
+    omega (
+      arith,
+      fewer,
+      length-append opening.entries (entries_of first),
+      length-append opening.entries (entries_of more),
+      length-map first (λ (c : ChangeValue). c.entry),
+      length-map more (λ (c : ChangeValue). c.entry),
+    )
 
 -- The journal after some changes begins with the opening one.
 pub opening_begins : (opening : Journal) (changes : List ChangeValue) → BeginsWith (journal_after opening changes) opening

@@ -1,6 +1,6 @@
 //! What lies under the lock beside the table and the ledger's book.
 
-ghost use Rattle.std.specs.Prelude.{◌≡◌, ◌≤◌, ◌<◌, ◌∷◌, ◌++◌, [], true, drop, length, Some, None, IfSome, IfOk, OnOk, OnErr, option_map};
+ghost use Rattle.std.specs.Prelude.{◌≡◌, ◌≤◌, ◌<◌, ◌∷◌, ◌++◌, [], true, false, drop, length, Some, None, IfSome, IfOk, OnOk, OnErr, option_map};
 ghost use Rattle.std.specs.Arc.{arc_value};
 ghost use Rattle.tfs_journal.specs.Journal.{with_entry, position_of};
 ghost use Rattle.tfs_published.specs.Board.{Shows};
@@ -126,9 +126,10 @@ impl<J: Naming> Board<J> {
         }
     }
 
-    /// Whether what is published begins with what a viewer has seen.
+    /// Whether what is published begins with what a viewer has seen. If not, its position is lower.
     pub fn covers(&self, viewer: &Viewer<J>) -> bool
         ensures yes { result ≡ true → BeginsWith self.now.journal viewer.now }
+        ensures no { result ≡ false → position_of self.now.journal < position_of viewer.now }
     {
         self.newest.begins_with(viewer.token())
     }

@@ -1,14 +1,27 @@
 -- The answers of locked calls.
-use Rattle.std.specs.Prelude.{◌≡◌, ◌⊎◌, ℕ, List}
+use Rattle.std.specs.Prelude.{◌≡◌, ◌⊎◌, ℕ, ◌<◌, List}
 use Rattle.tfs_rules.specs.Act.{ActValue}
-use Rattle.tfs_journal.specs.Journal.{Journal}
-use Rattle.tfs_calls.specs.Refusal.{out_of_memory}
+use Rattle.tfs_journal.specs.Journal.{Journal, position_of}
+use Rattle.tfs_calls.specs.Refusal.{no_copy, out_of_memory}
 use Rattle.tfs_calls.specs.Reply.{ReplyValue, refused}
 use Rattle.tfs_calls.specs.Transition.{TableModel, AnswersAct, answer_of, open_model}
 use Rattle.tfs_calls.specs.declared.call.Call.TheVariants.{Read}
 use Rattle.tfs_table.specs.Lawful.{IsLawful}
 use Rattle.tfs_published.specs.Beginning.{BeginsWith}
 use Rattle.tfs_shared.specs.View.{SessionView}
+
+-- A session has seen more than a lawful journal has, which begins with the opening one.
+pub record IsAhead (opening : Journal) (session : SessionView) : Type 0 where
+  pub journal : Journal
+  pub lawful : IsLawful journal
+  pub begins : BeginsWith journal opening
+  pub lower : position_of journal < position_of session.journal
+
+-- There is no journal to answer over, since the session has seen more than the table's, and nothing changes.
+pub record HasNoCopy (opening : Journal) (old new : SessionView) (reply : ReplyValue) : Type 0 where
+  pub answer : reply ≡ refused no_copy
+  pub ahead : IsAhead opening old
+  pub same : new ≡ old
 
 -- The reply to a change: the transition of a table whose lawful journal begins with all that the session had seen, and whose
 -- journal afterwards the session has then seen.

@@ -1,8 +1,9 @@
 //! The end of sharing.
 
-ghost use Rattle.std.specs.Prelude.{◌≡◌, ◌+◌, ◌<◌, ◌≤◌, ◌↔◌, All, length, sum_by, IfOk, IfErr};
+ghost use Rattle.std.specs.Prelude.{◌≡◌, ◌+◌, ◌<◌, ◌≤◌, ◌↔◌, All, Any, length, sum_by, IfOk, IfErr};
 ghost use Rattle.tfs_published.specs.Beginning.{BeginsWith};
-ghost use Rattle.tfs_shared.specs.declared.gathering.Lack.TheVariants.{Missing};
+ghost use Rattle.tfs_shared.specs.declared.gathering.Lack.TheVariants.{Missing, NoCopy};
+ghost use Rattle.tfs_shared.specs.Locked.{IsAhead};
 
 use crate::session::Session;
 use crate::shared::Shared;
@@ -16,7 +17,7 @@ use tfs_table::Table;
 pub enum Lack {
     /// Not all sessions are there.
     Missing,
-    /// No copy was handed out that begins with what each session has seen.
+    /// A session has seen more than the table's journal.
     NoCopy,
 }
 
@@ -41,6 +42,7 @@ pub fn gather<J: Naming, K: Sink, R: Wait>(
     ensures counted { IfOk result (λ table. length table.journal.entries
         ≡ length J.opening.entries + sum_by (λ session. session.accepted) sessions.items) }
     ensures missing { IfErr result (λ strangers. (strangers.why ≡ Missing) ↔ (length sessions.items < J.sessions)) }
+    ensures ahead { IfErr result (λ strangers. strangers.why ≡ NoCopy → Any (IsAhead J.opening) sessions.items) }
     ensures back { IfErr result (λ strangers. (strangers.shared ≡ shared) × (strangers.sessions ≡ sessions)) }
 {
     if sessions.len() < shared.number {

@@ -1,14 +1,14 @@
 //! What lies under the lock.
 
-ghost use Rattle.std.specs.Prelude.{◌≡◌, ◌⊎◌, ◌+◌, ◌≤◌, ℕ, List, true, All, None, length, sum_by, OnOk, OnErr, MatchResult};
+ghost use Rattle.std.specs.Prelude.{◌≡◌, ◌⊎◌, ◌+◌, ◌≤◌, ℕ, List, true, false, All, Any, None, length, sum_by, OnOk, OnErr, MatchResult};
 ghost use Rattle.tfs_rules.specs.Act.{ActValue};
 ghost use Rattle.std.specs.Arc.{arc_value};
-ghost use Rattle.tfs_calls.specs.Refusal.{refusal_value, no_copy};
+ghost use Rattle.tfs_calls.specs.Refusal.{refusal_value};
 ghost use Rattle.tfs_calls.specs.Reply.{state, refused};
 ghost use Rattle.tfs_table.specs.Table.{IsTable, change_reply};
 ghost use Rattle.tfs_published.specs.Board.{Shows};
 ghost use Rattle.tfs_shared.specs.Held.{IsHeld};
-ghost use Rattle.tfs_shared.specs.Locked.{AnswersChange, AnswersRead};
+ghost use Rattle.tfs_shared.specs.Locked.{AnswersChange, AnswersRead, HasNoCopy, IsAhead};
 ghost use Rattle.tfs_published.specs.Beginning.{BeginsWith};
 
 use crate::locked::change;
@@ -73,12 +73,12 @@ impl<J: Naming, K: Sink> Held<J, K> {
         session: &mut Session<J>,
         prepared: Prepared,
     ) -> Result<u64, Refusal>
-        ensures answered { ((change_reply result ≡ refused no_copy) × (session.new ≡ session.old))
+        ensures answered { HasNoCopy J.opening session.old session.new (change_reply result)
             ⊎ AnswersChange prepared.name prepared.act session.old session.new (change_reply result) }
         ensures accepted { OnOk result (session.new.accepted ≡ session.old.accepted + 1) }
         ensures refused { OnErr result (session.new.accepted ≡ session.old.accepted) }
     {
-        self.table.len();
+        self.is_kept();
         if !session.is_covered(&self.board) {
             return Err(Refusal::NoCopy);
         }
@@ -100,11 +100,11 @@ impl<J: Naming, K: Sink> Held<J, K> {
 
     /// The answer to a change of a session that couldn't be prepared for want of memory. The session sees what is published.
     pub(crate) fn lack_memory(&self, session: &mut Session<J>) -> Refusal
-        ensures answered { (name : List ℕ) (act : ActValue) → ((refusal_value result ≡ no_copy) × (session.new ≡ session.old))
+        ensures answered { (name : List ℕ) (act : ActValue) → HasNoCopy J.opening session.old session.new (refused (refusal_value result))
             ⊎ AnswersChange name act session.old session.new (refused (refusal_value result)) }
         ensures accepted { session.new.accepted ≡ session.old.accepted }
     {
-        self.table.len();
+        self.is_kept();
         if !session.is_covered(&self.board) {
             return Refusal::NoCopy;
         }
@@ -116,11 +116,11 @@ impl<J: Naming, K: Sink> Held<J, K> {
     pub(crate) fn state(&self, session: &mut Session<J>, name: &Name) -> Result<Arc<Doc>, Refusal>
         ensures answered { MatchResult result
             (λ doc. AnswersRead name.now session.old session.new (state (arc_value doc)))
-            (λ refusal. ((refusal_value refusal ≡ no_copy) × (session.new ≡ session.old))
+            (λ refusal. HasNoCopy J.opening session.old session.new (refused (refusal_value refusal))
             ⊎ AnswersRead name.now session.old session.new (refused (refusal_value refusal))) }
         ensures accepted { session.new.accepted ≡ session.old.accepted }
     {
-        self.table.len();
+        self.is_kept();
         if !session.is_covered(&self.board) {
             return Err(Refusal::NoCopy);
         }
@@ -141,9 +141,10 @@ impl<J: Naming, K: Sink> Held<J, K> {
         table
     }
 
-    /// Whether the table's journal begins with what each session has seen.
+    /// Whether the table's journal begins with what each session has seen. If not, some session has seen more.
     pub(crate) fn covers_all(&self, sessions: &[Session<J>]) -> bool
         ensures yes { result ≡ true → All (λ session. BeginsWith self.now.table.journal session.journal) sessions.now }
+        ensures no { result ≡ false → Any (IsAhead J.opening) sessions.now }
     {
         for session in sessions {
             if !self.covers(session) {
@@ -153,10 +154,12 @@ impl<J: Naming, K: Sink> Held<J, K> {
         true
     }
 
-    /// Whether the table's journal begins with what a session has seen.
+    /// Whether the table's journal begins with what a session has seen. If not, the session has seen more.
     fn covers(&self, session: &Session<J>) -> bool
         ensures yes { result ≡ true → BeginsWith self.now.table.journal session.now.journal }
+        ensures no { result ≡ false → IsAhead J.opening session.now }
     {
+        self.is_kept();
         session.is_covered(&self.board)
     }
 

@@ -1,14 +1,14 @@
 //! The sessions of a shared table.
 
-ghost use Rattle.std.specs.Prelude.{◌≡◌, ◌⊎◌, ◌+◌, ◌<◌, true, IfSome, IfNone, IfOk, OnOk, OnErr, MatchResult};
+ghost use Rattle.std.specs.Prelude.{◌≡◌, ◌⊎◌, ◌+◌, ◌<◌, true, false, IfSome, IfNone, IfOk, OnOk, OnErr, MatchResult};
 ghost use Rattle.std.specs.Arc.{arc_value};
 ghost use Rattle.tfs_rules.specs.History.{state_of};
 ghost use Rattle.tfs_journal.specs.Journal.{position_of, acts_of};
-ghost use Rattle.tfs_calls.specs.Refusal.{refusal_value, no_copy};
+ghost use Rattle.tfs_calls.specs.Refusal.{refusal_value};
 ghost use Rattle.tfs_calls.specs.Reply.{state, refused};
 ghost use Rattle.tfs_table.specs.Table.{change_reply};
 ghost use Rattle.tfs_published.specs.Found.{IsFound};
-ghost use Rattle.tfs_shared.specs.Locked.{AnswersChange, AnswersRead};
+ghost use Rattle.tfs_shared.specs.Locked.{AnswersChange, AnswersRead, HasNoCopy};
 ghost use Rattle.tfs_published.specs.Beginning.{BeginsWith};
 
 use crate::shared::Shared;
@@ -71,8 +71,9 @@ impl<J: Naming> Session<J> {
     }
 
     /// Makes a change, or says why not, over a journal that begins with all that the session had seen. Afterwards it has seen the
-    /// journal that was answered over, with its own change where that was accepted. `NoCopy` where no such journal is there, and
-    /// then nothing changes. The change's record is made before it waits for the lock. What is long is freed once the lock is free.
+    /// journal that was answered over, with its own change where that was accepted. `NoCopy` where the session has seen more than
+    /// the table's journal, and then nothing changes. The change's record is made before it waits for the lock. What is long is
+    /// freed once the lock is free.
     pub fn submit<K: Sink, R: Wait>(
         &mut self,
         rt: &R,
@@ -80,7 +81,7 @@ impl<J: Naming> Session<J> {
         name: Name,
         draft: Draft,
     ) -> Result<u64, Refusal>
-        ensures answered { ((change_reply result ≡ refused no_copy) × (self.new ≡ self.old))
+        ensures answered { HasNoCopy J.opening self.old self.new (change_reply result)
             ⊎ AnswersChange name draft self.old self.new (change_reply result) }
         ensures accepted { OnOk result (self.new.accepted ≡ self.old.accepted + 1) }
         ensures refused { OnErr result (self.new.accepted ≡ self.old.accepted) }
@@ -101,7 +102,7 @@ impl<J: Naming> Session<J> {
     }
 
     /// The state of a name, over a journal that begins with all that the session had seen, and that it has seen afterwards. `NoCopy`
-    /// where no such journal is there, and then nothing changes. It waits for the lock.
+    /// where the session has seen more than the table's journal, and then nothing changes. It waits for the lock.
     pub fn state<K: Sink, R: Wait>(
         &mut self,
         rt: &R,
@@ -110,7 +111,7 @@ impl<J: Naming> Session<J> {
     ) -> Result<Arc<Doc>, Refusal>
         ensures answered { MatchResult result
             (λ doc. AnswersRead name.now self.old self.new (state (arc_value doc)))
-            (λ refusal. ((refusal_value refusal ≡ no_copy) × (self.new ≡ self.old))
+            (λ refusal. HasNoCopy J.opening self.old self.new (refused (refusal_value refusal))
             ⊎ AnswersRead name.now self.old self.new (refused (refusal_value refusal))) }
         ensures accepted { self.new.accepted ≡ self.old.accepted }
     {
@@ -120,9 +121,10 @@ impl<J: Naming> Session<J> {
         answer
     }
 
-    /// Whether what is published begins with what it has seen.
+    /// Whether what is published begins with what it has seen. If not, its position is lower.
     pub(crate) fn is_covered(&self, board: &Board<J>) -> bool
         ensures yes { result ≡ true → BeginsWith board.now.journal self.now.journal }
+        ensures no { result ≡ false → position_of board.now.journal < position_of self.now.journal }
     {
         board.covers(&self.viewer)
     }

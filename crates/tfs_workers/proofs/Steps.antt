@@ -8,9 +8,10 @@ use Rattle.tfs_calls.specs.declared.query.Query.{Query}
 use Rattle.tfs_calls.specs.Draft.{act_of, draft_refusal}
 use Rattle.tfs_calls.specs.Refusal.{RefusalValue, no_copy, out_of_memory}
 use Rattle.tfs_calls.specs.Reply.{ReplyValue, refused}
+use Rattle.tfs_journal.specs.Journal.{Journal}
 use Rattle.tfs_calls.specs.Transition.{TableModel, Answers, AnswersAct, act_answer, journal_after_act, answer_of, open_model}
 use Rattle.tfs_shared.specs.Impact.{AnswersImpact}
-use Rattle.tfs_shared.specs.Locked.{AnswersChange, AnswersRead}
+use Rattle.tfs_shared.specs.Locked.{AnswersChange, AnswersRead, HasNoCopy}
 use Rattle.tfs_published.specs.Beginning.{BeginsWith}
 use Rattle.tfs_shared.specs.View.{SessionView}
 use Rattle.tfs_published.proofs.Beginnings.{begins_with_itself}
@@ -52,11 +53,11 @@ read_step old new name reply a same none = inr (record {
     answered (inr lacks) = inl (inr (lacks, refl))
 
 -- The answer to a read that is refused.
-pub refused_read_step : (old new : SessionView) (name : List ℕ) (refusal : RefusalValue)
-    → ((refusal ≡ no_copy) × (new ≡ old)) ⊎ AnswersRead name old new (refused refusal) → new.accepted ≡ old.accepted
+pub refused_read_step : (opening : Journal) (old new : SessionView) (name : List ℕ) (refusal : RefusalValue)
+    → HasNoCopy opening old new (refused refusal) ⊎ AnswersRead name old new (refused refusal) → new.accepted ≡ old.accepted
     → SessionStep old (Read name) (refused refusal) new
-refused_read_step old new name refusal (inl a) same = inl (ap refused a.0, a.1)
-refused_read_step old new name refusal (inr a) same = read_step old new name (refused refusal) a same refl
+refused_read_step opening old new name refusal (inl a) same = inl (a.answer, a.same)
+refused_read_step opening old new name refusal (inr a) same = read_step old new name (refused refusal) a same refl
 
 -- The answer to a change that can't be read.
 pub draft_step : (v : SessionView) (name : List ℕ) (raw : Raw) (refusal : RefusalValue)
@@ -84,12 +85,12 @@ draft_step v name raw refusal is = inr (record {
     ))
 
 -- The answer to a change.
-pub change_step : (old new : SessionView) (name : List ℕ) (raw : Raw) (act : ActValue) (reply : ReplyValue)
+pub change_step : (opening : Journal) (old new : SessionView) (name : List ℕ) (raw : Raw) (act : ActValue) (reply : ReplyValue)
     → ((before after : TableModel) → AnswersAct before name act reply after → Answers before (Change name raw) reply after)
-    → ((reply ≡ refused no_copy) × (new ≡ old)) ⊎ AnswersChange name act old new reply → new.accepted ≡ old.accepted + accepted_by reply
+    → HasNoCopy opening old new reply ⊎ AnswersChange name act old new reply → new.accepted ≡ old.accepted + accepted_by reply
     → SessionStep old (Change name raw) reply new
-change_step old new name raw act reply law (inl a) counted = inl a
-change_step old new name raw act reply law (inr a) counted = inr (record {
+change_step opening old new name raw act reply law (inl a) counted = inl (a.answer, a.same)
+change_step opening old new name raw act reply law (inr a) counted = inr (record {
   before = a.before;
   after = a.after;
   fresh = a.fresh;

@@ -11,13 +11,13 @@ returns-in-Err g c = draft_step _ _ _ (refusal_value c.in-Err.refusal) c.in-Err.
 pub returns-in-Ok-submit : goal.returns-in-Ok-submit
 returns-in-Ok-submit g c =
     let reply = done c.in-Ok-submit.position in
-    change_step _ _ c.args.name c.args.raw c.in-Ok.draft reply
+    change_step _ _ _ c.args.name c.args.raw c.in-Ok.draft reply
     (λ before after. c.a_change_is_answered_as_its_act_is.ensures.call before after c.args.name c.args.raw c.in-Ok.draft reply c.in-Ok.ensures.ok)
     c.in-Ok-submit.ensures.answered c.in-Ok-submit.ensures.accepted
 
 pub returns-in-Err-submit : goal.returns-in-Err-submit
 returns-in-Err-submit g c =
     let reply = refused (refusal_value c.in-Err-submit.refusal) in
-    change_step _ _ c.args.name c.args.raw c.in-Ok.draft reply
+    change_step _ _ _ c.args.name c.args.raw c.in-Ok.draft reply
     (λ before after. c.a_change_is_answered_as_its_act_is.ensures.call before after c.args.name c.args.raw c.in-Ok.draft reply c.in-Ok.ensures.ok)
     c.in-Err-submit.ensures.answered (omega (arith, c.in-Err-submit.ensures.refused))

@@ -7,4 +7,4 @@ pub returns-in-Ok : goal.returns-in-Ok
 returns-in-Ok g c = read_step _ _ _ _ c.in-Ok.ensures.answered c.in-Ok.ensures.accepted refl
 
 pub returns-in-Err : goal.returns-in-Err
-returns-in-Err g c = refused_read_step _ _ _ _ c.in-Err.ensures.answered c.in-Err.ensures.accepted
+returns-in-Err g c = refused_read_step _ _ _ _ _ c.in-Err.ensures.answered c.in-Err.ensures.accepted
