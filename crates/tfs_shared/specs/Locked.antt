@@ -17,7 +17,7 @@ pub record IsAhead (opening : Journal) (session : SessionView) : Type 0 where
   pub begins : BeginsWith journal opening
   pub lower : position_of journal < position_of session.journal
 
--- There is no journal to answer over, since the session has seen more than the table's, and nothing changes.
+-- There is no journal to answer over. The session is ahead of one that the table may have, and nothing changes.
 pub record HasNoCopy (opening : Journal) (old new : SessionView) (reply : ReplyValue) : Type 0 where
   pub answer : reply ≡ refused no_copy
   pub ahead : IsAhead opening old
