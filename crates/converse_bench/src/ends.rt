@@ -5,7 +5,7 @@ ghost use Rattle.std.specs.Prelude.{◌≡◌, ◌≤◌};
 use std::io;
 use std::io::{Read, Write};
 use tfs_calls::{Call, Refusal, Reply};
-use tfs_serve::Desk;
+use tfs_conversation::Desk;
 
 /// Gives bytes in pieces of one size.
 #[derive(Drop)]

@@ -3,8 +3,8 @@
 use crate::ends::{Count, Pieces, Still};
 use std::alloc::Global;
 use std::time::Instant;
-use tfs_journal::Discard;
-use tfs_serve::{Desk, Ended, Reads, ServeFault, TableDesk, converse};
+use tfs_conversation::{Desk, Ended, Reads, ServeFault, TableDesk, converse};
+use tfs_records::Discard;
 use tfs_table::{OpenFault, Table};
 
 /// What answers.

@@ -9,7 +9,7 @@ use crate::files::{append_to, print_readings};
 use crate::sample::{SAMPLES, Sample, journal_of};
 use anyhow::{Result, bail};
 use std::env;
-use tfs_reading::{Decoded, End, decode};
+use tfs_journal::{Decoded, End, decode};
 
 mod files;
 mod reading;

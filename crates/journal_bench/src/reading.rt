@@ -2,9 +2,9 @@
 
 use anyhow::Result;
 use std::alloc::Global;
-use tfs_journal::{BaseRow, Entry, encode, encode_base};
+use tfs_journal::{Decoded, End};
 use tfs_lock::Id;
-use tfs_reading::{Decoded, End};
+use tfs_records::{BaseRow, Entry, encode, encode_base};
 use tfs_rules::Act;
 
 /// The header, the base and the record of each entry of a reading, written again.

@@ -3,7 +3,7 @@
 use anyhow::{Result, anyhow};
 use std::alloc::{AllocError, Global};
 use std::sync::Arc;
-use tfs_journal::{Base, Entry, encode, encode_base};
+use tfs_records::{Base, Entry, encode, encode_base};
 use tfs_rules::{Act, Name};
 use tfs_state::{Doc, MAX_STATE_BYTES};
 

@@ -5,8 +5,8 @@ use anyhow::Result;
 use md5::{Digest, Md5};
 use std::rt::Clock;
 use std::time::{Duration, Instant};
-use tfs_journal::encode;
-use tfs_reading::decode;
+use tfs_journal::decode;
+use tfs_records::encode;
 
 /// Each is measured so many times.
 const ROUNDS: usize = 7;

@@ -8,7 +8,7 @@ use std::alloc::Global;
 use std::sync::Wait;
 use std::sync::ledger::Blank;
 use tfs_calls::{Draft, Query, Refusal};
-use tfs_journal::Discard;
+use tfs_records::Discard;
 use tfs_rules::Name;
 use tfs_shared::{Naming, Opened, Session, Shared, Strangers, Unshared, gather, share};
 use tfs_table::Table;

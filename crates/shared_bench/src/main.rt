@@ -37,7 +37,7 @@ use std::sync::Wait;
 use std::thread::Threads;
 use std::time::{Clock, Instant};
 use std::{env, thread};
-use tfs_journal::{Discard, MemorySink};
+use tfs_records::{Discard, MemorySink};
 
 /// How often what is measured takes its turn.
 const ROUNDS: usize = 40;

@@ -8,7 +8,7 @@ use anyhow::{Result, bail};
 use std::marker::Brand;
 use std::sync::Wait;
 use std::sync::ledger::Blank;
-use tfs_journal::Discard;
+use tfs_records::Discard;
 use tfs_shared::Opened;
 use tfs_table::Table;
 

@@ -3,7 +3,7 @@
 use crate::steps::{Ask, Deed, Log, NAMES, Told};
 use anyhow::{Result, bail};
 use std::alloc::Global;
-use tfs_journal::{Discard, Entry};
+use tfs_records::{Discard, Entry};
 use tfs_rules::Act;
 use tfs_table::{Table, first_unlawful};
 

@@ -14,7 +14,7 @@ use std::sync::Wait;
 use std::sync::ledger::Blank;
 use std::thread::Threads;
 use std::time::Clock;
-use tfs_journal::Sink;
+use tfs_records::Sink;
 use tfs_shared::{Naming, Opened, Session, Shared, Strangers, gather, share};
 use tfs_table::Table;
 

@@ -6,7 +6,7 @@ use std::alloc::Global;
 use std::sync::Wait;
 use std::time::{Clock, Instant};
 use tfs_calls::Draft;
-use tfs_journal::{Discard, Sink};
+use tfs_records::{Discard, Sink};
 use tfs_rules::Name;
 use tfs_shared::{Naming, Session, Shared};
 use tfs_table::Table;

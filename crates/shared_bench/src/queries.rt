@@ -6,7 +6,7 @@ use std::alloc::Global;
 use std::sync::Wait;
 use std::thread::Threads;
 use std::time::{Clock, Instant};
-use tfs_journal::Sink;
+use tfs_records::Sink;
 use tfs_shared::{Naming, Shared};
 
 /// The nanoseconds of as many queries by each session that asks: of one alone, of all at the same time, and of all beside pushes, of

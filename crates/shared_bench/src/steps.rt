@@ -5,7 +5,7 @@ use anyhow::Result;
 use std::alloc::Global;
 use std::sync::Wait;
 use tfs_calls::{Bytes, Draft, Raw, Text};
-use tfs_journal::Sink;
+use tfs_records::Sink;
 use tfs_shared::{Naming, Session, Shared};
 
 /// How many names all sessions share.

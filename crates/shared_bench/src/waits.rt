@@ -9,7 +9,7 @@ use std::sync::atomic::{AtomicU64, Ordering};
 use std::thread::Threads;
 use std::time::{Clock, Instant};
 use tfs_calls::Draft;
-use tfs_journal::{Entry, MemorySink, Out, Sink, encode};
+use tfs_records::{Entry, MemorySink, Out, Sink, encode};
 use tfs_rules::Name;
 use tfs_shared::{Naming, Session, Shared};
 

@@ -11,7 +11,7 @@ use std::thread;
 use std::thread::Threads;
 use std::time::Clock;
 use tfs_calls::Query;
-use tfs_journal::Sink;
+use tfs_records::Sink;
 use tfs_rules::Name;
 use tfs_shared::{Naming, Session, Shared};
 

@@ -5,8 +5,8 @@ use crate::pushes::{apply_all, pushes_of};
 use anyhow::{Result, bail};
 use std::alloc::{AllocError, Global};
 use std::time::{Clock, Duration, Instant};
-use tfs_journal::Discard;
-use tfs_serve::{Ended, Reads, converse_over_table};
+use tfs_conversation::{Ended, Reads, converse_over_table};
+use tfs_records::Discard;
 use tfs_table::Table;
 
 /// The requests that push states to one name, and these states.

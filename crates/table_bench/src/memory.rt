@@ -3,7 +3,7 @@
 use anyhow::{Result, bail};
 use std::alloc::Global;
 use tfs_calls::{Bytes, Draft, Raw, Refusal};
-use tfs_journal::Discard;
+use tfs_records::Discard;
 use tfs_rules::Name;
 use tfs_state::MAX_STATE_BYTES;
 use tfs_table::Table;

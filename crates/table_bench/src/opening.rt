@@ -5,8 +5,8 @@ use crate::pushes::{apply_all, pushes_of};
 use anyhow::{Result, bail};
 use std::alloc::Global;
 use std::time::{Clock, Duration, Instant};
-use tfs_journal::{Discard, MemorySink};
-use tfs_reading::{End, decode};
+use tfs_journal::{End, decode};
+use tfs_records::{Discard, MemorySink};
 use tfs_table::Table;
 
 /// The bytes of a journal, and how many entries they have.

@@ -3,7 +3,7 @@
 use anyhow::{Result, bail};
 use std::alloc::Global;
 use tfs_calls::{Bytes, Draft, Raw};
-use tfs_journal::Sink;
+use tfs_records::Sink;
 use tfs_rules::Name;
 use tfs_state::MAX_STATE_BYTES;
 use tfs_table::Table;

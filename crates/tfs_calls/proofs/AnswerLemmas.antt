@@ -17,7 +17,7 @@ use Rattle.tfs_rules.specs.History.{state_of, holder_of}
 use Rattle.tfs_rules.specs.Verdict.{verdict_of}
 use Rattle.tfs_rules.specs.declared.verdict.Verdict.{Verdict}
 use Rattle.tfs_rules.specs.declared.verdict.Verdict.TheVariants as verdict
-use Rattle.tfs_journal.specs.Journal.{acts_of, names_of}
+use Rattle.tfs_records.specs.Journal.{acts_of, names_of}
 use Rattle.tfs_index.specs.Impact.{query_fault}
 use Rattle.tfs_index.specs.declared.fault.ImpactFault.TheVariants as impact_fault
 use Rattle.tfs_calls.specs.Draft.{act_of, is_too_long, lock_refusal, state_refusal, lock_text_refusal, state_text_refusal, draft_refusal}

@@ -11,7 +11,7 @@ use Rattle.tfs_rules.specs.History.{History, state_of, holder_of}
 use Rattle.tfs_rules.specs.Verdict.{verdict_of}
 use Rattle.tfs_rules.specs.declared.verdict.Verdict.{Verdict}
 use Rattle.tfs_rules.specs.declared.verdict.Verdict.TheVariants as verdict
-use Rattle.tfs_journal.specs.Journal.{Journal, acts_of, names_of, position_of, with_entry}
+use Rattle.tfs_records.specs.Journal.{Journal, acts_of, names_of, position_of, with_entry}
 use Rattle.tfs_calls.specs.Draft.{act_of, draft_refusal}
 use Rattle.tfs_state.specs.Document.{Document}
 use Rattle.tfs_calls.specs.Impact.{chosen_by, query_refusal}

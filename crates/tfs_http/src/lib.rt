@@ -13,3 +13,4 @@ mod tests;
 pub use laws::{each_status_has_its_phrase, what_becomes_of_a_request_is_one_thing};
 pub use reply::{body_of, write_head, write_reply};
 pub use routes::{Routes, call_of};
+pub use tfs_framing::{Form, Request, Take, take};

@@ -2,7 +2,7 @@
 use Rattle.std.proofs.Common.{◌≡◌, ◌≤◌, ◌<◌, length, arith, List, [], ◌++◌, refl, sym, ◌∙◌, ap, append_assoc, append-nil, length-append}
 use Rattle.std.proofs.lemmas.List.{map-append, length-map}
 use mathlib.Core.List.{IsPrefix}
-use Rattle.tfs_journal.specs.Journal.{Journal, BaseValue, EntryValue, position_of}
+use Rattle.tfs_records.specs.Journal.{Journal, BaseValue, EntryValue, position_of}
 use Rattle.tfs_published.specs.Change.{ChangeValue, journal_after, entries_of}
 use Rattle.tfs_published.specs.Beginning.{BeginsWith}
 use Rattle.tfs_published.proofs.Prefixes.{prefix_shorter}

@@ -5,7 +5,7 @@ use Rattle.std.specs.List.{range_with_len}
 use Rattle.std.proofs.Common.{append-nil, length-append}
 use Rattle.logbook.specs.Pages.{Book}
 use Rattle.tfs_rules.specs.History.{state_of}
-use Rattle.tfs_journal.specs.Journal.{EntryValue, Journal, with_entry, position_of, acts_of, names_of}
+use Rattle.tfs_records.specs.Journal.{EntryValue, Journal, with_entry, position_of, acts_of, names_of}
 use Rattle.tfs_published.specs.Board.{IsBoard, IsQueue}
 use Rattle.tfs_published.specs.Change.{ChangeValue, journal_after}
 use Rattle.tfs_published.specs.PlaceView.{place_with}

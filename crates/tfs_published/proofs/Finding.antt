@@ -9,9 +9,9 @@ use Rattle.std.proofs.lemmas.List.Quantifiers.{position-Some}
 use Rattle.std.proofs.lemmas.Option.{slice_get_within}
 use Rattle.std.proofs.lemmas.Slice.Eq.{bytes_eq-Decides}
 use Rattle.tfs_rules.specs.History.{state_of}
-use Rattle.tfs_journal.specs.Journal.{Journal, acts_of, names_of}
-use Rattle.tfs_journal.proofs.NameLemmas.{bytes_same}
-use Rattle.tfs_journal.proofs.JournalLemmas.{acts_of_absent}
+use Rattle.tfs_records.specs.Journal.{Journal, acts_of, names_of}
+use Rattle.tfs_records.proofs.NameLemmas.{bytes_same}
+use Rattle.tfs_records.proofs.JournalLemmas.{acts_of_absent}
 use Rattle.tfs_published.specs.Found.{IsFound}
 use Rattle.tfs_published.specs.Place.{place_view, has_name}
 use Rattle.tfs_published.specs.PlaceView.{place_with}

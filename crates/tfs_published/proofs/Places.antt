@@ -10,9 +10,9 @@ use Rattle.std.proofs.lemmas.List.FromFn.{length-map-range_with_len, get_or-map-
 use Rattle.std.proofs.lemmas.List.FromFn.{map-range_with_len_more, fill_by_all}
 use Rattle.std.proofs.lemmas.Option.{slice_get_within, get_or_from_slice_get}
 use Rattle.tfs_rules.specs.History.{History, state_of}
-use Rattle.tfs_journal.specs.Journal.{EntryValue, Journal, with_entry, acts_of, names_of}
-use Rattle.tfs_journal.proofs.NameLemmas.{bytes_same}
-use Rattle.tfs_journal.proofs.JournalLemmas.{acts_of_other, names_kept, names_added, names_once}
+use Rattle.tfs_records.specs.Journal.{EntryValue, Journal, with_entry, acts_of, names_of}
+use Rattle.tfs_records.proofs.NameLemmas.{bytes_same}
+use Rattle.tfs_records.proofs.JournalLemmas.{acts_of_other, names_kept, names_added, names_once}
 use Rattle.tfs_published.specs.Place.{place_view}
 use Rattle.tfs_published.specs.PlaceView.{place_with}
 use Rattle.tfs_published.specs.Published.{place_given, ArePlacesOf}

@@ -3,7 +3,7 @@ use Rattle.std.proofs.Common.{◌≡◌, ℕ, List, Option, Some, None, IfSome, 
 use mathlib.Core.List.{IsPrefix}
 use Rattle.logbook.specs.Pages.{Book}
 use Rattle.tfs_rules.specs.History.{state_of}
-use Rattle.tfs_journal.specs.Journal.{Journal, position_of, acts_of}
+use Rattle.tfs_records.specs.Journal.{Journal, position_of, acts_of}
 use Rattle.tfs_published.specs.Change.{journal_after}
 use Rattle.tfs_published.specs.Found.{IsFound}
 use Rattle.tfs_published.specs.Published.{StandsFor}

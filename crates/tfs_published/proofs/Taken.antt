@@ -3,7 +3,7 @@ use Rattle.std.proofs.Common.{◌≡◌, ℕ, List, ◌∷◌, ◌++◌, [], map
 use Rattle.std.proofs.lemmas.List.{map-append}
 use Rattle.logbook.specs.Pages.{Book}
 use Rattle.tfs_rules.specs.History.{state_of}
-use Rattle.tfs_journal.specs.Journal.{EntryValue, Journal, with_entry, acts_of}
+use Rattle.tfs_records.specs.Journal.{EntryValue, Journal, with_entry, acts_of}
 use Rattle.tfs_published.specs.Change.{ChangeValue, journal_after}
 use Rattle.tfs_published.specs.PlaceView.{place_with}
 use Rattle.tfs_published.specs.Published.{IsPublished, updated, TellsEntry, StandsFor, TellsChange}

@@ -1,7 +1,7 @@
 -- What lies under the lock beside the table.
 use Rattle.std.specs.Prelude.{◌≡◌, List, [], Option, Some, None, IfSome}
 use Rattle.logbook.specs.Pages.{Book}
-use Rattle.tfs_journal.specs.Journal.{Journal}
+use Rattle.tfs_records.specs.Journal.{Journal}
 use Rattle.tfs_published.specs.Token.{TokenValue}
 use Rattle.tfs_published.specs.Published.{IsPublished, StandsFor, Queues}
 use Rattle.tfs_published.specs.declared.view.CopyView.{CopyView}

@@ -2,7 +2,7 @@
 use Rattle.std.specs.Prelude.{List, ◌++◌, map, fold, Option, None}
 use Rattle.tfs_state.specs.Document.{Document}
 use Rattle.tfs_rules.specs.History.{state_of}
-use Rattle.tfs_journal.specs.Journal.{EntryValue, Journal, with_entry, acts_of}
+use Rattle.tfs_records.specs.Journal.{EntryValue, Journal, with_entry, acts_of}
 use Rattle.tfs_table.specs.Ready.{ReadyValue}
 
 -- An accepted change: its entry, and the state that its name has afterwards.

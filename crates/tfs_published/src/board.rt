@@ -2,7 +2,7 @@
 
 ghost use Rattle.std.specs.Prelude.{◌≡◌, ◌≤◌, ◌<◌, ◌∷◌, ◌++◌, [], true, false, drop, length, Some, None, IfSome, IfOk, OnOk, OnErr, option_map};
 ghost use Rattle.std.specs.Arc.{arc_value};
-ghost use Rattle.tfs_journal.specs.Journal.{with_entry, position_of};
+ghost use Rattle.tfs_records.specs.Journal.{with_entry, position_of};
 ghost use Rattle.tfs_published.specs.Board.{Shows};
 ghost use Rattle.tfs_published.specs.declared.operation.Operation.TheVariants.{Take};
 ghost use Rattle.tfs_published.specs.Change.{change_of, journal_after, state_told};
@@ -23,7 +23,7 @@ use std::marker::Model;
 use std::mem::replace;
 use std::sync::{Arc, Wait};
 use tfs_index::Version;
-use tfs_journal::Sink;
+use tfs_records::Sink;
 use tfs_rules::Name;
 use tfs_table::{Ready, Table};
 
@@ -40,7 +40,7 @@ pub struct Board<J: Naming> {
 
 impl<J: Naming> Model for Board<J> {
     ghost use Rattle.std.specs.Prelude.{◌≡◌, drop, option_map};
-    ghost use Rattle.tfs_journal.specs.Journal.{position_of};
+    ghost use Rattle.tfs_records.specs.Journal.{position_of};
     ghost use Rattle.tfs_published.specs.Board.{BoardView, IsBoard};
     ghost use Rattle.tfs_published.specs.Change.{journal_after};
 

@@ -3,7 +3,7 @@
 use std::marker::Model;
 use std::sync::Arc;
 use tfs_index::Version;
-use tfs_journal::Entry;
+use tfs_records::Entry;
 
 /// An accepted change: its entry, and the version that its name has afterwards. No value of it is made, since the history
 /// exists for contracts alone.

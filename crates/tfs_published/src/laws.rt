@@ -2,7 +2,7 @@
 
 ghost use Rattle.std.specs.Prelude.{◌≡◌, ◌≤◌, List};
 ghost use mathlib.Core.List.{IsPrefix};
-ghost use Rattle.tfs_journal.specs.Journal.{Journal, position_of};
+ghost use Rattle.tfs_records.specs.Journal.{Journal, position_of};
 ghost use Rattle.tfs_published.specs.Change.{ChangeValue, journal_after};
 ghost use Rattle.tfs_published.specs.Beginning.{BeginsWith};
 

@@ -8,7 +8,7 @@ use std::sync::ledger::Ledger;
 pub trait Naming: Ledger {
     ghost use Rattle.std.specs.Prelude.{ℕ};
     ghost use Rattle.logbook.specs.Pages.{Book};
-    ghost use Rattle.tfs_journal.specs.Journal.{Journal};
+    ghost use Rattle.tfs_records.specs.Journal.{Journal};
 
     ghost book: { Book };
 
@@ -18,7 +18,7 @@ pub trait Naming: Ledger {
 }
 
 impl Naming for Brand {
-    ghost use Rattle.tfs_journal.specs.Journal.{opened, empty_base};
+    ghost use Rattle.tfs_records.specs.Journal.{opened, empty_base};
 
     ghost book = { record { number = 0; log_name = 0; cells_name = 0 } };
 

@@ -13,7 +13,7 @@ use crate::token::Token;
 use std::alloc::AllocError;
 use std::sync::Arc;
 use tfs_index::Version;
-use tfs_journal::Sink;
+use tfs_records::Sink;
 use tfs_table::Table;
 
 /// A place of a published copy.

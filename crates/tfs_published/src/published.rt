@@ -2,7 +2,7 @@
 
 ghost use Rattle.std.specs.Prelude.{◌≡◌, ◌<◌, IfSome, IfOk, map, vec_len};
 ghost use Rattle.std.specs.List.{range_with_len};
-ghost use Rattle.tfs_journal.specs.Journal.{position_of};
+ghost use Rattle.tfs_records.specs.Journal.{position_of};
 ghost use Rattle.tfs_published.specs.Place.{place_view};
 ghost use Rattle.tfs_published.specs.Published.{updated, place_given};
 ghost use Rattle.tfs_published.specs.Sight.{IsSight};
@@ -18,7 +18,7 @@ use std::alloc::{AllocError, Global};
 use std::marker::Model;
 use std::sync::Arc;
 use tfs_index::Version;
-use tfs_journal::Sink;
+use tfs_records::Sink;
 use tfs_rules::Name;
 use tfs_table::Table;
 

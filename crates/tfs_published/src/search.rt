@@ -2,7 +2,7 @@
 
 ghost use Rattle.std.specs.Prelude.{◌≡◌, ◌<◌, length, map, position, IfSome};
 ghost use Rattle.tfs_rules.specs.History.{state_of};
-ghost use Rattle.tfs_journal.specs.Journal.{Journal, acts_of};
+ghost use Rattle.tfs_records.specs.Journal.{Journal, acts_of};
 ghost use Rattle.tfs_published.specs.Found.{IsFound};
 ghost use Rattle.tfs_published.specs.Place.{place_view, has_name};
 ghost use Rattle.tfs_published.specs.Published.{ArePlacesOf};

@@ -2,7 +2,7 @@
 
 ghost use Rattle.std.specs.Prelude.{◌≡◌, IfSome, IfNone};
 ghost use Rattle.tfs_rules.specs.History.{state_of};
-ghost use Rattle.tfs_journal.specs.Journal.{position_of, acts_of};
+ghost use Rattle.tfs_records.specs.Journal.{position_of, acts_of};
 ghost use Rattle.tfs_published.specs.Beginning.{BeginsWith};
 ghost use Rattle.tfs_published.specs.Change.{journal_after};
 ghost use Rattle.tfs_published.specs.Found.{IsFound};
@@ -24,7 +24,7 @@ pub struct Viewer<J: Naming> {
 
 impl<J: Naming> Model for Viewer<J> {
     ghost use Rattle.std.specs.Prelude.{◌≡◌};
-    ghost use Rattle.tfs_journal.specs.Journal.{Journal, position_of};
+    ghost use Rattle.tfs_records.specs.Journal.{Journal, position_of};
     ghost use Rattle.tfs_published.specs.Change.{journal_after};
 
     ghost Value = { Journal };

@@ -1,12 +1,5 @@
-pub mod DeskLemmas
-pub mod IoLemmas
-pub mod InputLemmas
-pub mod MessagesLemmas
-pub mod CourseLemmas
-pub mod FaultLemmas
-pub mod ConversationLemmas
-pub mod BrokenLemmas
-pub mod ArrivedLemmas
-pub mod StepLemmas
-pub mod OutputLemmas
-pub mod ExistenceLemmas
+pub mod Captures
+pub mod Later
+pub mod Reaching
+pub mod Steps
+pub mod Working

@@ -1,33 +1,24 @@
-//! Conversations over a connection: requests in, replies out, and a desk that answers the calls, such as one that asks a table. The
-//! work of the commands that read a journal is here too.
+//! Workers: conversations over the sessions of a shared table, on connections to one listener.
 #![tactic(auto)]
 
-mod arrived;
-mod body;
-mod check;
-mod chunked;
-mod conversation;
-mod desk;
-mod ended;
-mod fault;
-mod input;
-mod laws;
-mod output;
-mod reads;
-mod rebase;
-mod run_fault;
-mod table_desk;
+mod connection;
+mod gate;
+mod gated;
+mod serving;
+mod session_desk;
+mod worker;
 
-pub use check::run_check;
-pub use conversation::converse;
-pub use desk::Desk;
-pub use ended::Ended;
-pub use fault::ServeFault;
-pub use laws::{bytes_have_an_output, bytes_have_one_list_of_messages, bytes_have_one_output};
-pub use reads::{MAX_READS, Reads};
-pub use rebase::run_rebase;
-pub use run_fault::RunFault;
-pub use table_desk::{TableDesk, converse_over_table};
+pub use connection::{MAX_REQUEST_SECONDS, MAX_WAIT_SECONDS};
+pub use gate::{Gate, Open};
+pub use gated::Gated;
+pub use serving::{AcceptFault, work};
+pub use session_desk::{MAX_BYTES_AT_ONCE, Service, SessionDesk};
+pub use tfs_conversation::{
+    Desk, Ended, MAX_READS, Reads, RunFault, ServeFault, TableDesk, bytes_have_an_output,
+    bytes_have_one_list_of_messages, bytes_have_one_output, converse, converse_over_table,
+    run_check, run_rebase,
+};
+pub use worker::{Worker, work_all};
 
 #[cfg(test)]
 mod tests;

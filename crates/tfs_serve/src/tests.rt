@@ -1,113 +1,215 @@
-//! Conversations over a table, with replies worked out by hand.
+//! Workers of shared tables, over connections on the loopback.
 
-mod bodies;
-mod commands;
-mod cuts;
-mod desks;
-mod faults;
-mod pipes;
-mod stops;
-mod writes;
+ghost use Rattle.std.specs.Prelude.{◌≡◌, ◌≤◌};
 
-use super::*;
+use crate::{Gate, Service, Worker, work, work_all};
 use std::alloc::Global;
-use std::io;
+use std::io::Write;
+use std::marker::Brand;
+use std::net::{Net, SocketAddr, TcpListener, TcpStream};
 use std::process::Abort;
+use std::sync::atomic::{AtomicU64, Ordering};
+use std::sync::ledger::Blank;
+use std::sync::{Mutex, Wait};
 use std::test::Fail;
-use tfs_journal::{Discard, Sink};
+use std::thread::Threads;
+use std::time::{Clock, Duration};
+use std::{io, thread};
+use tfs_calls::{Call, Reply};
+use tfs_records::Discard;
+use tfs_shared::{Naming, Opened, Session, Shared, share};
 use tfs_table::Table;
 
-const S1: &str = "{\"version\":4, \"serial\":1 ,\"lineage\":\"L1\"}";
+/// A push of three resources, the second of which depends on the first, and the third on the second.
+const PUSH: [&str; 5] = [
+    "POST /state/a HTTP/1.1\r\nHost: h\r\nContent-Length: 293\r\nConnection: close\r\n\r\n",
+    "{\"version\":4,\"serial\":2,\"lineage\":\"L1\",\"resources\":[",
+    "{\"mode\":\"managed\",\"type\":\"t\",\"name\":\"a\",\"instances\":[{\"dependencies\":[\"x.y\"]}]},",
+    "{\"mode\":\"managed\",\"type\":\"t\",\"name\":\"b\",\"instances\":[{\"dependencies\":[\"t.a\"]}]},",
+    "{\"mode\":\"managed\",\"type\":\"t\",\"name\":\"c\",\"instances\":[{\"dependencies\":[\"t.b\"]}]}]}",
+];
 
-/// A push of S1 to `a` and a read of `a`, 130 bytes.
-const PUSH_AND_READ: &str =
-    "POST /state/a HTTP/1.1\r\nHost: h\r\nContent-Length: 41\r\n\r\n{\"version\":4, \"serial\":1 ,\"lineage\":\"L1\"}GET /state/a HTTP/1.1\r\nHost: h\r\n\r\n";
+/// What a change of the first resource reaches.
+const ASK: [&str; 1] = [
+    "GET /impact/a/any?of=t.a HTTP/1.1\r\nHost: h\r\nConnection: close\r\n\r\n",
+];
 
-/// The reply to the push is 38 bytes, and that to the read 112.
-const BOTH_REPLIES: &str = "HTTP/1.1 200 OK\r\nContent-Length: 0\r\n\r\n\
-     HTTP/1.1 200 OK\r\nContent-Type: application/json\r\nContent-Length: 41\r\n\r\n{\"version\":4, \"serial\":1 ,\"lineage\":\"L1\"}";
+const OK: &str = "HTTP/1.1 200 OK\r\nConnection: close\r\n";
 
-const PUSH_REPLY_BYTES: usize = 38;
+const ANSWER: &str = "\r\n\r\n{\"instances\":[\"t.b\",\"t.c\"],\"position\":1,\"serial\":2}";
 
-/// The reply to an accepted change.
-const DONE: &str = "HTTP/1.1 200 OK\r\nContent-Length: 0\r\n\r\n";
-
-/// A new table, whose journal is discarded.
-fn table_of(rt: &(impl Alloc<A = Global> + Abort)) -> Table<Discard> {
-    Table::new(rt.alloc(), Discard).ok().expect(rt, "a table")
+/// A gate that admits so many connections, and holds each request until as many have come to all gates.
+#[derive(Drop)]
+struct Meeting<'m, R: Clock> {
+    rt: &'m R,
+    come: &'m AtomicU64,
+    wanted: u64,
+    open: u64,
+    met: bool,
 }
 
-/// A conversation with no reads so far.
-fn talk<R: io::Read, W: io::Write, K: Sink>(
-    alloc: Global,
-    reader: &mut R,
-    writer: &mut W,
-    table: &mut Table<K>,
-) -> Result<Ended, ServeFault> {
-    converse_over_table(alloc, reader, writer, table, &mut Reads::new())
+impl<'m, R: Clock> Gate for Meeting<'m, R> {
+    ghost use Rattle.std.specs.Prelude.{None};
+
+    ghost told = { λ gate. None };
+
+    fn admit(&mut self) -> bool {
+        let admits = 0 < self.open;
+        self.open = self.open.saturating_sub(1);
+        admits
+    }
+
+    fn before(&mut self, _call: &Call) {
+        self.come.fetch_add(1, Ordering::SeqCst);
+        for _turn in 0..10_000 {
+            if self.wanted <= self.come.load(Ordering::SeqCst) {
+                self.met = true;
+                return;
+            }
+            thread::sleep(self.rt, Duration::from_millis(1));
+        }
+    }
+
+    fn after(&mut self, _reply: &Reply) {}
 }
 
-/// The input in one piece is answered with this output, and the conversation is Clean.
-fn expect<K: Sink>(
-    rt: &(impl Alloc<A = Global> + Abort),
-    table: &mut Table<K>,
-    input: &str,
-    output: &str,
-) {
-    let mut reader = input.as_bytes();
-    let mut writer = Vec::new(rt.alloc());
-    let ended = talk(rt.alloc(), &mut reader, &mut writer, table);
-    assert!(rt; ended == Ok(Ended::Clean), "{input}");
-    assert!(rt; writer.as_slice() == output.as_bytes(), "{input}");
+#[test]
+fn two_workers_answer_at_once(rt: HostRuntime) -> Result<(), Fail> {
+    let table = Table::new(rt.alloc(), Discard).ok().expect(&rt, "a table");
+    played(&rt, table, Blank::new(2), Opened::new())
 }
 
-/// A push of the text to `a`.
-fn push_of(rt: &impl Alloc<A = Global>, text: &str) -> Result<String, Fail> {
-    let len = text.len();
-    Ok(format!(in rt.alloc();
-        "POST /state/a HTTP/1.1\r\nHost: h\r\nContent-Length: {len}\r\n\r\n{text}"
-    )?)
+/// The scene over a table that is shared by two sessions.
+fn played<
+    R: Threads
+        + Wait
+        + Clock
+        + Abort
+        + Alloc<A = Global>
+        + Net<Stream = TcpStream, Listener = TcpListener>
+        + Sync,
+>(rt: &R, table: Table<Discard>, blank: Blank, opened: Opened) -> Result<(), Fail>
+    requires { blank.parts ≡ 2 }
+{
+    play::<Brand, R>(rt, table, blank, opened)
 }
 
-/// A request with a body, whose length it tells.
-fn request_of(
-    rt: &impl Alloc<A = Global>,
-    method: &str,
-    target: &str,
-    body: &str,
-) -> Result<String, Fail> {
-    let len = body.len();
-    Ok(format!(in rt.alloc();
-        "{method} {target} HTTP/1.1\r\nHost: h\r\nContent-Length: {len}\r\n\r\n{body}"
-    )?)
+fn play<
+    J: Naming + Send + Sync,
+    R: Threads
+        + Wait
+        + Clock
+        + Abort
+        + Alloc<A = Global>
+        + Net<Stream = TcpStream, Listener = TcpListener>
+        + Sync,
+>(rt: &R, table: Table<Discard>, blank: Blank, opened: Opened) -> Result<(), Fail>
+    requires sessions { (2 ≡ J.sessions) × (J.parts ≡ J.sessions) }
+    requires ledger { (blank.name ≡ J.name) × (blank.parts ≡ J.parts) }
+    requires book { opened ≡ J.book }
+    requires opening { table.journal ≡ J.opening }
+{
+    let made = share::<J, Discard, R>(rt, rt.alloc(), table, 2, blank, opened);
+    let (shared, sessions) = made.ok().expect(rt, "a shared table");
+    let outcome = push_and_ask(rt, &shared, sessions);
+    shared.close(rt);
+    outcome
 }
 
-/// A request is answered with this reply, and the conversation ends with the input.
-fn ask<K: Sink>(
-    rt: &(impl Alloc<A = Global> + Abort),
-    table: &mut Table<K>,
-    method: &str,
-    target: &str,
-    body: &str,
-    reply: &str,
-) -> Result<(), Fail> {
-    let request = request_of(rt, method, target, body)?;
-    expect(rt, table, request.as_str(), reply);
+/// One worker is told a state; then two are asked at once, and each holds its request until the other one has come.
+fn push_and_ask<
+    J: Naming + Send + Sync,
+    R: Threads
+        + Wait
+        + Clock
+        + Abort
+        + Alloc<A = Global>
+        + Net<Stream = TcpStream, Listener = TcpListener>
+        + Sync,
+>(rt: &R, shared: &Shared<J, Discard>, sessions: Vec<Session<J>>) -> Result<(), Fail> {
+    let listener = TcpListener::bind(rt, "127.0.0.1:0")
+        .ok()
+        .expect(rt, "a listener");
+    let address = listener.local_addr().ok().expect(rt, "an address");
+    let come = AtomicU64::new(0);
+    let mut workers = Vec::new(rt.alloc());
+    for session in sessions {
+        let gate = Meeting {
+            rt,
+            come: &come,
+            wanted: 2,
+            open: 1,
+            met: false,
+        };
+        let failed = true;
+        workers.push(Worker {
+            gate,
+            session,
+            failed,
+        })?;
+    }
+    let first = workers.as_mut_slice().get_mut(0).expect(rt, "a worker");
+    push(rt, shared, &listener, address, &mut first.session)?;
+    let one = sent(rt, address, &ASK).ok().expect(rt, "a connection");
+    let other = sent(rt, address, &ASK).ok().expect(rt, "a connection");
+    work_all(rt, rt.alloc(), &listener, workers.as_mut_slice(), shared);
+    for worker in workers.as_slice() {
+        assert!(rt; worker.gate.met && !worker.failed);
+    }
+    for stream in [one, other] {
+        let reply = io::read_to_string(rt.alloc(), stream)
+            .ok()
+            .expect(rt, "a reply");
+        assert!(rt; reply.starts_with(OK) && reply.ends_with(ANSWER));
+    }
     Ok(())
 }
 
-/// The reply that tells a JSON text.
-fn reply_of(rt: &impl Alloc<A = Global>, text: &str) -> Result<String, Fail> {
-    let len = text.len();
-    Ok(format!(in rt.alloc();
-        "HTTP/1.1 200 OK\r\nContent-Type: application/json\r\nContent-Length: {len}\r\n\r\n{text}"
-    )?)
+/// One connection, which a session alone answers.
+fn push<
+    J: Naming,
+    R: Wait + Clock + Abort + Alloc<A = Global> + Net<Stream = TcpStream, Listener = TcpListener>,
+>(
+    rt: &R,
+    shared: &Shared<J, Discard>,
+    listener: &TcpListener,
+    address: SocketAddr,
+    session: &mut Session<J>,
+) -> Result<(), Fail> {
+    let stream = sent(rt, address, &PUSH).ok().expect(rt, "a connection");
+    let come = AtomicU64::new(0);
+    let turn = Mutex::new(());
+    let service = Service {
+        rt,
+        alloc: rt.alloc(),
+        shared,
+        turn: &turn,
+    };
+    let mut gate = Meeting {
+        rt,
+        come: &come,
+        wanted: 1,
+        open: 1,
+        met: false,
+    };
+    assert!(rt; work(&service, listener, &mut gate, session).is_ok());
+    assert!(rt; gate.met && session.seen() == 1 && session.accepted() == 1);
+    let reply = io::read_to_string(rt.alloc(), stream)
+        .ok()
+        .expect(rt, "a reply");
+    assert!(rt; reply.starts_with(OK));
+    Ok(())
 }
 
-/// The reply of a refusal after which the conversation goes on.
-fn refusal_of(rt: &impl Alloc<A = Global>, status: &str, name: &str) -> Result<String, Fail> {
-    let len = name.len() + 12;
-    Ok(format!(in rt.alloc();
-        "HTTP/1.1 {status}\r\nContent-Type: application/json\r\nContent-Length: {len}\r\n\r\n{{\"error\":\"{name}\"}}"
-    )?)
+/// A connection on which texts were sent.
+fn sent<R: Net<Stream = TcpStream>>(
+    rt: &R,
+    address: SocketAddr,
+    texts: &[&str],
+) -> io::Result<TcpStream> {
+    let mut stream = TcpStream::connect(rt, address)?;
+    for text in texts {
+        stream.write_all(text.as_bytes())?;
+    }
+    Ok(stream)
 }

@@ -4,10 +4,10 @@ use denote.Param.Send.{IsSend, IsSync, sendable}
 use Rattle.std.proofs.Crossing.{crosses}
 use Rattle.std.proofs.sync.ledger.Book.TheSendSync as book
 use Rattle.std.specs.declared.sync.ledger.Ledger as ledger
-use Rattle.tfs_journal.specs.declared.sink.Sink as sink
-use Rattle.tfs_journal.proofs.base.Base.TheSendSync as base
-use Rattle.tfs_journal.proofs.entry.Entry.TheSendSync as entry
-use Rattle.tfs_journal.proofs.out.Out.TheSendSync as out
+use Rattle.tfs_records.specs.declared.sink.Sink as sink
+use Rattle.tfs_records.proofs.base.Base.TheSendSync as base
+use Rattle.tfs_records.proofs.entry.Entry.TheSendSync as entry
+use Rattle.tfs_records.proofs.out.Out.TheSendSync as out
 use Rattle.tfs_table.specs.contracts.table.Table as Table
 use Rattle.tfs_table.proofs.workspace.Workspace.TheSendSync as workspace
 use Rattle.tfs_published.specs.declared.naming.Naming as naming

@@ -1,7 +1,7 @@
 -- Answers for want of memory.
 use Rattle.std.proofs.Common.{◌≡◌, ℕ, List, refl, inl, inr}
 use Rattle.tfs_rules.specs.Act.{ActValue}
-use Rattle.tfs_journal.specs.Journal.{Journal}
+use Rattle.tfs_records.specs.Journal.{Journal}
 use Rattle.tfs_calls.specs.Refusal.{out_of_memory}
 use Rattle.tfs_calls.specs.Reply.{refused}
 use Rattle.tfs_calls.specs.Transition.{open_model}

@@ -1,6 +1,6 @@
 -- What lies under the lock of a shared table.
 use Rattle.std.specs.Prelude.{◌≡◌, ℕ, ◌+◌, length, false, None}
-use Rattle.tfs_journal.specs.Journal.{Journal}
+use Rattle.tfs_records.specs.Journal.{Journal}
 use Rattle.tfs_table.specs.Table.{TableValue}
 use Rattle.tfs_published.specs.Board.{BoardView}
 

@@ -3,7 +3,7 @@ use Rattle.std.specs.Prelude.{◌≡◌, ◌⊎◌, ℕ, List, IsSome}
 use Rattle.std.specs.Option.{option_map_or}
 use Rattle.tfs_state.specs.Document.{Document}
 use Rattle.tfs_rules.specs.History.{state_of}
-use Rattle.tfs_journal.specs.Journal.{Journal, acts_of}
+use Rattle.tfs_records.specs.Journal.{Journal, acts_of}
 use Rattle.tfs_calls.specs.Impact.{chosen_by, query_refusal}
 use Rattle.tfs_calls.specs.Refusal.{out_of_memory}
 use Rattle.tfs_calls.specs.Reply.{ReplyValue, impact, refused}

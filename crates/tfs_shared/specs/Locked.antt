@@ -1,7 +1,7 @@
 -- The answers of locked calls.
 use Rattle.std.specs.Prelude.{◌≡◌, ◌⊎◌, ℕ, ◌<◌, List}
 use Rattle.tfs_rules.specs.Act.{ActValue}
-use Rattle.tfs_journal.specs.Journal.{Journal, position_of}
+use Rattle.tfs_records.specs.Journal.{Journal, position_of}
 use Rattle.tfs_calls.specs.Refusal.{no_copy, out_of_memory}
 use Rattle.tfs_calls.specs.Reply.{ReplyValue, refused}
 use Rattle.tfs_calls.specs.Transition.{TableModel, AnswersAct, answer_of, open_model}

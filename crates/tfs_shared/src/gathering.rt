@@ -8,8 +8,8 @@ ghost use Rattle.tfs_shared.specs.Locked.{IsAhead};
 use crate::session::Session;
 use crate::shared::Shared;
 use std::sync::{Mutex, Wait};
-use tfs_journal::Sink;
 use tfs_published::Naming;
+use tfs_records::Sink;
 use tfs_table::Table;
 
 /// Why a table isn't gathered.

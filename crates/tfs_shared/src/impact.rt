@@ -14,8 +14,8 @@ use std::alloc::Global;
 use std::sync::Arc;
 use tfs_calls::{Impact, Query, Refusal};
 use tfs_index::Version;
-use tfs_journal::Sink;
 use tfs_published::{Found, Naming};
+use tfs_records::Sink;
 use tfs_rules::Name;
 
 impl<J: Naming> Session<J> {

@@ -7,8 +7,8 @@ ghost use Rattle.tfs_shared.specs.Held.{ArePublished};
 
 use std::sync::Wait;
 use tfs_calls::Refusal;
-use tfs_journal::Sink;
 use tfs_published::{Board, Naming};
+use tfs_records::Sink;
 use tfs_table::{Prepared, Table};
 
 /// Makes a change and publishes it, or says why not. Whatever takes memory comes before the sink, so that what is written is

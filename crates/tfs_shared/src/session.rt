@@ -3,7 +3,7 @@
 ghost use Rattle.std.specs.Prelude.{◌≡◌, ◌⊎◌, ◌+◌, ◌<◌, true, false, IfSome, IfNone, IfOk, OnOk, OnErr, MatchResult};
 ghost use Rattle.std.specs.Arc.{arc_value};
 ghost use Rattle.tfs_rules.specs.History.{state_of};
-ghost use Rattle.tfs_journal.specs.Journal.{position_of, acts_of};
+ghost use Rattle.tfs_records.specs.Journal.{position_of, acts_of};
 ghost use Rattle.tfs_calls.specs.Refusal.{refusal_value};
 ghost use Rattle.tfs_calls.specs.Reply.{state, refused};
 ghost use Rattle.tfs_table.specs.Table.{change_reply};
@@ -17,8 +17,8 @@ use std::marker::Model;
 use std::sync::ledger::{Book, Share};
 use std::sync::{Arc, MutexGuard, Wait};
 use tfs_calls::{Draft, Refusal};
-use tfs_journal::Sink;
 use tfs_published::{Board, Found, Naming, Viewer};
+use tfs_records::Sink;
 use tfs_rules::Name;
 use tfs_state::Doc;
 use tfs_table::{Parts, Prepared};

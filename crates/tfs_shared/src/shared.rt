@@ -1,15 +1,15 @@
 //! Shared tables.
 
 ghost use Rattle.std.specs.Prelude.{◌≡◌};
-ghost use Rattle.tfs_journal.specs.Journal.{position_of};
+ghost use Rattle.tfs_records.specs.Journal.{position_of};
 ghost use Rattle.tfs_published.specs.Beginning.{BeginsWith};
 
 use crate::held::Held;
 use std::alloc::Global;
 use std::marker::Model;
 use std::sync::{Mutex, MutexGuard, Wait};
-use tfs_journal::Sink;
 use tfs_published::Naming;
+use tfs_records::Sink;
 use tfs_table::Table;
 
 /// A table behind one lock, and the position that it was opened at. Contracts see the number of its sessions.
@@ -22,7 +22,7 @@ pub struct Shared<J: Naming, K: Sink> {
 
 impl<J: Naming, K: Sink> Model for Shared<J, K> {
     ghost use Rattle.std.specs.Prelude.{◌≡◌, ℕ};
-    ghost use Rattle.tfs_journal.specs.Journal.{position_of};
+    ghost use Rattle.tfs_records.specs.Journal.{position_of};
 
     ghost Value = { ℕ };
 

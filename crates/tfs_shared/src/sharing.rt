@@ -8,8 +8,8 @@ use crate::shared::Shared;
 use std::alloc::Global;
 use std::sync::Wait;
 use std::sync::ledger::{Blank, Share};
-use tfs_journal::Sink;
 use tfs_published::{Board, Naming, Opened};
+use tfs_records::Sink;
 use tfs_table::Table;
 
 /// Why a table isn't shared.

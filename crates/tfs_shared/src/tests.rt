@@ -13,7 +13,7 @@ use std::test::Fail;
 use std::thread::Threads;
 use std::time::Clock;
 use tfs_calls::{Bytes, Draft, Kind, Query, Raw, Text, Texts};
-use tfs_journal::Sink;
+use tfs_records::Sink;
 use tfs_rules::Name;
 use tfs_state::MAX_STATE_BYTES;
 use tfs_table::{Table, first_unlawful};

@@ -2,8 +2,8 @@
 
 use crate::session::Session;
 use crate::shared::Shared;
-use tfs_journal::Sink;
 use tfs_published::Naming;
+use tfs_records::Sink;
 
 fn takes_send<T: Send>(_: &T) {}
 

@@ -11,8 +11,8 @@ use Rattle.tfs_lock.specs.LockInfo.{LockInformation}
 use Rattle.tfs_rules.specs.declared.verdict.Verdict.{Verdict}
 use Rattle.tfs_rules.specs.declared.verdict.Verdict.TheVariants as verdict
 use Rattle.tfs_table.proofs.WorkspaceLemmas.{find_behind, standing_at_place, get_at, found_there, number_behind}
-use Rattle.tfs_journal.proofs.NameLemmas.{bytes_same}
-use Rattle.tfs_journal.proofs.JournalLemmas.{names_kept, names_added}
+use Rattle.tfs_records.proofs.NameLemmas.{bytes_same}
+use Rattle.tfs_records.proofs.JournalLemmas.{names_kept, names_added}
 use Rattle.tfs_table.proofs.LawfulLemmas.{neither}
 use Rattle.std.specs.List.{find, list_any, slice_get}
 use Rattle.std.specs.Option.{option_or}
@@ -20,7 +20,7 @@ use Rattle.std.specs.Str.{bytes_eq}
 use Rattle.tfs_rules.specs.Act.{ActValue}
 use Rattle.tfs_rules.specs.History.{Standing}
 use Rattle.tfs_rules.specs.Verdict.{verdict_over}
-use Rattle.tfs_journal.specs.Journal.{Journal, acts_of, names_of, with_entry}
+use Rattle.tfs_records.specs.Journal.{Journal, acts_of, names_of, with_entry}
 use Rattle.tfs_calls.specs.Refusal.{RefusalValue, journal_stopped, journal_fault, table_full, journal_full}
 use Rattle.tfs_calls.specs.Transition.{refusal_of, verdict_refusal, limit_refusal, full_refusal, act_refusal, open_model, TableModel}
 use Rattle.tfs_table.specs.declared.workspace.Workspace.{Workspace}

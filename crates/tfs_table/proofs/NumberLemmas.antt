@@ -8,9 +8,9 @@ use Rattle.std.proofs.lemmas.Cmp.{nat_list_eq_equiv}
 use Rattle.std.proofs.lemmas.List.Elements.{All-nil, All-cons, All-head, All-tail}
 use Rattle.std.proofs.lemmas.Map.Keys.{any_passes_from_place}
 use Rattle.std.proofs.lemmas.Option.{slice_get_within, get_or_from_slice_get}
-use Rattle.tfs_journal.specs.Journal.{Journal, names_of}
-use Rattle.tfs_journal.proofs.NameLemmas.{bytes_same}
-use Rattle.tfs_journal.proofs.JournalLemmas.{names_once}
+use Rattle.tfs_records.specs.Journal.{Journal, names_of}
+use Rattle.tfs_records.proofs.NameLemmas.{bytes_same}
+use Rattle.tfs_records.proofs.JournalLemmas.{names_once}
 use Rattle.tfs_table.specs.declared.workspace.Workspace.{Workspace}
 use Rattle.tfs_table.specs.Workspaces.{is_of, has_number, AreWorkspacesOf, IsNumbered}
 

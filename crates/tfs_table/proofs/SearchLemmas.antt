@@ -14,7 +14,7 @@ use Rattle.std.proofs.lemmas.List.{get_or-take, get_or-drop, get_or_default, len
 use Rattle.std.proofs.lemmas.List.Elements.{All-from_get_or, All-head, All-tail, All-weaker}
 use Rattle.std.proofs.lemmas.Map.Keys.{Less-from_sorted}
 use Rattle.std.proofs.lemmas.Map.Text.{is_eq-slice_cmp}
-use Rattle.tfs_journal.proofs.NameLemmas.{bytes_same}
+use Rattle.tfs_records.proofs.NameLemmas.{bytes_same}
 use Rattle.tfs_table.specs.declared.workspace.Workspace.{Workspace}
 use Rattle.tfs_table.specs.Workspaces.{is_of, Rise, IsPlaceOf, IsGapFor}
 

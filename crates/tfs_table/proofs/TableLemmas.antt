@@ -11,11 +11,11 @@ use Rattle.std.proofs.lemmas.Slice.Eq.{bytes_eq-Decides}
 use Rattle.tfs_state.specs.Document.{Document}
 use Rattle.tfs_rules.specs.Act.{ActValue}
 use Rattle.tfs_rules.specs.History.{Standing, state_of, state_after}
-use Rattle.tfs_journal.specs.Journal.{Journal, EntryValue, IsEntry, BaseValue, IsBase, empty_base, opened, acts_of, names_of, with_entry}
-use Rattle.tfs_journal.specs.Format.{header_text, base_text, record_text, journal_text}
-use Rattle.tfs_journal.specs.Sink.{AppendsPart}
-use Rattle.tfs_journal.proofs.JournalLemmas.{acts_of_own}
-use Rattle.tfs_journal.proofs.BaseLemmas.{empty_base_is}
+use Rattle.tfs_records.specs.Journal.{Journal, EntryValue, IsEntry, BaseValue, IsBase, empty_base, opened, acts_of, names_of, with_entry}
+use Rattle.tfs_records.specs.Format.{header_text, base_text, record_text, journal_text}
+use Rattle.tfs_records.specs.Sink.{AppendsPart}
+use Rattle.tfs_records.proofs.JournalLemmas.{acts_of_own}
+use Rattle.tfs_records.proofs.BaseLemmas.{empty_base_is}
 use Rattle.tfs_table.specs.Lawful.{IsLawful}
 use Rattle.tfs_table.specs.Ready.{ReadyValue, IsReady}
 use Rattle.tfs_table.specs.Table.{IsTold, IsTable}

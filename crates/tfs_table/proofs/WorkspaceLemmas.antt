@@ -18,9 +18,9 @@ use Rattle.std.proofs.lemmas.List.Folds.{find-append, list_any-append}
 use Rattle.std.proofs.lemmas.Slice.Eq.{bytes_eq-Decides}
 use Rattle.tfs_rules.specs.Act.{ActValue}
 use Rattle.tfs_rules.specs.History.{History, Standing, state_of, standing_of}
-use Rattle.tfs_journal.specs.Journal.{Journal, EntryValue, acts_of, names_of, with_entry}
-use Rattle.tfs_journal.proofs.NameLemmas.{bytes_same, bytes_eq_sym}
-use Rattle.tfs_journal.proofs.JournalLemmas.{acts_of_own, acts_of_other, names_kept, names_added}
+use Rattle.tfs_records.specs.Journal.{Journal, EntryValue, acts_of, names_of, with_entry}
+use Rattle.tfs_records.proofs.NameLemmas.{bytes_same, bytes_eq_sym}
+use Rattle.tfs_records.proofs.JournalLemmas.{acts_of_own, acts_of_other, names_kept, names_added}
 use Rattle.tfs_table.specs.declared.workspace.Workspace.{Workspace}
 use Rattle.tfs_table.specs.Workspaces.{is_of, standing_at, AreWorkspacesOf, HasVersion, IsPlaceOf, IsGapFor, IsNumbered}
 

@@ -3,8 +3,8 @@ use Rattle.std.specs.Prelude.{◌≡◌, ◌≤◌, ℕ, List, length, slice_get
 use Rattle.tfs_state.specs.Document.{Document}
 use Rattle.tfs_rules.specs.Act.{ActValue}
 use Rattle.tfs_rules.specs.History.{state_of}
-use Rattle.tfs_journal.specs.Journal.{Journal, EntryValue, IsEntry, acts_of, names_of, with_entry}
-use Rattle.tfs_journal.specs.Format.{record_text}
+use Rattle.tfs_records.specs.Journal.{Journal, EntryValue, IsEntry, acts_of, names_of, with_entry}
+use Rattle.tfs_records.specs.Format.{record_text}
 use Rattle.tfs_calls.specs.Pushed.{pushed_by}
 use Rattle.tfs_calls.specs.Transition.{act_refusal, open_model}
 

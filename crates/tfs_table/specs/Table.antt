@@ -1,8 +1,8 @@
 -- What a table is to its callers, and what it keeps.
 use Rattle.std.specs.Prelude.{◌≡◌, ℕ, List, ◌++◌, All, Bool, true, false, Option, Some, None, Result, Ok, Err, ◌+◌}
 use Rattle.std.specs.Arc.{arc_value}
-use Rattle.tfs_journal.specs.Journal.{Journal, EntryValue, IsEntry, IsBase}
-use Rattle.tfs_journal.specs.Format.{journal_text, record_text}
+use Rattle.tfs_records.specs.Journal.{Journal, EntryValue, IsEntry, IsBase}
+use Rattle.tfs_records.specs.Format.{journal_text, record_text}
 use Rattle.tfs_table.specs.Lawful.{IsLawful}
 use Rattle.tfs_calls.specs.Refusal.{refusal_value}
 use Rattle.tfs_calls.specs.Reply.{ReplyValue, done, impact, refused}

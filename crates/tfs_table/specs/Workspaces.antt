@@ -11,7 +11,7 @@ use Rattle.std.specs.Result.{MatchResult}
 use Rattle.std.specs.Prelude.{Result}
 use Rattle.std.specs.Str.{bytes_eq}
 use Rattle.tfs_rules.specs.History.{Standing, standing_of}
-use Rattle.tfs_journal.specs.Journal.{Journal, RowValue, acts_of, names_of}
+use Rattle.tfs_records.specs.Journal.{Journal, RowValue, acts_of, names_of}
 use Rattle.tfs_table.specs.declared.workspace.Workspace.{Workspace}
 
 -- The workspace is that of a name.

@@ -5,7 +5,7 @@ ghost use Rattle.std.specs.Arc.{arc_value};
 ghost use Rattle.tfs_rules.specs.Act.{act_value};
 ghost use Rattle.tfs_rules.specs.Verdict.{verdict_over};
 ghost use Rattle.tfs_rules.specs.declared.verdict.Verdict.TheVariants.{Accept};
-ghost use Rattle.tfs_journal.specs.Journal.{Journal};
+ghost use Rattle.tfs_records.specs.Journal.{Journal};
 ghost use Rattle.tfs_calls.specs.Refusal.{refusal_value, out_of_memory};
 ghost use Rattle.tfs_calls.specs.Transition.{act_refusal, open_model, refusal_of, full_refusal};
 ghost use Rattle.tfs_table.specs.Workspaces.{standing_at, Rise, IsFound, AreWorkspacesOf};

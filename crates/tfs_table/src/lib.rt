@@ -23,6 +23,9 @@ pub use prepared::{Parts, Prepared};
 pub use ready::Ready;
 pub use replay::first_unlawful;
 pub use table::Table;
+pub use tfs_calls::{
+    Bytes, Call, Chosen, Draft, Impact, Kind, Methods, Query, Raw, Refusal, Reply, Text, Texts,
+};
 
 /// The most names that a table may have.
 pub const MAX_NAMES: usize = 1_024;

@@ -4,7 +4,7 @@ ghost use Rattle.std.specs.Prelude.{◌≡◌, ◌<◌, All, None, Some, IfOk, O
 ghost use Rattle.std.specs.Arc.{arc_value};
 ghost use Rattle.tfs_rules.specs.Act.{ActValue, act_value};
 ghost use Rattle.tfs_rules.specs.History.{state_after};
-ghost use Rattle.tfs_journal.specs.Journal.{Journal, names_of, with_entry};
+ghost use Rattle.tfs_records.specs.Journal.{Journal, names_of, with_entry};
 ghost use Rattle.tfs_calls.specs.Pushed.{pushed_by};
 ghost use Rattle.tfs_calls.specs.Transition.{act_refusal, open_model};
 ghost use Rattle.tfs_table.specs.Lawful.{IsLawful};
@@ -17,7 +17,7 @@ use std::alloc::AllocError;
 use std::snapshot::Snapshot;
 use std::sync::Arc;
 use tfs_index::Version;
-use tfs_journal::{Base, Entry};
+use tfs_records::{Base, Entry};
 use tfs_rules::{Act, Name};
 
 /// Makes room for one more entry and one more workspace.

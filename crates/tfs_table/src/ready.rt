@@ -3,14 +3,14 @@
 ghost use Rattle.std.specs.Prelude.{◌≡◌, ◌<◌, None, Some, option_map, slice_get};
 ghost use Rattle.std.specs.Arc.{arc_value};
 ghost use Rattle.tfs_rules.specs.History.{state_of};
-ghost use Rattle.tfs_journal.specs.Journal.{acts_of, names_of, with_entry};
+ghost use Rattle.tfs_records.specs.Journal.{acts_of, names_of, with_entry};
 ghost use Rattle.tfs_calls.specs.Transition.{act_refusal, open_model};
 
 use std::marker::Model;
 use std::snapshot::Snapshot;
 use std::sync::Arc;
 use tfs_index::Version;
-use tfs_journal::{Base, Entry};
+use tfs_records::{Base, Entry};
 use tfs_rules::{Act, Name};
 
 /// A change that a table has accepted, with all the memory that it takes. Contracts see the journal that the table had, and the

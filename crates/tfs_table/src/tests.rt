@@ -5,7 +5,7 @@ use std::alloc::{AllocError, Global};
 use std::process::Abort;
 use std::test::Fail;
 use tfs_calls::{Bytes, Draft, Raw, Refusal, Text};
-use tfs_journal::Sink;
+use tfs_records::Sink;
 use tfs_rules::Name;
 use tfs_state::MAX_STATE_BYTES;
 

@@ -9,7 +9,7 @@ ghost use Rattle.tfs_rules.specs.Act.{act_value};
 ghost use Rattle.tfs_rules.specs.History.{state_of};
 ghost use Rattle.tfs_rules.specs.Verdict.{verdict_over};
 ghost use Rattle.tfs_rules.specs.declared.verdict.Verdict.TheVariants.{Accept};
-ghost use Rattle.tfs_journal.specs.Journal.{Journal, acts_of, names_of, with_entry};
+ghost use Rattle.tfs_records.specs.Journal.{Journal, acts_of, names_of, with_entry};
 ghost use Rattle.tfs_calls.specs.Refusal.{refusal_value, out_of_memory, no_state};
 ghost use Rattle.tfs_table.specs.Workspaces.{is_of, has_number, standing_at, Rise, IsPlaceOf, IsGapFor, IsFound, AreWorkspacesOf, HasVersion};
 

@@ -3,7 +3,7 @@
 use crate::fault::{end_with, end_without_file};
 use std::process::ExitCode;
 use std::{fs, io};
-use tfs_serve::run_check;
+use tfs_conversation::run_check;
 
 /// Prints what the journal in a file lists, and how it ends. Gives the program's status.
 pub(crate) fn run(rt: &HostRuntime, file: &str) -> ExitCode {

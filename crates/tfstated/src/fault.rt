@@ -5,7 +5,7 @@ ghost use Rattle.tfstated.specs.Status.{fault_status};
 
 use std::io;
 use std::process::ExitCode;
-use tfs_serve::RunFault;
+use tfs_conversation::RunFault;
 use tfs_table::OpenFault;
 
 /// Tells the name of a fault on standard error. Where that can't be written, nothing else can be told.

@@ -3,8 +3,8 @@
 use crate::fault::{end_with, end_without_file};
 use std::process::ExitCode;
 use std::{fs, io};
-use tfs_journal::FileSink;
-use tfs_serve::run_rebase;
+use tfs_conversation::run_rebase;
+use tfs_records::FileSink;
 
 /// Reads the old file, makes the new one, and writes the journal that goes on from the old one's. Gives the program's status.
 pub(crate) fn run(rt: &HostRuntime, old: &str, new: &str) -> ExitCode {

@@ -14,11 +14,11 @@ use std::sync::Wait;
 use std::sync::ledger::Blank;
 use std::thread::Threads;
 use std::time::Clock;
-use tfs_journal::FileSink;
-use tfs_serve::RunFault;
+use tfs_conversation::RunFault;
+use tfs_records::FileSink;
+use tfs_serve::{Open, Worker, work_all};
 use tfs_shared::{Cause, Naming, Opened, Session, Shared, share};
 use tfs_table::Table;
-use tfs_workers::{Open, Worker, work_all};
 
 /// Reads the old journal, if there is one, makes the new file, goes on from the old journal in it, and has workers answer connections.
 /// It ends by its first fault. Gives the program's status.

@@ -5,8 +5,8 @@ ghost use Rattle.tfstated.specs.Status.{status_of};
 
 use std::io;
 use std::process::ExitCode;
-use tfs_journal::Discard;
-use tfs_serve::{Ended, Reads, ServeFault, converse_over_table};
+use tfs_conversation::{Ended, Reads, ServeFault, converse_over_table};
+use tfs_records::Discard;
 use tfs_table::Table;
 
 /// Answers standard input on standard output from a new table, whose journal is discarded. Gives the program's status.

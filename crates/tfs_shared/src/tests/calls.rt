@@ -6,7 +6,7 @@ use std::alloc::Global;
 use std::process::Abort;
 use std::sync::Wait;
 use std::test::Fail;
-use tfs_journal::{Discard, MemorySink, Sink};
+use tfs_records::{Discard, MemorySink, Sink};
 use tfs_table::Table;
 
 #[test]

@@ -9,7 +9,7 @@ use std::test::Fail;
 use std::thread;
 use std::thread::Threads;
 use tfs_calls::Refusal;
-use tfs_journal::{Discard, Sink};
+use tfs_records::{Discard, Sink};
 
 #[test]
 fn all_sessions_gather(rt: HostRuntime) -> Result<(), Fail> {

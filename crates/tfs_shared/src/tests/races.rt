@@ -8,7 +8,7 @@ use std::sync::Wait;
 use std::test::Fail;
 use std::thread;
 use std::thread::Threads;
-use tfs_journal::{Discard, Sink};
+use tfs_records::{Discard, Sink};
 use tfs_table::Table;
 
 #[test]

@@ -10,7 +10,7 @@ use std::sync::Wait;
 use std::test::Fail;
 use std::thread;
 use std::thread::Threads;
-use tfs_journal::{Base, BaseRow, Discard, Rows, Sink, encode_base};
+use tfs_records::{Base, BaseRow, Discard, Rows, Sink, encode_base};
 use tfs_table::Table;
 
 #[test]

@@ -10,7 +10,7 @@ use std::test::Fail;
 use std::thread;
 use std::thread::Threads;
 use std::time::{Clock, Duration};
-use tfs_journal::{MemorySink, Sink, SinkFault};
+use tfs_records::{MemorySink, Sink, SinkFault};
 
 /// What the flag says: nothing is to be waited for; the next piece is; the sink is inside; it may go on; it has waited too long.
 const IDLE: u64 = 0;

@@ -8,8 +8,8 @@ use std::alloc::{AllocError, Global};
 use std::process::Abort;
 use std::test::Fail;
 use tfs_calls::{Draft, Kind, Query, Refusal, Text, Texts};
-use tfs_journal::Discard;
-use tfs_reading::decode;
+use tfs_journal::decode;
+use tfs_records::Discard;
 use tfs_rules::Name;
 
 /// Two instances, of which the second depends on the first.

@@ -5,7 +5,7 @@ use crate::{OpenFault, Prepared, Ready, Table};
 use std::alloc::Global;
 use std::process::Abort;
 use std::test::Fail;
-use tfs_journal::{Discard, MemorySink};
+use tfs_records::{Discard, MemorySink};
 
 #[test]
 fn a_push_and_a_lock_take_130_bytes(rt: HostRuntime) -> Result<(), Fail> {

@@ -5,7 +5,7 @@ use crate::first_unlawful;
 use std::alloc::Global;
 use std::process::Abort;
 use std::test::Fail;
-use tfs_journal::{Base, Entry};
+use tfs_records::{Base, Entry};
 
 /// The entries of changes of `a`.
 fn entries_of(

@@ -1,7 +1,7 @@
 -- The change is ready: the journal accepts its entry.
 use Rattle.std.proofs.Common.{◌≡◌, None, sym, ap, subst}
 use Rattle.tfs_rules.specs.Act.{act_value}
-use Rattle.tfs_journal.specs.Journal.{Journal, EntryValue}
+use Rattle.tfs_records.specs.Journal.{Journal, EntryValue}
 use Rattle.tfs_calls.specs.Transition.{act_refusal, open_model}
 use Rattle.tfs_table.proofs.TableLemmas.{is_ready}
 use Rattle.tfs_table.proofs.prepare.prepare.Goals as goal

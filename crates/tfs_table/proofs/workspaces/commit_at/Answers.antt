@@ -2,7 +2,7 @@
 use Rattle.std.proofs.Common.{◌≡◌, All, length, rules, refl, sym, ◌∙◌, ap, subst}
 use Rattle.tfs_rules.specs.Act.{act_value}
 use Rattle.tfs_rules.specs.Verdict.{verdict_over}
-use Rattle.tfs_journal.specs.Journal.{with_entry}
+use Rattle.tfs_records.specs.Journal.{with_entry}
 use Rattle.tfs_table.specs.Workspaces.{IsFound, AreWorkspacesOf, HasVersion}
 use Rattle.tfs_table.specs.declared.workspace.Workspace.{Workspace}
 use Rattle.tfs_table.proofs.WorkspaceLemmas.{standing_at_place, workspace_changed, workspace_added, versions_changed}

@@ -1,6 +1,6 @@
 -- The longer of two tokens of one history begins with the shorter; and the shorter stands for a journal of a lower position.
 use Rattle.std.proofs.Common.{◌<◌, subst}
-use Rattle.tfs_journal.specs.Journal.{Journal, position_of}
+use Rattle.tfs_records.specs.Journal.{Journal, position_of}
 use Rattle.tfs_published.specs.Beginning.{BeginsWith}
 use Rattle.tfs_published.specs.Change.{journal_after}
 use Rattle.tfs_published.proofs.Beginnings.{later_begins, fewer_are_lower}

@@ -1,6 +1,6 @@
 -- What shows readers the opening journal.
 use Rattle.std.proofs.Common.{sym, ◌∙◌, ap}
-use Rattle.tfs_journal.specs.Journal.{position_of}
+use Rattle.tfs_records.specs.Journal.{position_of}
 use Rattle.tfs_published.specs.Change.{journal_after}
 use Rattle.tfs_published.proofs.Boards.{board_new, stands_new, no_changes}
 use Rattle.tfs_published.proofs.board.Board.new.Goals as goal

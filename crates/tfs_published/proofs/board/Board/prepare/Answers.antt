@@ -2,7 +2,7 @@
 use Rattle.std.proofs.Common.{◌≡◌, ℕ, List, slice_get, refl, sym, ◌∙◌, ◌+◌, ap, subst, drop, option_map, Some, None}
 use Rattle.std.specs.Arc.{arc_value}
 use Rattle.tfs_rules.specs.History.{state_of}
-use Rattle.tfs_journal.specs.Journal.{Journal, with_entry, acts_of, names_of}
+use Rattle.tfs_records.specs.Journal.{Journal, with_entry, acts_of, names_of}
 use Rattle.tfs_published.specs.Change.{change_of}
 use Rattle.tfs_published.specs.PlaceView.{place_with}
 use Rattle.tfs_published.specs.declared.view.UpdateView.{UpdateView}

@@ -1,6 +1,6 @@
 -- The copy that readers are shown has the newest token.
 use Rattle.std.proofs.Common.{ap, sym, subst, ◌∙◌}
-use Rattle.tfs_journal.specs.Journal.{Journal}
+use Rattle.tfs_records.specs.Journal.{Journal}
 use Rattle.tfs_published.specs.Change.{journal_after}
 use Rattle.tfs_published.specs.Published.{IsPublished}
 use Rattle.tfs_published.specs.Token.{TokenValue}

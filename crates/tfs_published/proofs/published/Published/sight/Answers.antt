@@ -1,7 +1,7 @@
 -- What is seen is all of the copy.
 use Rattle.std.proofs.Common.{ℕ, List, ap, refl, subst, ◌∙◌}
 use Rattle.tfs_rules.specs.History.{state_of}
-use Rattle.tfs_journal.specs.Journal.{acts_of}
+use Rattle.tfs_records.specs.Journal.{acts_of}
 use Rattle.tfs_published.specs.Found.{IsFound}
 use Rattle.tfs_published.proofs.published.Published.sight.Goals as goal
 

@@ -1,6 +1,6 @@
 -- Want of memory is answered over the table's journal.
 use Rattle.std.proofs.Common.{refl, sym, subst, ◌∙◌, inr}
-use Rattle.tfs_journal.specs.Journal.{Journal}
+use Rattle.tfs_records.specs.Journal.{Journal}
 use Rattle.tfs_table.specs.Lawful.{IsLawful}
 use Rattle.tfs_published.specs.Beginning.{BeginsWith}
 use Rattle.tfs_shared.specs.Held.{HeldView}

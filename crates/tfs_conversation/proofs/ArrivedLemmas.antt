@@ -1,0 +1,55 @@
+-- Laws of what comes next of the input of a conversation.
+use Rattle.std.proofs.Common.{◌≡◌, ◌≤◌, ◌<◌, ◌+◌, ◌-◌, ◌*◌, ◌⊎◌, ℕ, List, ◌++◌, length, drop, Option, Some, None, IfSome, Result, IfOk, IfErr, sym, ap, subst, arith, inl, inr, length-append}
+use Rattle.tfs_framing.specs.Request.{RequestValue}
+use Rattle.tfs_framing.specs.Framing.{BeginsWith}
+use Rattle.tfs_framing.proofs.MessageLemmas.{frame_is_no_empty_text, rest_behind}
+use Rattle.tfs_conversation.specs.Arrived.{Arrives, ArrivesOrStays, BreaksThere, EndsThere}
+use Rattle.tfs_conversation.specs.Conversation.{ComesInReads, IsReadThrough}
+use Rattle.tfs_conversation.specs.Turns.{work_left}
+use Rattle.tfs_conversation.specs.declared.arrived.Arrived.{Arrived}
+use Rattle.tfs_conversation.specs.declared.ended.Ended.{Ended}
+use Rattle.tfs_conversation.specs.declared.fault.ServeFault.{ServeFault}
+
+-- What is told of a result is told of what it is.
+pub what_comes : (bytes left : List ℕ) (before after : ℕ) (a b : Result (Option Arrived) ServeFault) → a ≡ b
+    → IfOk b (ArrivesOrStays bytes left) × IfErr b (λ fault. BreaksThere bytes fault before after)
+    → IfOk a (ArrivesOrStays bytes left) × IfErr a (λ fault. BreaksThere bytes fault before after)
+what_comes bytes left before after a b is p =
+    subst (λ (r : Result (Option Arrived) ServeFault). IfOk r (ArrivesOrStays bytes left) × IfErr r (λ fault. BreaksThere bytes fault before after))
+    (sym is) p
+
+-- What has come comes of the bytes.
+pub some_arrives : (bytes left : List ℕ) (next : Option Arrived) (a b : Arrived) → next ≡ Some a → a ≡ b → ArrivesOrStays bytes left next
+    → Arrives bytes left b
+some_arrives bytes left next a b is also p =
+    subst (λ (x : Arrived). Arrives bytes left x) also (subst (λ (o : Option Arrived). ArrivesOrStays bytes left o) is p)
+
+-- Where nothing has come all bytes are left.
+pub none_arrives : (bytes left : List ℕ) (next : Option Arrived) → next ≡ None → ArrivesOrStays bytes left next → left ≡ bytes
+none_arrives bytes left next is p = subst (λ (o : Option Arrived). ArrivesOrStays bytes left o) is p
+
+-- Where the input has ended the reader is at its end.
+pub ended_through : (reader : Option (List ℕ)) (next : Option Arrived) (a : Arrived) (e : Ended) → next ≡ Some a → a ≡ Arrived.Ended e
+    → IfSome next (EndsThere reader) → IsReadThrough e reader
+ended_through reader next a e is also p =
+    subst (λ (x : Arrived). EndsThere reader x) also (subst (λ (o : Option Arrived). IfSome o (EndsThere reader)) is p)
+
+-- Behind a message there is less work left, however much was read for it.
+pub less_behind : (before after : ℕ) (input more left : List ℕ) (r : RequestValue) (used : ℕ) → ComesInReads more before after
+    → BeginsWith (input ++ more) r used → left ≡ drop used (input ++ more) → (after ≡ before) ⊎ (after ≤ 1048576)
+    → work_left after left < work_left before input
+less_behind before after input more left r used came b is limit =
+    let some = frame_is_no_empty_text b.frame r b.reads in
+    let all = ap length b.parts in
+    let parts = length-append b.frame b.rest in
+    let both = length-append input more in
+    let short = ap length (rest_behind (input ++ more) left r used b is) in
+    let counted = came.counted in
+    let pace = came.pace in
+    by limit some all parts both short counted pace
+  where
+    by : (after ≡ before) ⊎ (after ≤ 1048576) → 0 < length b.frame → length (input ++ more) ≡ length (b.frame ++ b.rest)
+        → length (b.frame ++ b.rest) ≡ length b.frame + length b.rest → length (input ++ more) ≡ length input + length more
+        → length left ≡ length b.rest → before ≤ after → length more ≤ 65536 * (after - before) → work_left after left < work_left before input
+    by (inl same) some all parts both short counted pace = omega arith
+    by (inr few) some all parts both short counted pace = omega arith

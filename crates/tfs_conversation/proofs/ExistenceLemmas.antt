@@ -1,0 +1,225 @@
+-- Each list of bytes has an output over each table.
+use Rattle.std.specs.List.{AllByRecursion}
+use Rattle.std.specs.Io.KnownBytes.{Appends}
+use Rattle.std.specs.Option.{option_map_or}
+use Rattle.std.proofs.Common.{◌≡◌, ◌≢◌, ℕ, List, [], ◌∷◌, ◌++◌, Option, Some, None, Result, Ok, Err, refl, sym, ap, subst, inl, inr}
+use Rattle.tfs_state.specs.Document.{Document}
+use Rattle.tfs_rules.specs.Act.{ActValue}
+use Rattle.tfs_rules.specs.History.{state_of}
+use Rattle.tfs_records.specs.Journal.{EntryValue, acts_of, position_of, with_entry}
+use Rattle.tfs_records.specs.Format.{record_text}
+use Rattle.tfs_calls.specs.declared.call.Call.{Call}
+use Rattle.tfs_calls.specs.declared.call.Call.TheVariants.{Read, Change, Impact}
+use Rattle.tfs_calls.specs.declared.call.Raw.{Raw}
+use Rattle.tfs_calls.specs.declared.query.Query.{Query}
+use Rattle.tfs_calls.specs.declared.refusal.Refusal.{Refusal}
+use Rattle.tfs_calls.specs.declared.refusal.Refusal.TheVariants.{OutOfMemory, JournalFault}
+use Rattle.tfs_calls.specs.Draft.{act_of, draft_refusal}
+use Rattle.tfs_calls.specs.Impact.{chosen_by, query_refusal}
+use Rattle.tfs_calls.specs.Refusal.{RefusalValue, refusal_value, out_of_memory, journal_fault, no_state}
+use Rattle.tfs_calls.specs.Reply.{ReplyValue, state, impact, refused}
+use Rattle.tfs_calls.specs.Transition.{TableModel, act_refusal, answer_of}
+use Rattle.tfs_table.specs.Table.{TableValue, model_of, IsSameTable}
+use Rattle.tfs_framing.specs.Request.{RequestValue}
+use Rattle.tfs_framing.specs.Framing.{Frames}
+use Rattle.tfs_framing.specs.declared.taken.Take.{Take}
+use Rattle.tfs_http.specs.Routing.{RoutesTo, routing_refusal}
+use Rattle.tfs_conversation.specs.Desk.{AnswersCall, Leaves}
+use Rattle.tfs_conversation.specs.Messages.{AreMessages, IsRefused, StopsAt, one_asks}
+use Rattle.tfs_conversation.specs.Conversation.{AnswersRequest, Exchange, requests_of, Runs, Course, course_text}
+use Rattle.tfs_conversation.specs.Output.{IsUndisturbed, HasOutput}
+use Rattle.tfs_conversation.specs.declared.ended.Ended.{Ended}
+use Rattle.tfs_conversation.proofs.MessagesLemmas.{messages_some}
+
+-- ---- tables
+
+-- A table is the same as itself.
+same_table : (t : TableValue) → IsSameTable t t
+same_table t = record { journal = refl; stopped = refl; tells = refl; told = refl; faults = refl }
+
+-- What a sink was told, with more.
+abbrev told_more : Option (List ℕ) → List ℕ → Option (List ℕ)
+told_more None text = None
+told_more (Some bytes) text = Some (bytes ++ text)
+
+-- They grew by it.
+appends_more : (told : Option (List ℕ)) (text : List ℕ) → Appends told (told_more told text) text
+appends_more None text = tt
+appends_more (Some bytes) text = refl
+
+-- A table with an entry more, whose record was told.
+abbrev entered : TableValue → EntryValue → TableValue
+entered t e = record {
+  journal = with_entry t.journal e;
+  stopped = t.stopped;
+  tells = t.tells;
+  told = told_more t.told (record_text e);
+  faults = t.faults;
+  spare = t.spare;
+}
+
+-- A refusal that is no fault of the sink leaves the table as it was.
+refusal_leaves : (r : RefusalValue) (t : TableValue) → refused r ≢ refused journal_fault → Leaves (refused r) t t
+refusal_leaves r t other = (λ more. same_table t, λ is. absurd (other (ap refused is)))
+
+-- ---- calls
+
+-- A table answers a call by the model's answer.
+abbrev HasAnswer : TableValue → Call → Type 0
+HasAnswer old call = (new : TableValue) × AnswersCall old call (answer_of (model_of old) call) new
+
+module _ (told : (m : TableModel) (call : Call) → answer_of m call ≢ refused journal_fault) where
+  -- A read has an answer.
+  read_answered : (old : TableValue) (name : List ℕ) → HasAnswer old (Read name)
+  read_answered old name = (
+    old,
+    record {
+      answered = inl (inl (refl, refl));
+      leaves = by (state_of (acts_of name old.journal)) (told (model_of old) (Read name));
+    },
+  )
+    where
+      by : (o : Option Document) → option_map_or state o (refused no_state) ≢ refused journal_fault
+          → Leaves (option_map_or state o (refused no_state)) old old
+      by None other = refusal_leaves no_state old other
+      by (Some d) other = same_table old
+
+  -- So has a query.
+  impact_answered : (old : TableValue) (name : List ℕ) (query : Query) → HasAnswer old (Impact name query)
+  impact_answered old name query = (
+    old,
+    record {
+      answered = inl (inl (refl, refl));
+      leaves = by (state_of (acts_of name old.journal)) (told (model_of old) (Impact name query));
+    },
+  )
+    where
+      chosen : (d : Document) (o : Option RefusalValue)
+          → option_map_or refused o (impact d (chosen_by d query) (position_of old.journal)) ≢ refused journal_fault
+          → Leaves (option_map_or refused o (impact d (chosen_by d query) (position_of old.journal))) old old
+      chosen d None other = same_table old
+      chosen d (Some r) other = refusal_leaves r old other
+
+      by : (o : Option Document)
+          → option_map_or (λ d. option_map_or refused (query_refusal d query) (impact d (chosen_by d query) (position_of old.journal))) o
+          (refused no_state) ≢ refused journal_fault
+          → Leaves (option_map_or (λ d. option_map_or refused (query_refusal d query) (impact d (chosen_by d query) (position_of old.journal))) o
+          (refused no_state)) old old
+      by None other = refusal_leaves no_state old other
+      by (Some d) other = chosen d (query_refusal d query) other
+
+  -- So has a change.
+  change_answered : (old : TableValue) (name : List ℕ) (raw : Raw) → HasAnswer old (Change name raw)
+  change_answered old name raw = by (act_of raw) refl (told (model_of old) (Change name raw))
+    where
+      by_act : (act : ActValue) (o : Option RefusalValue) → act_of raw ≡ Some act → act_refusal (model_of old) name act ≡ o
+          → answer_of (model_of old) (Change name raw) ≢ refused journal_fault → HasAnswer old (Change name raw)
+      by_act act None is free other = (
+        entered old (record { name = name; act = act }),
+        record {
+          answered = inl (inl (refl, rw (is, free) refl));
+          leaves = rw (is, free) (record {
+            entry = record { name = name; act = act };
+            journal = refl;
+            stopped = refl;
+            tells = refl;
+            told = appends_more old.told (record_text (record { name = name; act = act }));
+          });
+        },
+      )
+      by_act act (Some r) is free other = (
+        old,
+        record {
+          answered = inl (inl (refl, rw (is, free) refl));
+          leaves = rw (is, free) (refusal_leaves r old (rw (is, free) at other));
+        },
+      )
+
+      by : (o : Option ActValue) → act_of raw ≡ o → answer_of (model_of old) (Change name raw) ≢ refused journal_fault
+          → HasAnswer old (Change name raw)
+      by None is other = (
+        old,
+        record {
+          answered = inl (inl (refl, rw is refl));
+          leaves = rw is (refusal_leaves (draft_refusal raw) old (rw is at other));
+        },
+      )
+      by (Some act) is other = by_act act (act_refusal (model_of old) name act) is refl other
+
+  -- So has each call.
+  call_answered : (old : TableValue) (call : Call) → HasAnswer old call
+  call_answered old (Read name) = read_answered old name
+  call_answered old (Change name raw) = change_answered old name raw
+  call_answered old (Impact name query) = impact_answered old name query
+
+  -- ---- requests
+
+  -- A refusal by routing tells neither of want of memory nor of a fault of the sink.
+  routing_told : (r : RequestValue) (refusal : Refusal) → routing_refusal r refusal
+      → (refused (refusal_value refusal) ≢ refused out_of_memory) × (refused (refusal_value refusal) ≢ refused journal_fault)
+  routing_told r OutOfMemory is = absurd is
+  routing_told r JournalFault is = absurd is
+  routing_told r refusal is = (λ e. cc, λ e. cc)
+
+  module _ (had : (m : TableModel) (call : Call) → answer_of m call ≢ refused out_of_memory)
+      (routed : (r : RequestValue) → (x : Result Call Refusal) × RoutesTo r x) where
+    -- A request is answered, by neither.
+    abbrev IsAnswered : TableValue → RequestValue → Type 0
+    IsAnswered old r = (reply : ReplyValue) × (new : TableValue) × AnswersRequest AnswersCall old r reply new
+        × (reply ≢ refused out_of_memory) × (reply ≢ refused journal_fault)
+
+    -- Each request is answered.
+    request_answered : (old : TableValue) (r : RequestValue) → IsAnswered old r
+    request_answered old r = by (routed r).0 (routed r).1
+      where
+        by : (x : Result Call Refusal) → RoutesTo r x → IsAnswered old r
+        by (Err refusal) is = let other = routing_told r refusal is in
+            (refused (refusal_value refusal), old, inl (refusal, is, refl, refl), other.0, other.1)
+        by (Ok call) is = let a = call_answered old call in
+            (answer_of (model_of old) call, a.0, inr (inr (call, is, a.1)), had (model_of old) call, told (model_of old) call)
+
+    -- So are requests in turn.
+    abbrev AreAnswered : TableValue → List RequestValue → Type 0
+    AreAnswered old requests = (xs : List Exchange) × (new : TableValue) × (requests_of xs ≡ requests) × Runs AnswersCall old xs new
+        × AllByRecursion IsUndisturbed xs
+
+    -- Each list of requests is.
+    requests_answered : (old : TableValue) (requests : List RequestValue) → AreAnswered old requests
+    requests_answered old [] = ([], old, refl, refl, tt)
+    requests_answered old (r ∷ rs) =
+        let first = request_answered old r in
+        let others = requests_answered first.1 rs in (
+          record { request = r; reply = first.0 } ∷ others.0,
+          others.1,
+          ap (λ t. r ∷ t) others.2,
+          (first.1, first.2, others.3),
+          ((first.3, first.4), others.4),
+        )
+
+    -- The bytes' messages are answered in turn, and that is their output.
+    pub output_some : ((bytes : List ℕ) → (t : Take) × Frames bytes t) → (old : TableValue) (bytes : List ℕ)
+        → (new : TableValue) × (text : List ℕ) × (ended : Ended) × HasOutput old new bytes text ended
+    output_some framed old bytes =
+        let found = messages_some framed bytes in
+        let m = found.0 in
+        let run = requests_answered old m.requests in
+        let course : Course = record { exchanges = run.0; rest = m.rest; refusal = m.refusal } in (
+          run.1,
+          course_text course,
+          found.1,
+          record {
+            converses = record {
+              course = course;
+              takes = record {
+                has = record {
+                  messages = subst (λ (rs : List RequestValue). AreMessages bytes rs m.rest) (sym run.2) found.2.messages;
+                  refused = subst (λ (rs : List RequestValue). IsRefused (one_asks rs) m.rest m.refusal) (sym run.2) found.2.refused;
+                };
+                run = run.3;
+              };
+              stop = subst (λ (rs : List RequestValue). StopsAt (one_asks rs) m.rest m.refusal found.1) (sym run.2) found.3;
+              text_is = refl;
+            };
+            undisturbed = run.4;
+          },
+        )

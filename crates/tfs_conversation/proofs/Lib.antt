@@ -1,0 +1,12 @@
+pub mod DeskLemmas
+pub mod IoLemmas
+pub mod InputLemmas
+pub mod MessagesLemmas
+pub mod CourseLemmas
+pub mod FaultLemmas
+pub mod ConversationLemmas
+pub mod BrokenLemmas
+pub mod ArrivedLemmas
+pub mod StepLemmas
+pub mod OutputLemmas
+pub mod ExistenceLemmas

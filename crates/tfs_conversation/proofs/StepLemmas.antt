@@ -1,0 +1,89 @@
+-- Steps of one desk that are steps of another, and what steps keep.
+use Rattle.std.proofs.Common.{◌≡◌, List, ℕ, [], ◌∷◌, Option, Result, Ok, Err, IfOk, IfErr, ◌∙◌, ap, inl, inr}
+use Rattle.std.specs.Io.KnownBytes.{Appends, Consumes}
+use Rattle.tfs_calls.specs.declared.call.Call.{Call}
+use Rattle.tfs_calls.specs.Reply.{ReplyValue}
+use Rattle.tfs_framing.specs.Request.{RequestValue}
+use Rattle.tfs_conversation.specs.Conversation.{AnswersRequest, Exchange, Runs, Course, TakesCourse, Converses, BreaksOff, ComesInReads}
+use Rattle.tfs_conversation.specs.declared.ended.Ended.{Ended}
+use Rattle.tfs_conversation.specs.declared.fault.ServeFault.{ServeFault}
+
+-- Where each step of a desk is one of another over a view of it, the same holds of whole conversations.
+module _ {S T : Type 0} (step : S → Call → ReplyValue → S → Type 0) (other : T → Call → ReplyValue → T → Type 0) (view : S → T)
+    (over : (old new : S) (call : Call) (reply : ReplyValue) → step old call reply new → other (view old) call reply (view new)) where
+  answers_over : (old new : S) (r : RequestValue) (reply : ReplyValue) → AnswersRequest step old r reply new
+      → AnswersRequest other (view old) r reply (view new)
+  answers_over old new r reply (inl a) = inl (a.0, a.1, a.2, ap view a.3)
+  answers_over old new r reply (inr (inl a)) = inr (inl (a.0, ap view a.1))
+  answers_over old new r reply (inr (inr a)) = inr (inr (a.0, a.1, over old new a.0 reply a.2))
+
+  -- The same of exchanges in turn.
+  runs_over : (old new : S) (xs : List Exchange) → Runs step old xs new → Runs other (view old) xs (view new)
+  runs_over old new [] run = ap view run
+  runs_over old new (x ∷ xs) run = (view run.0, answers_over old run.0 x.request x.reply run.1, runs_over run.0 new xs run.2)
+
+  -- The same of a course.
+  pub takes_over : (old new : S) (bytes : List ℕ) (c : Course) → TakesCourse step old new bytes c → TakesCourse other (view old) (view new) bytes c
+  takes_over old new bytes c t = record { has = t.has; run = runs_over old new c.exchanges t.run }
+
+  -- The same of a conversation that ended.
+  pub converses_over : (old new : S) (bytes text : List ℕ) (ended : Ended) → Converses step old new bytes text ended
+      → Converses other (view old) (view new) bytes text ended
+  converses_over old new bytes text ended c =
+      record { course = c.course; takes = takes_over old new bytes c.course c.takes; stop = c.stop; text_is = c.text_is }
+
+  -- The same of a conversation that a fault broke off.
+  pub breaks_over : (old new : S) (bytes text : List ℕ) (fault : ServeFault) (before after : ℕ)
+      → BreaksOff step old new bytes text fault before after → BreaksOff other (view old) (view new) bytes text fault before after
+  breaks_over old new bytes text fault before after b = record {
+    course = b.course;
+    lost = b.lost;
+    takes = takes_over old new bytes b.course b.takes;
+    text_is = b.text_is;
+    comes_at = b.comes_at;
+  }
+
+  -- The same of a call that had a conversation and ended well.
+  pub ended_over : (old new : S) (from to into onto : Option (List ℕ)) (before after : ℕ) (result : Result Ended ServeFault)
+      → IfOk result (λ ended. (bytes : List ℕ) × (text : List ℕ) × Consumes from to bytes × Appends into onto text
+      × ComesInReads bytes before after × Converses step old new bytes text ended)
+      → IfOk result (λ ended. (bytes : List ℕ) × (text : List ℕ) × Consumes from to bytes × Appends into onto text
+      × ComesInReads bytes before after × Converses other (view old) (view new) bytes text ended)
+  ended_over old new from to into onto before after (Ok ended) c = (c.0, c.1, c.2, c.3, c.4, converses_over old new c.0 c.1 ended c.5)
+  ended_over old new from to into onto before after (Err fault) c = c
+
+  -- The same of a call that a fault broke off.
+  pub broken_over : (old new : S) (from to into onto : Option (List ℕ)) (before after : ℕ) (result : Result Ended ServeFault)
+      → IfErr result (λ fault. (bytes : List ℕ) × (text : List ℕ) × Consumes from to bytes × Appends into onto text
+      × ComesInReads bytes before after × BreaksOff step old new bytes text fault before after)
+      → IfErr result (λ fault. (bytes : List ℕ) × (text : List ℕ) × Consumes from to bytes × Appends into onto text
+      × ComesInReads bytes before after × BreaksOff other (view old) (view new) bytes text fault before after)
+  broken_over old new from to into onto before after (Ok ended) c = c
+  broken_over old new from to into onto before after (Err fault) c =
+      (c.0, c.1, c.2, c.3, c.4, breaks_over old new c.0 c.1 fault before after c.5)
+
+-- What each step of a desk keeps is kept by exchanges in turn.
+pub runs_keep : {S U : Type 0} (step : S → Call → ReplyValue → S → Type 0) (part : S → U)
+    → ((old new : S) (call : Call) (reply : ReplyValue) → step old call reply new → part new ≡ part old)
+    → (old new : S) (xs : List Exchange) → Runs step old xs new → part new ≡ part old
+runs_keep step part keeps old new [] run = ap part run
+runs_keep {S} step part keeps old new (x ∷ xs) run = runs_keep step part keeps run.0 new xs run.2 ∙ between run.1
+  where
+    between : AnswersRequest step old x.request x.reply run.0 → part run.0 ≡ part old
+    between (inl a) = ap part a.3
+    between (inr (inl a)) = ap part a.1
+    between (inr (inr a)) = keeps old run.0 a.0 x.reply a.2
+
+-- What each step of a desk keeps is kept by a call that had a conversation.
+pub call_keeps : {S U : Type 0} (step : S → Call → ReplyValue → S → Type 0) (part : S → U)
+    → ((old new : S) (call : Call) (reply : ReplyValue) → step old call reply new → part new ≡ part old)
+    → (old new : S) (from to into onto : Option (List ℕ)) (before after : ℕ) (result : Result Ended ServeFault)
+    → IfOk result (λ ended. (bytes : List ℕ) × (text : List ℕ) × Consumes from to bytes × Appends into onto text
+    × ComesInReads bytes before after × Converses step old new bytes text ended)
+    → IfErr result (λ fault. (bytes : List ℕ) × (text : List ℕ) × Consumes from to bytes × Appends into onto text
+    × ComesInReads bytes before after × BreaksOff step old new bytes text fault before after)
+    → part new ≡ part old
+call_keeps step part keeps old new from to into onto before after (Ok ended) c b =
+    runs_keep step part keeps old new c.5.course.exchanges c.5.takes.run
+call_keeps step part keeps old new from to into onto before after (Err fault) c b =
+    runs_keep step part keeps old new b.5.course.exchanges b.5.takes.run

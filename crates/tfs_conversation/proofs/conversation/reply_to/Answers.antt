@@ -1,0 +1,26 @@
+-- The reply that was written is the one that the desk or the routing gave.
+use Rattle.std.proofs.Common.{subst}
+use Rattle.std.specs.Io.KnownBytes.{Appends}
+use Rattle.tfs_calls.specs.Reply.{reply_value}
+use Rattle.tfs_framing.specs.declared.form.Form.{Form}
+use Rattle.tfs_http.specs.ReplyText.{reply_text}
+use Rattle.tfs_conversation.specs.Turns.{WritesPart}
+use Rattle.tfs_conversation.proofs.conversation.reply_to.Goals as goal
+
+pub returns-clause-ok : goal.returns-clause-ok
+returns-clause-ok g c = (
+  reply_value c.answer-reply.result,
+  c.answer-reply.ensures,
+  subst (λ (f : Form). Appends (g.W.Write.contents c.args.writer.now) (g.W.Write.contents c.send.new.writer)
+      (reply_text (reply_value c.answer-reply.result) f)) c.form-form.ensures.value
+      c.in_default.ensures.ok,
+)
+
+pub returns-in-Err-clause-err : goal.returns-in-Err-clause-err
+returns-in-Err-clause-err g c = (
+  reply_value c.answer-reply.result,
+  c.answer-reply.ensures,
+  subst (λ (f : Form). WritesPart (g.W.Write.contents c.args.writer.now) (g.W.Write.contents c.send.new.writer)
+      (reply_text (reply_value c.answer-reply.result) f) c.in-Err.fault) c.form-form.ensures.value
+      c.in-Err.ensures.err,
+)

@@ -1,0 +1,19 @@
+-- The output of a list of bytes: what a conversation of them is over a table, where no request for memory is refused and the sink
+-- doesn't fail.
+use Rattle.std.specs.Prelude.{◌≢◌, ℕ, List}
+use Rattle.std.specs.List.{AllByRecursion}
+use Rattle.tfs_calls.specs.Refusal.{out_of_memory, journal_fault}
+use Rattle.tfs_calls.specs.Reply.{refused}
+use Rattle.tfs_table.specs.Table.{TableValue}
+use Rattle.tfs_conversation.specs.declared.ended.Ended.{Ended}
+use Rattle.tfs_conversation.specs.Desk.{AnswersCall}
+use Rattle.tfs_conversation.specs.Conversation.{Exchange, Converses}
+
+-- The reply of an exchange tells neither of want of memory nor of a fault of the sink.
+abbrev pub IsUndisturbed : Exchange → Type 0
+IsUndisturbed x = (x.reply ≢ refused out_of_memory) × (x.reply ≢ refused journal_fault)
+
+-- From the table `old`, these bytes have this text, leave the table `new`, and the conversation ends so.
+pub record HasOutput (old new : TableValue) (bytes text : List ℕ) (ended : Ended) : Type 0 where
+  pub converses : Converses AnswersCall old new bytes text ended
+  pub undisturbed : AllByRecursion IsUndisturbed converses.course.exchanges

@@ -1,0 +1,215 @@
+//! Conversations: requests in, replies out.
+
+ghost use Rattle.std.specs.Prelude.{◌≡◌, ◌≤◌, ◌<◌, ◌⊎◌, ◌++◌, ℕ, List, [], length, Some, None, Ok, if◌then◌else◌, IfOk, IfErr, IfSome, OnOk};
+ghost use Rattle.std.specs.Io.KnownBytes.{Appends, Consumes};
+ghost use Rattle.tfs_calls.specs.Reply.{ReplyValue, reply_value};
+ghost use Rattle.tfs_framing.specs.Form.{form_of};
+ghost use Rattle.tfs_http.specs.ReplyText.{reply_text};
+ghost use Rattle.tfs_conversation.specs.Conversation.{AnswersRequest, ComesInReads, Converses, BreaksOff, IsReadThrough};
+ghost use Rattle.tfs_conversation.specs.Turns.{WritesPart, moment, Went, HasEnded, HasBroken, work_left};
+ghost use Rattle.tfs_conversation.specs.declared.ended.Ended.TheVariants.{Asked};
+
+use crate::arrived::{Arrived, arrive};
+use crate::desk::Desk;
+use crate::ended::Ended;
+use crate::fault::ServeFault;
+use crate::input::Input;
+use crate::output::{JOINED_BYTES, write_joined};
+use crate::reads::Reads;
+use std::alloc::{AllocError, Global};
+use std::io::{Read, Write};
+use tfs_calls::{Refusal, Reply};
+use tfs_framing::{Form, Request};
+use tfs_http::{Routes, body_of, call_of, write_head};
+
+/// The form of a reply after which the conversation ends.
+const CLOSING: Form = Form {
+    close: true,
+    bare: false,
+};
+
+/// Answers each message as soon as it is whole, until the input ends, a request asks to close, or a message is refused whose
+/// end isn't known. Each read is counted before it is made.
+pub fn converse<R: Read, W: Write, D: Desk>(
+    alloc: Global,
+    reader: &mut R,
+    writer: &mut W,
+    desk: &mut D,
+    reads: &mut Reads,
+) -> Result<Ended, ServeFault>
+    ensures ended { IfOk result (λ ended. (bytes : List ℕ) × (text : List ℕ)
+        × Consumes (R.remaining reader.old) (R.remaining reader.new) bytes
+        × Appends (W.contents writer.old) (W.contents writer.new) text
+        × ComesInReads bytes reads.old reads.new
+        × Converses D.step desk.old desk.new bytes text ended) }
+    ensures through { IfOk result (λ ended. IsReadThrough ended (R.remaining reader.new)) }
+    ensures fault { IfErr result (λ fault. (bytes : List ℕ) × (text : List ℕ)
+        × Consumes (R.remaining reader.old) (R.remaining reader.new) bytes
+        × Appends (W.contents writer.old) (W.contents writer.new) text
+        × ComesInReads bytes reads.old reads.new
+        × BreaksOff D.step desk.old desk.new bytes text fault reads.old reads.new) }
+{
+    let Ok(mut line) = Line::new(alloc) else {
+        return Err(ServeFault::NoMemory);
+    };
+    run(alloc, &mut line, reader, writer, desk, reads)
+}
+
+/// What a conversation keeps of its own.
+#[derive(Drop)]
+struct Line {
+    routes: Routes,
+    input: Input,
+    /// Where the text of a reply is put together. It has room for what is written at once, and keeps it.
+    text: Vec<u8>,
+}
+
+impl Line {
+    /// No bytes were read yet.
+    fn new(alloc: Global) -> Result<Line, AllocError>
+        ensures { IfOk result (λ line. line.input ≡ []) }
+    {
+        Ok(Line {
+            routes: Routes::new(alloc)?,
+            input: Input::new(alloc)?,
+            text: Vec::with_capacity(alloc, JOINED_BYTES)?,
+        })
+    }
+}
+
+/// Takes turns until the conversation ends.
+fn run<R: Read, W: Write, D: Desk>(
+    alloc: Global,
+    line: &mut Line,
+    reader: &mut R,
+    writer: &mut W,
+    desk: &mut D,
+    reads: &mut Reads,
+) -> Result<Ended, ServeFault>
+    ensures ended { IfOk result (HasEnded D.step (moment desk.old (R.remaining reader.old) (W.contents writer.old) reads.old line.old.input)
+        (moment desk.new (R.remaining reader.new) (W.contents writer.new) reads.new line.new.input)) }
+    ensures fault { IfErr result (HasBroken D.step (moment desk.old (R.remaining reader.old) (W.contents writer.old) reads.old line.old.input)
+        (moment desk.new (R.remaining reader.new) (W.contents writer.new) reads.new line.new.input)) }
+{
+    loop {
+        match turn(alloc, line, reader, writer, desk, reads) {
+            Ok(end) => {
+                if let Some(ended) = end {
+                    return Ok(ended);
+                }
+            }
+            Err(fault) => return Err(fault),
+        }
+    }
+}
+
+/// Reads more where more is wanted, or else answers the message that comes first. Tells how the conversation ends, if it
+/// does.
+fn turn<R: Read, W: Write, D: Desk>(
+    alloc: Global,
+    line: &mut Line,
+    reader: &mut R,
+    writer: &mut W,
+    desk: &mut D,
+    reads: &mut Reads,
+) -> Result<Option<Ended>, ServeFault>
+    ensures went { result ≡ Ok None → Went D.step (moment desk.old (R.remaining reader.old) (W.contents writer.old) reads.old line.old.input)
+        (moment desk.new (R.remaining reader.new) (W.contents writer.new) reads.new line.new.input) }
+    ensures less { result ≡ Ok None → work_left reads.new line.new.input < work_left reads.old line.old.input }
+    ensures ended { IfOk result (λ end. IfSome end (HasEnded D.step (moment desk.old (R.remaining reader.old) (W.contents writer.old) reads.old line.old.input)
+        (moment desk.new (R.remaining reader.new) (W.contents writer.new) reads.new line.new.input))) }
+    ensures fault { IfErr result (HasBroken D.step (moment desk.old (R.remaining reader.old) (W.contents writer.old) reads.old line.old.input)
+        (moment desk.new (R.remaining reader.new) (W.contents writer.new) reads.new line.new.input)) }
+{
+    let arrived = match arrive(alloc, &mut line.input, reader, reads) {
+        Ok(Some(arrived)) => arrived,
+        Ok(None) => return Ok(None),
+        Err(fault) => return Err(fault),
+    };
+    match arrived {
+        Arrived::Message(request) => {
+            let asks_to_close = request.form().close;
+            match reply_to(alloc, line, writer, desk, request) {
+                Ok(()) => Ok(end_after(asks_to_close)),
+                Err(fault) => Err(fault),
+            }
+        }
+        Arrived::Refused(refusal) => {
+            let reply = Reply::Refused(refusal);
+            match send(alloc, &mut line.text, writer, &reply, CLOSING) {
+                Ok(()) => Ok(Some(Ended::Refused)),
+                Err(fault) => Err(fault),
+            }
+        }
+        Arrived::Ended(ended) => Ok(Some(ended)),
+    }
+}
+
+/// How the conversation ends after a reply, if it does.
+fn end_after(asks_to_close: bool) -> Option<Ended>
+    ensures { result ≡ (if asks_to_close then Some Asked else None) }
+{
+    if asks_to_close {
+        Some(Ended::Asked)
+    } else {
+        None
+    }
+}
+
+/// Answers a request, and writes the text of the reply.
+fn reply_to<W: Write, D: Desk>(
+    alloc: Global,
+    line: &mut Line,
+    writer: &mut W,
+    desk: &mut D,
+    request: Request,
+) -> Result<(), ServeFault>
+    requires { length request.body ≤ 16777216 }
+    ensures ok { OnOk result ((reply : ReplyValue) × AnswersRequest D.step desk.old request reply desk.new
+        × Appends (W.contents writer.old) (W.contents writer.new) (reply_text reply (form_of request))) }
+    ensures err { IfErr result (λ fault. (reply : ReplyValue) × AnswersRequest D.step desk.old request reply desk.new
+        × WritesPart (W.contents writer.old) (W.contents writer.new) (reply_text reply (form_of request)) fault) }
+    ensures input { line.new.input ≡ line.old.input }
+{
+    let form = request.form();
+    let reply = answer(alloc, &line.routes, desk, request);
+    if let Err(fault) = send(alloc, &mut line.text, writer, &reply, form) {
+        return Err(fault);
+    }
+    Ok(())
+}
+
+/// The reply to a request: its refusal by routing, or the desk's.
+fn answer<D: Desk>(alloc: Global, routes: &Routes, desk: &mut D, request: Request) -> Reply
+    requires { length request.body ≤ 16777216 }
+    ensures { AnswersRequest D.step desk.old request (reply_value result) desk.new }
+{
+    match call_of(alloc, routes, request) {
+        Ok(call) => desk.answer(call),
+        Err(refusal) => Reply::Refused(refusal),
+    }
+}
+
+/// Writes the text of a reply, by way of a vector whose bytes go; after a fault a part of it is written.
+fn send<W: Write>(
+    alloc: Global,
+    text: &mut Vec<u8>,
+    writer: &mut W,
+    reply: &Reply,
+    form: Form,
+) -> Result<(), ServeFault>
+    ensures ok { OnOk result (Appends (W.contents writer.old) (W.contents writer.new) (reply_text (reply_value reply.now) form)) }
+    ensures err { IfErr result (λ fault. WritesPart (W.contents writer.old) (W.contents writer.new) (reply_text (reply_value reply.now) form) fault) }
+{
+    let Ok(body) = body_of(alloc, reply) else {
+        return Err(ServeFault::NoMemory);
+    };
+    text.clear();
+    if write_head(reply, form, body.as_slice(), text).is_err() {
+        return Err(ServeFault::NoMemory);
+    }
+    if form.bare {
+        return write_joined(writer, text, b"");
+    }
+    write_joined(writer, text, body.as_slice())
+}

@@ -1,0 +1,33 @@
+//! Conversations over a connection: requests in, replies out, and a desk that answers the calls, such as one that asks a table. The
+//! work of the commands that read a journal is here too.
+#![tactic(auto)]
+
+mod arrived;
+mod body;
+mod check;
+mod chunked;
+mod conversation;
+mod desk;
+mod ended;
+mod fault;
+mod input;
+mod laws;
+mod output;
+mod reads;
+mod rebase;
+mod run_fault;
+mod table_desk;
+
+pub use check::run_check;
+pub use conversation::converse;
+pub use desk::Desk;
+pub use ended::Ended;
+pub use fault::ServeFault;
+pub use laws::{bytes_have_an_output, bytes_have_one_list_of_messages, bytes_have_one_output};
+pub use reads::{MAX_READS, Reads};
+pub use rebase::run_rebase;
+pub use run_fault::RunFault;
+pub use table_desk::{TableDesk, converse_over_table};
+
+#[cfg(test)]
+mod tests;

@@ -1,0 +1,66 @@
+//! Writes texts to a writer.
+
+ghost use Rattle.std.specs.Prelude.{◌≡◌, ◌++◌, OnOk, IfErr};
+ghost use Rattle.std.specs.Io.KnownBytes.{Appends};
+ghost use Rattle.tfs_conversation.specs.Check.{WritesFront};
+ghost use Rattle.tfs_conversation.specs.Turns.{WritesPart};
+ghost use Rattle.tfs_conversation.specs.declared.fault.ServeFault.TheVariants.{Write as WriteFault};
+
+use crate::fault::ServeFault;
+use std::io::Write;
+
+/// The most bytes of two texts that are put together before they are written.
+pub(crate) const JOINED_BYTES: usize = 16_384;
+
+/// Writes two texts. Where they have at most 16,384 bytes together, the second is added to the first, so that one write can take
+/// both; else it isn't copied.
+pub(crate) fn write_joined<W: Write>(
+    writer: &mut W,
+    text: &mut Vec<u8>,
+    more: &[u8],
+) -> Result<(), ServeFault>
+    ensures ok { OnOk result (Appends (W.contents writer.old) (W.contents writer.new) (text.old.items ++ more.now)) }
+    ensures err { IfErr result (WritesPart (W.contents writer.old) (W.contents writer.new) (text.old.items ++ more.now)) }
+{
+    if JOINED_BYTES.saturating_sub(text.len()) < more.len() {
+        return write_both(writer, text.as_slice(), more);
+    }
+    if text.extend_from_slice(more).is_err() {
+        return Err(ServeFault::NoMemory);
+    }
+    write_out(writer, text.as_slice())
+}
+
+/// Writes a text, and another one behind it.
+fn write_both<W: Write>(writer: &mut W, text: &[u8], more: &[u8]) -> Result<(), ServeFault>
+    ensures ok { OnOk result (Appends (W.contents writer.old) (W.contents writer.new) (text.now ++ more.now)) }
+    ensures err { IfErr result (λ fault. (fault ≡ WriteFault)
+        × WritesFront (W.contents writer.old) (W.contents writer.new) (text.now ++ more.now)) }
+{
+    if let Err(fault) = write_out(writer, text) {
+        return Err(fault);
+    }
+    write_out(writer, more)
+}
+
+/// Writes all of a text, by single writes. A write that takes no byte is the writer's fault; after a fault the writer has a
+/// part of the text, and not all of it.
+pub(crate) fn write_out<W: Write>(writer: &mut W, text: &[u8]) -> Result<(), ServeFault>
+    ensures ok { OnOk result (Appends (W.contents writer.old) (W.contents writer.new) text.now) }
+    ensures err { IfErr result (λ fault. (fault ≡ WriteFault) × WritesFront (W.contents writer.old) (W.contents writer.new) text.now) }
+{
+    let mut rest = text;
+    while !rest.is_empty() {
+        match writer.write(rest) {
+            Ok(taken) => {
+                if taken == 0 {
+                    return Err(ServeFault::Write);
+                }
+                let (_, left) = rest.split_at(taken);
+                rest = left;
+            }
+            Err(_) => return Err(ServeFault::Write),
+        }
+    }
+    Ok(())
+}

@@ -1,0 +1,130 @@
+//! The desk over a lent table, and conversations over it.
+
+ghost use Rattle.std.specs.Prelude.{◌≡◌, ℕ, List, IfOk, IfErr};
+ghost use Rattle.std.specs.Io.KnownBytes.{Appends, Consumes};
+ghost use Rattle.tfs_calls.specs.Draft.{HasFittingState};
+ghost use Rattle.tfs_calls.specs.Reply.{reply_value};
+ghost use Rattle.tfs_calls.specs.declared.call.Call.TheVariants.{Read as CallRead, Change, Impact};
+ghost use Rattle.tfs_conversation.specs.Conversation.{ComesInReads, Converses, BreaksOff, IsReadThrough};
+ghost use Rattle.tfs_conversation.specs.Desk.{AnswersCall};
+
+use crate::conversation::converse;
+use crate::desk::Desk;
+use crate::ended::Ended;
+use crate::fault::ServeFault;
+use crate::reads::Reads;
+use std::alloc::Global;
+use std::io::{Read, Write};
+use tfs_calls::{Call, Draft, Query, Raw, Reply, a_change_is_answered_as_its_act_is};
+use tfs_records::Sink;
+use tfs_rules::Name;
+use tfs_table::Table;
+
+/// A desk that asks a table, which it is lent.
+#[derive(Drop)]
+pub struct TableDesk<'t, K: Sink> {
+    pub alloc: Global,
+    pub table: &'t mut Table<K>,
+}
+
+impl<'t, K: Sink> Desk for TableDesk<'t, K> {
+    ghost use Rattle.std.specs.Prelude.{◌≡◌};
+    ghost use Rattle.tfs_conversation.specs.Desk.{AnswersCall};
+
+    // The desk keeps its loan, and the table answers.
+    ghost step = { λ old call reply new. (new.table.ghost_name ≡ old.table.ghost_name)
+        × AnswersCall old.table.now call reply new.table.now };
+
+    fn answer(&mut self, call: Call) -> Reply {
+        match call {
+            Call::Read(name) => read(self.table, &name),
+            Call::Change(name, raw) => change(self.alloc, self.table, name, raw),
+            Call::Impact(name, query) => ask(self.table, &name, &query),
+        }
+    }
+}
+
+/// The state of a name.
+fn read<K: Sink>(table: &Table<K>, name: &Name) -> Reply
+    ensures { AnswersCall table.now (CallRead name.now) (reply_value result) table.now }
+{
+    match table.state(name) {
+        Ok(doc) => Reply::State(doc),
+        Err(refusal) => Reply::Refused(refusal),
+    }
+}
+
+/// What a query chooses in the state of a name.
+fn ask<K: Sink>(table: &Table<K>, name: &Name, query: &Query) -> Reply
+    ensures { AnswersCall table.now (Impact name.now query.now) (reply_value result) table.now }
+{
+    match table.impact(name, query) {
+        Ok(answer) => Reply::Impact(answer),
+        Err(refusal) => Reply::Refused(refusal),
+    }
+}
+
+/// Changes the workspace of a name.
+fn change<K: Sink>(alloc: Global, table: &mut Table<K>, name: Name, raw: Raw) -> Reply
+    requires { HasFittingState raw }
+    ensures { AnswersCall table.old (Change name raw) (reply_value result) table.new }
+{
+    a_change_is_answered_as_its_act_is();
+    let draft = match Draft::read(alloc, raw) {
+        Ok(draft) => draft,
+        Err(refusal) => return Reply::Refused(refusal),
+    };
+    match table.apply(name, draft) {
+        Ok(position) => Reply::Done(position),
+        Err(refusal) => Reply::Refused(refusal),
+    }
+}
+
+/// A conversation over a lent table: the table takes the steps of its transition for the calls of the messages, in order.
+pub fn converse_over_table<R: Read, W: Write, K: Sink>(
+    alloc: Global,
+    reader: &mut R,
+    writer: &mut W,
+    table: &mut Table<K>,
+    reads: &mut Reads,
+) -> Result<Ended, ServeFault>
+    ensures ended { IfOk result (λ ended. (bytes : List ℕ) × (text : List ℕ)
+        × Consumes (R.remaining reader.old) (R.remaining reader.new) bytes
+        × Appends (W.contents writer.old) (W.contents writer.new) text
+        × ComesInReads bytes reads.old reads.new
+        × Converses AnswersCall table.old table.new bytes text ended) }
+    ensures through { IfOk result (λ ended. IsReadThrough ended (R.remaining reader.new)) }
+    ensures fault { IfErr result (λ fault. (bytes : List ℕ) × (text : List ℕ)
+        × Consumes (R.remaining reader.old) (R.remaining reader.new) bytes
+        × Appends (W.contents writer.old) (W.contents writer.new) text
+        × ComesInReads bytes reads.old reads.new
+        × BreaksOff AnswersCall table.old table.new bytes text fault reads.old reads.new) }
+    ensures tells { table.new.tells ≡ table.old.tells }
+{
+    let mut desk = TableDesk { alloc, table };
+    converse_over_loan(reader, writer, &mut desk, reads)
+}
+
+/// The same over the desk, which keeps its loan.
+fn converse_over_loan<R: Read, W: Write, K: Sink>(
+    reader: &mut R,
+    writer: &mut W,
+    desk: &mut TableDesk<'_, K>,
+    reads: &mut Reads,
+) -> Result<Ended, ServeFault>
+    ensures loan { desk.new.table.ghost_name ≡ desk.old.table.ghost_name }
+    ensures ended { IfOk result (λ ended. (bytes : List ℕ) × (text : List ℕ)
+        × Consumes (R.remaining reader.old) (R.remaining reader.new) bytes
+        × Appends (W.contents writer.old) (W.contents writer.new) text
+        × ComesInReads bytes reads.old reads.new
+        × Converses AnswersCall desk.old.table.now desk.new.table.now bytes text ended) }
+    ensures through { IfOk result (λ ended. IsReadThrough ended (R.remaining reader.new)) }
+    ensures fault { IfErr result (λ fault. (bytes : List ℕ) × (text : List ℕ)
+        × Consumes (R.remaining reader.old) (R.remaining reader.new) bytes
+        × Appends (W.contents writer.old) (W.contents writer.new) text
+        × ComesInReads bytes reads.old reads.new
+        × BreaksOff AnswersCall desk.old.table.now desk.new.table.now bytes text fault reads.old reads.new) }
+    ensures tells { desk.new.table.now.tells ≡ desk.old.table.now.tells }
+{
+    converse(desk.alloc, reader, writer, desk, reads)
+}

@@ -1,0 +1,68 @@
+-- Sessions go on.
+use Rattle.std.proofs.Common.{◌≡◌, ℕ, arith, List, [], ◌∷◌, Option, Some, None, if◌then◌else◌, is_some}
+use Rattle.std.proofs.Common.{refl, sym, ap, subst, inl, inr}
+use Rattle.std.specs.Option.{option_map_or}
+use Rattle.tfs_rules.specs.Act.{ActValue}
+use Rattle.tfs_records.specs.Journal.{Journal, with_entry}
+use Rattle.tfs_calls.specs.declared.call.Call.{Call}
+use Rattle.tfs_calls.specs.declared.call.Call.TheVariants.{Read, Change, Impact}
+use Rattle.tfs_calls.specs.Draft.{act_of}
+use Rattle.tfs_calls.specs.Refusal.{RefusalValue}
+use Rattle.tfs_calls.specs.Reply.{ReplyValue}
+use Rattle.tfs_calls.specs.Transition.{TableModel, Answers, act_refusal, journal_after, journal_after_act}
+use Rattle.tfs_published.specs.Beginning.{BeginsWith}
+use Rattle.tfs_shared.specs.View.{SessionView}
+use Rattle.tfs_published.proofs.Beginnings.{begins_with_itself, begins_with_earlier}
+use Rattle.tfs_serve.specs.Session.{SessionStep, IsLater}
+
+-- A session that stays has gone on.
+pub later_itself : (v : SessionView) → IsLater v v
+later_itself v = record { seen = begins_with_itself v.journal; accepted = omega arith }
+
+-- Going on twice is going on.
+pub later_then : (a b c : SessionView) → IsLater a b → IsLater b c → IsLater a c
+later_then a b c p q = record {
+  seen = begins_with_earlier c.journal b.journal a.journal q.seen p.seen;
+  accepted = omega (arith, p.accepted, q.accepted);
+}
+
+-- A journal that is another has what begins the other.
+begins_as : (j k : Journal) → k ≡ j → BeginsWith k j
+begins_as j k is = subst (λ (l : Journal). BeginsWith l j) (sym is) (begins_with_itself j)
+
+-- The journal after an act begins with that before it.
+begins_after_act : (m : TableModel) (name : List ℕ) (act : ActValue) → BeginsWith (journal_after_act m name act) m.journal
+begins_after_act m name act = by (act_refusal m name act)
+  where
+    by : (r : Option RefusalValue) → BeginsWith (if is_some r then m.journal else with_entry m.journal (record { name = name; act = act })) m.journal
+    by (Some refusal) = begins_with_itself m.journal
+    by None = record { base = refl; entries = (record { name = name; act = act } ∷ [], refl) }
+
+-- The journal after a call begins with that before it.
+begins_after : (m : TableModel) (call : Call) → BeginsWith (journal_after m call) m.journal
+begins_after m (Read name) = begins_with_itself m.journal
+begins_after m (Impact name query) = begins_with_itself m.journal
+begins_after m (Change name raw) = by (act_of raw)
+  where
+    by : (a : Option ActValue) → BeginsWith (option_map_or (journal_after_act m name) a m.journal) m.journal
+    by (Some act) = begins_after_act m name act
+    by None = begins_with_itself m.journal
+
+-- What the transition leaves begins with what was there.
+pub begins_answered : (m n : TableModel) (call : Call) (reply : ReplyValue) → Answers m call reply n → BeginsWith n.journal m.journal
+begins_answered m n call reply (inl (inl a)) =
+    subst (λ (j : Journal). BeginsWith j m.journal) (sym (ap (λ (t : TableModel). t.journal) a.1)) (begins_after m call)
+begins_answered m n call reply (inl (inr a)) = begins_as m.journal n.journal (ap (λ (t : TableModel). t.journal) a.1)
+begins_answered m n (Read name) reply (inr a) = absurd a
+begins_answered m n (Impact name query) reply (inr a) = absurd a
+begins_answered m n (Change name raw) reply (inr a) = begins_as m.journal n.journal (ap (λ (t : TableModel). t.journal) a.2.2)
+
+-- A step of a session goes on.
+pub step_later : (old new : SessionView) (call : Call) (reply : ReplyValue) → SessionStep old call reply new → IsLater old new
+step_later old new call reply (inl a) = subst (λ (v : SessionView). IsLater old v) (sym a.1) (later_itself old)
+step_later old new call reply (inr a) = record {
+  seen = begins_with_earlier new.journal a.before.journal old.journal
+      (subst (λ (j : Journal). BeginsWith j a.before.journal) (sym a.seen) (begins_answered a.before a.after call reply a.answer))
+      a.fresh;
+  accepted = omega (arith, a.accepted);
+}

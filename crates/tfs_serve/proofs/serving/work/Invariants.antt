@@ -1,0 +1,10 @@
+-- The session has gone on from what it had seen.
+use Rattle.std.proofs.Common.{[]}
+use Rattle.tfs_serve.specs.Session.{IsLater}
+use Rattle.tfs_serve.specs.Working.{HasWorked}
+use Rattle.tfs_serve.proofs.serving.work.Given as goal
+
+abbrev pub invariant-loop : goal.invariant-loop
+invariant-loop g l =
+    (goal.iterator-loop g).can_next l.iterator' × (goal.iterator-loop g).is_finite l.iterator' × IsLater l.fn.session l.session
+    × HasWorked (g.G.Gate.told l.fn.gate) (g.G.Gate.told l.gate) l.fn.session l.session []

@@ -1,0 +1,98 @@
+//! The work of one session: connections one after another.
+
+ghost use Rattle.std.specs.Prelude.{◌≡◌, OnOk, OnErr, [], ◌∷◌, false};
+ghost use Rattle.tfs_serve.specs.Gate.{IsClosed, asked};
+ghost use Rattle.tfs_serve.specs.Session.{IsLater};
+ghost use Rattle.tfs_serve.specs.Working.{HasAnswered, HasWorked};
+
+use crate::connection::{Incoming, Outgoing, limit};
+use crate::gate::Gate;
+use crate::gated::Gated;
+use crate::session_desk::{Service, SessionDesk};
+use std::cell::Cell;
+use std::io::{ErrorKind, Read, Write};
+use std::net::{OpenListener, TcpStream};
+use std::sync::Wait;
+use std::time::Clock;
+use tfs_conversation::{Reads, converse};
+use tfs_records::Sink;
+use tfs_shared::{Naming, Session};
+use thiserror::Error;
+
+/// The listener gave no connection.
+#[derive(Clone, Copy, Debug, PartialEq, Eq, Error)]
+#[error("no connection could be taken")]
+pub struct AcceptFault;
+
+/// Takes connections one after the other while the gate admits, and has a conversation over the session on each. A fault of a
+/// connection ends that connection alone; so does one that the client gave up before it was taken. Afterwards the session has seen
+/// all that it had seen before; what became of it came of the calls that it answered, and the gate has heard of all of these.
+#[tactic(auto, using(crate::proofs::Later::later_itself, crate::proofs::Later::later_then))]
+pub fn work<L: OpenListener<Stream = TcpStream>, J: Naming, K: Sink, G: Gate, R: Wait + Clock>(
+    service: &Service<'_, J, K, R>,
+    listener: &L,
+    gate: &mut G,
+    session: &mut Session<J>,
+) -> Result<(), AcceptFault>
+    ensures closed { OnOk result (IsClosed (G.told gate.new)) }
+    ensures later { IsLater session.old session.new }
+    ensures worked { OnOk result (HasWorked (G.told gate.old) (G.told gate.new) session.old session.new (asked false ∷ [])) }
+    ensures broken { OnErr result (HasWorked (G.told gate.old) (G.told gate.new) session.old session.new []) }
+{
+    for _ in service.rt.forever() {
+        if !gate.admit() {
+            return Ok(());
+        }
+        match listener.accept() {
+            Ok((stream, _)) => serve(service, &stream, gate, session),
+            Err(error) => {
+                if error.kind() != ErrorKind::ConnectionAborted {
+                    return Err(AcceptFault);
+                }
+            }
+        }
+    }
+    unreachable!()
+}
+
+/// Has a conversation on a connection.
+fn serve<J: Naming, K: Sink, G: Gate, R: Wait + Clock>(
+    service: &Service<'_, J, K, R>,
+    stream: &TcpStream,
+    gate: &mut G,
+    session: &mut Session<J>,
+)
+    ensures later { IsLater session.old session.new }
+    ensures answered { HasAnswered (G.told gate.old) (G.told gate.new) session.old session.new }
+{
+    if limit(stream).is_err() {
+        return;
+    }
+    let began = Cell::new(None);
+    let mut reader = Incoming {
+        rt: service.rt,
+        stream,
+        began: &began,
+    };
+    let mut writer = Outgoing {
+        stream,
+        began: &began,
+    };
+    let desk = SessionDesk { service, session };
+    converse_once(&mut reader, &mut writer, &mut Gated { desk, gate });
+}
+
+/// Has a conversation over the desk, which keeps its loan.
+fn converse_once<I: Read, O: Write, J: Naming, K: Sink, G: Gate, R: Wait>(
+    reader: &mut I,
+    writer: &mut O,
+    desk: &mut Gated<'_, SessionDesk<'_, '_, '_, J, K, R>, G>,
+)
+    ensures loan { desk.new.desk.session.ghost_name ≡ desk.old.desk.session.ghost_name }
+    ensures gate { desk.new.gate.ghost_name ≡ desk.old.gate.ghost_name }
+    ensures later { IsLater desk.old.desk.session.now desk.new.desk.session.now }
+    ensures answered { HasAnswered (G.told desk.old.gate.now) (G.told desk.new.gate.now) desk.old.desk.session.now desk.new.desk.session.now }
+{
+    let mut reads = Reads::new();
+    let _ = converse(desk.desk.service.alloc, reader, writer, desk, &mut reads);
+}

@@ -1,0 +1,131 @@
+//! The desk over a session, and conversations over it.
+
+ghost use Rattle.std.specs.Prelude.{◌≡◌, ◌⊎◌, Some, None, IfOk, IfErr};
+ghost use Rattle.tfs_calls.specs.Draft.{HasFittingState, act_of, draft_refusal};
+ghost use Rattle.tfs_calls.specs.Refusal.{refusal_value, out_of_memory};
+ghost use Rattle.tfs_calls.specs.Reply.{reply_value};
+ghost use Rattle.tfs_calls.specs.declared.call.Call.TheVariants.{Read as CallRead, Change, Impact};
+ghost use Rattle.tfs_serve.specs.Session.{SessionStep};
+
+use std::alloc::Global;
+use std::sync::{Mutex, MutexGuard, Wait};
+use tfs_calls::{Call, Draft, Query, Raw, Refusal, Reply, a_change_is_answered_as_its_act_is};
+use tfs_conversation::Desk;
+use tfs_records::Sink;
+use tfs_rules::Name;
+use tfs_shared::{Naming, Session, Shared};
+
+/// A state of more bytes is read in turn: reading some texts of this length takes many times their bytes.
+pub const MAX_BYTES_AT_ONCE: usize = 1_048_576;
+
+/// What the sessions of a shared table are served with: the handle to wait, the allocator, the table, and a lock of its own. A push of
+/// more than 1 MiB is read while that is locked, and it is free again before the table's is taken.
+#[derive(Drop)]
+pub struct Service<'s, J: Naming, K: Sink, R: Wait> {
+    pub rt: &'s R,
+    pub alloc: Global,
+    pub shared: &'s Shared<J, K>,
+    pub turn: &'s Mutex<()>,
+}
+
+/// A desk that asks a shared table through a session, which it is lent. Changes and reads wait for the table's lock; impact queries
+/// wait for nobody.
+#[derive(Drop)]
+pub struct SessionDesk<'v, 's, 'm, J: Naming, K: Sink, R: Wait> {
+    pub service: &'v Service<'s, J, K, R>,
+    pub session: &'m mut Session<J>,
+}
+
+impl<'v, 's, 'm, J: Naming, K: Sink, R: Wait> Desk for SessionDesk<'v, 's, 'm, J, K, R> {
+    ghost use Rattle.std.specs.Prelude.{◌≡◌};
+    ghost use Rattle.tfs_serve.specs.Session.{SessionStep};
+
+    // The desk keeps its loan, and the session answers.
+    ghost step = { λ old call reply new. (new.session.ghost_name ≡ old.session.ghost_name)
+        × SessionStep old.session.now call reply new.session.now };
+
+    fn answer(&mut self, call: Call) -> Reply {
+        match call {
+            Call::Read(name) => read(self.service, self.session, &name),
+            Call::Change(name, raw) => change(self.service, self.session, name, raw),
+            Call::Impact(name, query) => ask(self.service.shared, self.session, &name, &query),
+        }
+    }
+}
+
+/// The state of a name.
+fn read<J: Naming, K: Sink, R: Wait>(
+    service: &Service<'_, J, K, R>,
+    session: &mut Session<J>,
+    name: &Name,
+) -> Reply
+    ensures { SessionStep session.old (CallRead name.now) (reply_value result) session.new }
+{
+    match session.state(service.rt, service.shared, name) {
+        Ok(doc) => Reply::State(doc),
+        Err(refusal) => Reply::Refused(refusal),
+    }
+}
+
+/// What a query chooses in the state of a name.
+fn ask<J: Naming, K: Sink>(
+    shared: &Shared<J, K>,
+    session: &mut Session<J>,
+    name: &Name,
+    query: &Query,
+) -> Reply
+    ensures { SessionStep session.old (Impact name.now query.now) (reply_value result) session.new }
+{
+    match session.impact(shared, name, query) {
+        Ok(answer) => Reply::Impact(answer),
+        Err(refusal) => Reply::Refused(refusal),
+    }
+}
+
+/// Changes the workspace of a name.
+fn change<J: Naming, K: Sink, R: Wait>(
+    service: &Service<'_, J, K, R>,
+    session: &mut Session<J>,
+    name: Name,
+    raw: Raw,
+) -> Reply
+    requires { HasFittingState raw }
+    ensures { SessionStep session.old (Change name raw) (reply_value result) session.new }
+{
+    a_change_is_answered_as_its_act_is();
+    let draft = match read_in_turn(service, raw) {
+        Ok(draft) => draft,
+        Err(refusal) => return Reply::Refused(refusal),
+    };
+    match session.submit(service.rt, service.shared, name, draft) {
+        Ok(position) => Reply::Done(position),
+        Err(refusal) => Reply::Refused(refusal),
+    }
+}
+
+/// Reads the texts of a change; a long state when it has its turn.
+fn read_in_turn<J: Naming, K: Sink, R: Wait>(
+    service: &Service<'_, J, K, R>,
+    raw: Raw,
+) -> Result<Draft, Refusal>
+    requires { HasFittingState raw }
+    ensures ok { IfOk result (λ draft. act_of raw ≡ Some draft) }
+    ensures err { IfErr result (λ refusal. (refusal_value refusal ≡ out_of_memory)
+        ⊎ ((refusal_value refusal ≡ draft_refusal raw) × (act_of raw ≡ None))) }
+{
+    if !is_long(&raw) {
+        return Draft::read(service.alloc, raw);
+    }
+    let guard = service.turn.lock(service.rt);
+    let draft = Draft::read(service.alloc, raw);
+    MutexGuard::unlock(guard);
+    draft
+}
+
+/// Whether a change has a state of more than 1 MiB.
+fn is_long(raw: &Raw) -> bool {
+    match raw {
+        Raw::Push(_, body) => body.as_slice().len() > MAX_BYTES_AT_ONCE,
+        Raw::Lock(_) | Raw::Unlock(_, _) | Raw::Delete(_) => false,
+    }
+}

@@ -1,5 +1,0 @@
-pub mod Captures
-pub mod Later
-pub mod Reaching
-pub mod Steps
-pub mod Working

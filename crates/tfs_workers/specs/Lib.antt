@@ -1,3 +1,0 @@
-pub mod Gate
-pub mod Session
-pub mod Working
