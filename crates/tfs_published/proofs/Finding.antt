@@ -12,11 +12,11 @@ use Rattle.tfs_rules.specs.History.{state_of}
 use Rattle.tfs_records.specs.Journal.{Journal, acts_of, names_of}
 use Rattle.tfs_records.proofs.NameLemmas.{bytes_same}
 use Rattle.tfs_records.proofs.JournalLemmas.{acts_of_absent}
-use Rattle.tfs_published.specs.Found.{IsFound}
+use Rattle.tfs_published.specs.Lookup.{IsLookup}
 use Rattle.tfs_published.specs.Place.{place_view, has_name}
 use Rattle.tfs_published.specs.PlaceView.{place_with}
 use Rattle.tfs_published.specs.Published.{place_given, ArePlacesOf}
-use Rattle.tfs_published.specs.declared.found.Found.{Found}
+use Rattle.tfs_published.specs.declared.lookup.Lookup.{Lookup}
 use Rattle.tfs_published.specs.declared.place.Place.{Place}
 use Rattle.tfs_published.specs.declared.place.Place.TheVariants.{Empty}
 use Rattle.tfs_published.specs.declared.view.PlaceView.{PlaceView}
@@ -36,26 +36,26 @@ seen_given j places k d are within =
     sym (get_mapped place_view places k d None within) ∙ given_at j (map place_view places) k are (omega (arith, wide, within))
 
 -- What a place of the name has is what is found.
-found_given : (name : List ℕ) (j : Journal) (k : ℕ) (place : Option PlaceView) (found : Found) → place ≡ place_given j k
-    → has_name name place ≡ true → IfSome place (λ view. IsFound found view.state) → IsFound found (state_of (acts_of name j))
-found_given name j k place found is named here =
+lookup_given : (name : List ℕ) (j : Journal) (k : ℕ) (place : Option PlaceView) (lookup : Lookup) → place ≡ place_given j k
+    → has_name name place ≡ true → IfSome place (λ view. IsLookup lookup view.state) → IsLookup lookup (state_of (acts_of name j))
+lookup_given name j k place lookup is named here =
     elim (slice_get (names_of j) k) as (λ o. place ≡ option_map (λ (n : List ℕ). place_with n (state_of (acts_of n j))) o
-    → IsFound found (state_of (acts_of name j))) [
+    → IsLookup lookup (state_of (acts_of name j))) [
       | None ↦ λ none. let unnamed : has_name name place ≡ false = ap (has_name name) none in absurd (cc (named, unnamed))
       | Some n ↦ λ some.
           let same : n ≡ name = bytes_same n name (sym (ap (has_name name) some) ∙ named) in
-          let there : IsFound found (state_of (acts_of n j)) =
-          subst (λ (p : Option PlaceView). IfSome p (λ (view : PlaceView). IsFound found view.state)) some here in
-          subst (λ (m : List ℕ). IsFound found (state_of (acts_of m j))) same there
+          let there : IsLookup lookup (state_of (acts_of n j)) =
+          subst (λ (p : Option PlaceView). IfSome p (λ (view : PlaceView). IsLookup lookup view.state)) some here in
+          subst (λ (m : List ℕ). IsLookup lookup (state_of (acts_of m j))) same there
     ] is
 
 -- What the place with the first number has is what is found.
-pub found_at : (name : List ℕ) (j : Journal) (places : List Place) (k : ℕ) (d : Place) (found : Found)
-    → position (λ place. has_name name (place_view place)) places ≡ Some k → IfSome (place_view (get_or places k d)) (λ view. IsFound found view.state)
-    → ArePlacesOf j (map place_view places) → IsFound found (state_of (acts_of name j))
-found_at name j places k d found first here are =
+pub lookup_at : (name : List ℕ) (j : Journal) (places : List Place) (k : ℕ) (d : Place) (lookup : Lookup)
+    → position (λ place. has_name name (place_view place)) places ≡ Some k → IfSome (place_view (get_or places k d)) (λ view. IsLookup lookup view.state)
+    → ArePlacesOf j (map place_view places) → IsLookup lookup (state_of (acts_of name j))
+lookup_at name j places k d lookup first here are =
     let some = position-Some (λ (place : Place). has_name name (place_view place)) places k d first in
-    found_given name j k (place_view (get_or places k d)) found (seen_given j places k d are some.0) some.1 here
+    lookup_given name j k (place_view (get_or places k d)) lookup (seen_given j places k d are some.0) some.1 here
 
 -- A name that is there has a number.
 name_number : (name : List ℕ) (names : List (List ℕ)) → list_any (bytes_eq name) names ≡ true → (k : ℕ) × (slice_get names k ≡ Some name)
@@ -107,9 +107,9 @@ has_place name j places there none are =
     cc
 
 -- Where no place has the name, it has no state.
-pub found_nowhere : (name : List ℕ) (j : Journal) (places : List Place) → position (λ place. has_name name (place_view place)) places ≡ None
+pub lookup_nowhere : (name : List ℕ) (j : Journal) (places : List Place) → position (λ place. has_name name (place_view place)) places ≡ None
     → ArePlacesOf j (map place_view places) → state_of (acts_of name j) ≡ None
-found_nowhere name j places none are =
+lookup_nowhere name j places none are =
     elim (list_any (bytes_eq name) (names_of j)) as (λ t. list_any (bytes_eq name) (names_of j) ≡ t → state_of (acts_of name j) ≡ None) [
       | true ↦ λ there. absurd (has_place name j places there none are)
       | false ↦ λ absent. ap state_of (acts_of_absent name j absent)

@@ -1,6 +1,6 @@
 pub mod Adding
 pub mod Beginnings
-pub mod Boards
+pub mod Publishers
 pub mod Finding
 pub mod Places
 pub mod Prefixes

@@ -5,22 +5,22 @@ use Rattle.logbook.specs.Pages.{Book}
 use Rattle.tfs_rules.specs.History.{state_of}
 use Rattle.tfs_records.specs.Journal.{Journal, position_of, acts_of}
 use Rattle.tfs_published.specs.Change.{journal_after}
-use Rattle.tfs_published.specs.Found.{IsFound}
+use Rattle.tfs_published.specs.Lookup.{IsLookup}
 use Rattle.tfs_published.specs.Published.{StandsFor}
-use Rattle.tfs_published.specs.Sight.{IsSight, IsSeen}
+use Rattle.tfs_published.specs.Snapshot.{IsSnapshot, IsSeen}
 use Rattle.tfs_published.specs.Token.{TokenValue}
-use Rattle.tfs_published.specs.declared.sight.Sight.{Sight}
+use Rattle.tfs_published.specs.declared.snapshot.Snapshot.{Snapshot}
 use Rattle.tfs_published.specs.declared.view.CopyView.{CopyView}
 
 -- What is seen in a copy that stands for a journal of the book, if anything.
-pub seen_of : (book : Book) (opening : Journal) (copy : CopyView) (earlier : TokenValue) (name : List ℕ) (sight : Option Sight)
-    → StandsFor book opening copy → earlier.book ≡ book → IfSome sight (λ s. IsSight copy earlier name s) → IfSome sight (λ s. IsSeen opening earlier name s)
+pub seen_of : (book : Book) (opening : Journal) (copy : CopyView) (earlier : TokenValue) (name : List ℕ) (snapshot : Option Snapshot)
+    → StandsFor book opening copy → earlier.book ≡ book → IfSome snapshot (λ s. IsSnapshot copy earlier name s) → IfSome snapshot (λ s. IsSeen opening earlier name s)
 seen_of book opening copy earlier name None stands same sees = tt
 seen_of book opening copy earlier name (Some s) stands same sees = record {
   same_book = ap (λ (t : TokenValue). t.book) sees.all ∙ (stands.same_book ∙ sym same);
   begins = subst (λ (t : TokenValue). IsPrefix earlier.changes t.changes) (sym sees.all) sees.begins;
   position = sees.position
       ∙ (stands.published.position ∙ ap (λ (t : TokenValue). position_of (journal_after opening t.changes)) (sym sees.all));
-  found = subst (λ (t : TokenValue). IsFound s.found (state_of (acts_of name (journal_after opening t.changes)))) (sym sees.all)
-      (sees.found (journal_after opening copy.token.changes) stands.published.places);
+  lookup = subst (λ (t : TokenValue). IsLookup s.lookup (state_of (acts_of name (journal_after opening t.changes)))) (sym sees.all)
+      (sees.lookup (journal_after opening copy.token.changes) stands.published.places);
 }

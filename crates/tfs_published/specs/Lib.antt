@@ -1,10 +1,10 @@
 pub mod Beginning
-pub mod Board
+pub mod Publisher
 pub mod Change
-pub mod Found
+pub mod Lookup
 pub mod History
 pub mod Place
 pub mod PlaceView
 pub mod Published
-pub mod Sight
+pub mod Snapshot
 pub mod Token

@@ -1,6 +1,6 @@
 //! Places that have lost their version.
 
-use crate::found::Found;
+use crate::lookup::Lookup;
 use crate::place_name::PlaceName;
 use crate::token::Token;
 use std::marker::Model;
@@ -31,7 +31,7 @@ impl LostPlace {
     ghost use Rattle.std.specs.Str.{bytes_eq};
     ghost use Rattle.tfs_published.specs.Change.{state_told};
     ghost use Rattle.tfs_published.specs.PlaceView.{place_with};
-    ghost use Rattle.tfs_published.specs.declared.found.Found.TheVariants.{Lost};
+    ghost use Rattle.tfs_published.specs.declared.lookup.Lookup.TheVariants.{Lost};
 
     /// The lost place of a name, by the token whose last change was the name's.
     pub fn new(name: &PlaceName, token: &Token) -> LostPlace
@@ -52,11 +52,11 @@ impl LostPlace {
     }
 
     /// What an impact of its name finds: the name has a state, and its version is lost.
-    pub fn found(&self) -> Found
+    pub fn lookup(&self) -> Lookup
         ensures value { result ≡ Lost }
         ensures state { IsSome self.now.state }
     {
         self.token.count();
-        Found::Lost
+        Lookup::Lost
     }
 }

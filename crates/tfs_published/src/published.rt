@@ -5,12 +5,12 @@ ghost use Rattle.std.specs.List.{range_with_len};
 ghost use Rattle.tfs_records.specs.Journal.{position_of};
 ghost use Rattle.tfs_published.specs.Place.{place_view};
 ghost use Rattle.tfs_published.specs.Published.{updated, place_given};
-ghost use Rattle.tfs_published.specs.Sight.{IsSight};
+ghost use Rattle.tfs_published.specs.Snapshot.{IsSnapshot};
 
 use crate::operation::{Operation, Update};
 use crate::place::{Place, filled, first_place, version_of};
 use crate::search::find;
-use crate::sight::Sight;
+use crate::snapshot::Snapshot;
 use crate::token::Token;
 use crate::view::CopyView;
 use left_right::Absorb;
@@ -106,17 +106,17 @@ impl Published {
     }
 
     /// What a session that has seen as much as a token sees of a name, where the copy begins with that.
-    pub(crate) fn sight(&self, token: &Token, name: &Name) -> Option<Sight>
+    pub(crate) fn snapshot(&self, token: &Token, name: &Name) -> Option<Snapshot>
         requires book { token.now.book ≡ self.now.token.book }
-        ensures value { IfSome result (λ sight. IsSight self.now token.now name.now sight) }
+        ensures value { IfSome result (λ snapshot. IsSnapshot self.now token.now name.now snapshot) }
     {
         if !self.token.begins_with(token) {
             return None;
         }
-        Some(Sight {
+        Some(Snapshot {
             token: self.token.again(),
             position: self.position,
-            found: find(self.places.as_slice(), name.text()),
+            lookup: find(self.places.as_slice(), name.text()),
         })
     }
 }

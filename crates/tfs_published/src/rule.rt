@@ -3,12 +3,12 @@
 ghost use Rattle.std.specs.Prelude.{◌≡◌, [], drop, fold, IfSome, IfOk};
 ghost use Rattle.left_right.specs.Sides.{view};
 ghost use Rattle.tfs_published.specs.Published.{absorbed, updated, Queues};
-ghost use Rattle.tfs_published.specs.Sight.{IsSeen};
+ghost use Rattle.tfs_published.specs.Snapshot.{IsSeen};
 
 use crate::naming::Naming;
 use crate::operation::Operation;
 use crate::published::Published;
-use crate::sight::Sight;
+use crate::snapshot::Snapshot;
 use crate::token::Token;
 use crossbeam_utils::rule::{Outcome, Protocol};
 use left_right::reader::Reader;
@@ -48,14 +48,14 @@ pub(crate) fn enter<J: Naming>(
     reader: CopyReader<J>,
     token: &Token,
     name: &Name,
-) -> (CopyReader<J>, Option<Sight>)
+) -> (CopyReader<J>, Option<Snapshot>)
     requires book { token.now.book ≡ J.book }
-    ensures value { IfSome result.1 (λ sight. IsSeen J.opening token.now name.now sight) }
+    ensures value { IfSome result.1 (λ snapshot. IsSeen J.opening token.now name.now snapshot) }
 {
     match reader.enter_as::<Sees<J>>() {
         Ok(reading) => {
-            let sight = reading.get().sight(token, name);
-            (reading.leave(), sight)
+            let snapshot = reading.get().snapshot(token, name);
+            (reading.leave(), snapshot)
         }
         Err(reader) => (reader, None),
     }

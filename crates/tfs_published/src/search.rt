@@ -3,20 +3,20 @@
 ghost use Rattle.std.specs.Prelude.{◌≡◌, ◌<◌, length, map, position, IfSome};
 ghost use Rattle.tfs_rules.specs.History.{state_of};
 ghost use Rattle.tfs_records.specs.Journal.{Journal, acts_of};
-ghost use Rattle.tfs_published.specs.Found.{IsFound};
+ghost use Rattle.tfs_published.specs.Lookup.{IsLookup};
 ghost use Rattle.tfs_published.specs.Place.{place_view, has_name};
 ghost use Rattle.tfs_published.specs.Published.{ArePlacesOf};
 
-use crate::found::Found;
+use crate::lookup::Lookup;
 use crate::place::{Place, is_of};
 
 /// What places have of a name.
-pub(crate) fn find(places: &[Place], name: &str) -> Found
-    ensures value { (j : Journal) → ArePlacesOf j (map place_view places.now) → IsFound result (state_of (acts_of name.now j)) }
+pub(crate) fn find(places: &[Place], name: &str) -> Lookup
+    ensures value { (j : Journal) → ArePlacesOf j (map place_view places.now) → IsLookup result (state_of (acts_of name.now j)) }
 {
     match number_of(places, name) {
         Some(number) => at(&places[number]),
-        None => Found::NoState,
+        None => Lookup::NoState,
     }
 }
 
@@ -30,15 +30,15 @@ fn number_of(places: &[Place], name: &str) -> Option<usize>
 }
 
 /// What a place has. A clone of its version may be refused.
-fn at(place: &Place) -> Found
-    ensures value { IfSome (place_view place.now) (λ view. IsFound result view.state) }
+fn at(place: &Place) -> Lookup
+    ensures value { IfSome (place_view place.now) (λ view. IsLookup result view.state) }
 {
     match place {
         Place::Kept(_, Some(version)) => match version.clone() {
-            Ok(version) => Found::Kept(version),
-            Err(_) => Found::Lost,
+            Ok(version) => Lookup::Kept(version),
+            Err(_) => Lookup::Lost,
         },
-        Place::Kept(_, None) | Place::Empty => Found::NoState,
-        Place::Lost(lost) => lost.found(),
+        Place::Kept(_, None) | Place::Empty => Lookup::NoState,
+        Place::Lost(lost) => lost.lookup(),
     }
 }

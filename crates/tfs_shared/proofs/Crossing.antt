@@ -11,9 +11,9 @@ use Rattle.tfs_records.proofs.out.Out.TheSendSync as out
 use Rattle.tfs_table.specs.contracts.table.Table as Table
 use Rattle.tfs_table.proofs.workspace.Workspace.TheSendSync as workspace
 use Rattle.tfs_published.specs.declared.naming.Naming as naming
-use Rattle.tfs_shared.specs.contracts.held.Held as Held
+use Rattle.tfs_shared.specs.contracts.locked_state.LockedState as LockedState
 use Rattle.tfs_shared.specs.contracts.shared.Shared as Shared
-use Rattle.tfs_published.proofs.board.Board.TheSendSync as board
+use Rattle.tfs_published.proofs.publisher.Publisher.TheSendSync as publisher
 
 -- A table may go where its sink may.
 pub table_send : (K : RattleType) (g : sink.Ghosts K.Denot) → IsSend K → IsSend (Table.the_row K g)
@@ -21,9 +21,9 @@ table_send K g s = search (sendable, crosses, base.the_send, entry.the_send, out
 
 module _ (J K : RattleType) (n : naming.Ghosts J.Denot) (l : ledger.Ghosts J.Denot) (g : sink.Ghosts K.Denot) (s : IsSend K) where
   -- So may what lies under the lock.
-  pub held_send : IsSend (Held.the_row J K n l g)
-  held_send = search (sendable, table_send, board.the_send, book.the_send) depth 20
+  pub locked_state_send : IsSend (LockedState.the_row J K n l g)
+  locked_state_send = search (sendable, table_send, publisher.the_send, book.the_send) depth 20
 
   -- A shared table may be used by several threads.
   pub shared_sync : IsSync (Shared.the_row J K n l g)
-  shared_sync = search (sendable, crosses, held_send) depth 20
+  shared_sync = search (sendable, crosses, locked_state_send) depth 20

@@ -1,4 +1,4 @@
-pub mod Held
+pub mod LockedState
 pub mod Impact
 pub mod Locked
 pub mod View

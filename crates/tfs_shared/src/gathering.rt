@@ -55,18 +55,18 @@ pub fn gather<J: Naming, K: Sink, R: Wait>(
     }
     let Shared {
         alloc,
-        held,
+        locked_state,
         number,
         opened,
     } = shared;
-    let held = held.into_inner();
-    held.is_kept();
-    if held.covers_all(sessions.as_slice()) {
-        return Ok(held.end(rt, sessions));
+    let locked_state = locked_state.into_inner();
+    locked_state.is_kept();
+    if locked_state.covers_all(sessions.as_slice()) {
+        return Ok(locked_state.end(rt, sessions));
     }
     let shared = Shared {
         alloc,
-        held: Mutex::new(held),
+        locked_state: Mutex::new(locked_state),
         number,
         opened,
     };

@@ -14,7 +14,7 @@ use std::alloc::Global;
 use std::sync::Arc;
 use tfs_calls::{Impact, Query, Refusal};
 use tfs_index::Version;
-use tfs_published::{Found, Naming};
+use tfs_published::{Lookup, Naming};
 use tfs_records::Sink;
 use tfs_rules::Name;
 
@@ -35,9 +35,9 @@ impl<J: Naming> Session<J> {
     {
         match self.look(name) {
             None => Err(Refusal::NoCopy),
-            Some(Found::NoState) => Err(Refusal::NoState),
-            Some(Found::Lost) => Err(Refusal::OutOfMemory),
-            Some(Found::Kept(version)) => ask(shared.alloc(), version, query, self.seen()),
+            Some(Lookup::NoState) => Err(Refusal::NoState),
+            Some(Lookup::Lost) => Err(Refusal::OutOfMemory),
+            Some(Lookup::Kept(version)) => ask(shared.alloc(), version, query, self.seen()),
         }
     }
 }

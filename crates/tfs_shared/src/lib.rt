@@ -2,9 +2,9 @@
 #![tactic(auto)]
 
 mod gathering;
-mod held;
 mod impact;
 mod locked;
+mod locked_state;
 mod merge;
 mod session;
 mod shared;
@@ -12,7 +12,7 @@ mod sharing;
 mod threads;
 
 pub use gathering::{Lack, Strangers, gather};
-pub use held::Held;
+pub use locked_state::LockedState;
 pub use session::Session;
 pub use shared::Shared;
 pub use sharing::{Cause, Unshared, share};

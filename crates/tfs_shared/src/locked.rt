@@ -3,33 +3,33 @@
 ghost use Rattle.std.specs.Prelude.{◌≡◌, ◌+◌, length, OnOk, OnErr};
 ghost use Rattle.tfs_calls.specs.Transition.{AnswersAct};
 ghost use Rattle.tfs_table.specs.Table.{model_of, change_reply};
-ghost use Rattle.tfs_shared.specs.Held.{ArePublished};
+ghost use Rattle.tfs_shared.specs.LockedState.{ArePublished};
 
 use std::sync::Wait;
 use tfs_calls::Refusal;
-use tfs_published::{Board, Naming};
+use tfs_published::{Naming, Publisher};
 use tfs_records::Sink;
 use tfs_table::{Prepared, Table};
 
 /// Makes a change and publishes it, or says why not. Whatever takes memory comes before the sink, so that what is written is
-/// published too; what was prepared when the sink fails is never published, since the table is stopped then.
+/// published too; what is staged when the sink fails is never published, since the table is stopped then.
 pub(crate) fn change<J: Naming, K: Sink, R: Wait>(
     rt: &R,
     table: &mut Table<K>,
-    board: &mut Board<J>,
+    publisher: &mut Publisher<J>,
     prepared: Prepared,
 ) -> Result<u64, Refusal>
-    requires published { ArePublished table.old board.old }
+    requires published { ArePublished table.old publisher.old }
     ensures answered { AnswersAct (model_of table.old) prepared.name prepared.act (change_reply result) (model_of table.new) }
-    ensures published { ArePublished table.new board.new }
+    ensures published { ArePublished table.new publisher.new }
     ensures more { OnOk result (length table.new.journal.entries ≡ length table.old.journal.entries + 1) }
     ensures kept { OnErr result (table.new.journal ≡ table.old.journal) }
 {
     table.len();
     let ready = table.ready(prepared)?;
-    board.prepare(&ready)?;
+    publisher.stage(&ready)?;
     let number = ready.number();
     let position = table.finish(ready)?;
-    board.publish(rt, number);
+    publisher.publish(rt, number);
     Ok(position)
 }

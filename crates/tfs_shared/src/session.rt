@@ -7,7 +7,7 @@ ghost use Rattle.tfs_records.specs.Journal.{position_of, acts_of};
 ghost use Rattle.tfs_calls.specs.Refusal.{refusal_value};
 ghost use Rattle.tfs_calls.specs.Reply.{state, refused};
 ghost use Rattle.tfs_table.specs.Table.{change_reply};
-ghost use Rattle.tfs_published.specs.Found.{IsFound};
+ghost use Rattle.tfs_published.specs.Lookup.{IsLookup};
 ghost use Rattle.tfs_shared.specs.Locked.{AnswersChange, AnswersRead, HasNoCopy};
 ghost use Rattle.tfs_published.specs.Beginning.{BeginsWith};
 
@@ -17,7 +17,7 @@ use std::marker::Model;
 use std::sync::ledger::{Book, Share};
 use std::sync::{Arc, MutexGuard, Wait};
 use tfs_calls::{Draft, Refusal};
-use tfs_published::{Board, Found, Naming, Viewer};
+use tfs_published::{Lookup, Naming, Publisher, Reader};
 use tfs_records::Sink;
 use tfs_rules::Name;
 use tfs_state::Doc;
@@ -26,7 +26,7 @@ use tfs_table::{Parts, Prepared};
 /// A caller's own side of a shared table. Contracts see the journal that it has seen, and how many of its changes were accepted.
 #[derive(Drop)]
 pub struct Session<J: Naming> {
-    viewer: Viewer<J>,
+    reader: Reader<J>,
     share: Share<J>,
     accepted: u64,
 }
@@ -37,20 +37,20 @@ impl<J: Naming> Model for Session<J> {
 
     ghost Value = { SessionView };
 
-    ghost view = { λ s. record { journal = s.viewer; accepted = s.accepted } };
+    ghost view = { λ s. record { journal = s.reader; accepted = s.accepted } };
 
     ghost invariant = { λ s. (s.share.parts ≡ 1) × (s.share.amount ≡ s.accepted) };
 }
 
 impl<J: Naming> Session<J> {
-    /// A session that has seen what its viewer has, and has made no changes.
-    pub(crate) fn new(viewer: Viewer<J>, share: Share<J>) -> Session<J>
+    /// A session that has seen what its reader has, and has made no changes.
+    pub(crate) fn new(reader: Reader<J>, share: Share<J>) -> Session<J>
         requires parts { share.parts ≡ 1 }
         requires amount { share.amount ≡ 0 }
-        ensures value { result ≡ record { journal = viewer; accepted = 0 } }
+        ensures value { result ≡ record { journal = reader; accepted = 0 } }
     {
         Session {
-            viewer,
+            reader,
             share,
             accepted: 0,
         }
@@ -67,7 +67,7 @@ impl<J: Naming> Session<J> {
     pub fn seen(&self) -> u64
         ensures value { result ≡ position_of self.now.journal }
     {
-        self.viewer.position()
+        self.reader.position()
     }
 
     /// Makes a change, or says why not, over a journal that begins with all that the session had seen. Afterwards it has seen the
@@ -87,15 +87,15 @@ impl<J: Naming> Session<J> {
         ensures refused { OnErr result (self.new.accepted ≡ self.old.accepted) }
     {
         let Ok((prepared, parts)) = with_parts(shared.alloc(), name, draft) else {
-            let held = shared.lock(rt);
-            let refusal = held.lack_memory(self);
-            MutexGuard::unlock(held);
+            let locked_state = shared.lock(rt);
+            let refusal = locked_state.lack_memory(self);
+            MutexGuard::unlock(locked_state);
             return Err(refusal);
         };
-        let mut held = shared.lock(rt);
-        let answer = held.submit(rt, self, prepared);
-        let replaced = held.take_replaced();
-        MutexGuard::unlock(held);
+        let mut locked_state = shared.lock(rt);
+        let answer = locked_state.submit(rt, self, prepared);
+        let replaced = locked_state.take_replaced();
+        MutexGuard::unlock(locked_state);
         drop(replaced);
         drop(parts);
         answer
@@ -115,26 +115,26 @@ impl<J: Naming> Session<J> {
             ⊎ AnswersRead name.now self.old self.new (refused (refusal_value refusal))) }
         ensures accepted { self.new.accepted ≡ self.old.accepted }
     {
-        let held = shared.lock(rt);
-        let answer = held.state(self, name);
-        MutexGuard::unlock(held);
+        let locked_state = shared.lock(rt);
+        let answer = locked_state.state(self, name);
+        MutexGuard::unlock(locked_state);
         answer
     }
 
     /// Whether what is published begins with what it has seen. If not, its position is lower.
-    pub(crate) fn is_covered(&self, board: &Board<J>) -> bool
-        ensures yes { result ≡ true → BeginsWith board.now.journal self.now.journal }
-        ensures no { result ≡ false → position_of board.now.journal < position_of self.now.journal }
+    pub(crate) fn is_covered(&self, publisher: &Publisher<J>) -> bool
+        ensures yes { result ≡ true → BeginsWith publisher.now.journal self.now.journal }
+        ensures no { result ≡ false → position_of publisher.now.journal < position_of self.now.journal }
     {
-        board.covers(&self.viewer)
+        publisher.covers(&self.reader)
     }
 
     /// Has it see what is published.
-    pub(crate) fn see(&mut self, board: &Board<J>)
-        ensures journal { self.new.journal ≡ board.now.journal }
+    pub(crate) fn see(&mut self, publisher: &Publisher<J>)
+        ensures journal { self.new.journal ≡ publisher.now.journal }
         ensures accepted { self.new.accepted ≡ self.old.accepted }
     {
-        board.show(&mut self.viewer);
+        publisher.show(&mut self.reader);
     }
 
     /// Its share of the ledger. Its reader is given back.
@@ -143,7 +143,7 @@ impl<J: Naming> Session<J> {
         ensures amount { result.amount ≡ self.accepted }
     {
         let Session {
-            viewer: _viewer,
+            reader: _reader,
             share,
             accepted: _,
         } = self;
@@ -164,13 +164,13 @@ impl<J: Naming> Session<J> {
 
     /// Looks a name up in a published copy that begins with all that the session has seen. Afterwards it has seen the journal
     /// that the copy stands for. There is nothing, and nothing changes, where no such copy is handed out. It waits for nobody.
-    pub(crate) fn look(&mut self, name: &Name) -> Option<Found>
-        ensures found { IfSome result (λ found. IsFound found (state_of (acts_of name.now self.new.journal))) }
+    pub(crate) fn look(&mut self, name: &Name) -> Option<Lookup>
+        ensures found { IfSome result (λ lookup. IsLookup lookup (state_of (acts_of name.now self.new.journal))) }
         ensures later { BeginsWith self.new.journal self.old.journal }
         ensures kept { IfNone result (self.new ≡ self.old) }
         ensures accepted { self.new.accepted ≡ self.old.accepted }
     {
-        self.viewer.look(name)
+        self.reader.look(name)
     }
 }
 

@@ -4,7 +4,7 @@ ghost use Rattle.std.specs.Prelude.{◌≡◌};
 ghost use Rattle.tfs_records.specs.Journal.{position_of};
 ghost use Rattle.tfs_published.specs.Beginning.{BeginsWith};
 
-use crate::held::Held;
+use crate::locked_state::LockedState;
 use std::alloc::Global;
 use std::marker::Model;
 use std::sync::{Mutex, MutexGuard, Wait};
@@ -15,7 +15,7 @@ use tfs_table::Table;
 /// A table behind one lock, and the position that it was opened at. Contracts see the number of its sessions.
 pub struct Shared<J: Naming, K: Sink> {
     pub(crate) alloc: Global,
-    pub(crate) held: Mutex<Held<J, K>>,
+    pub(crate) locked_state: Mutex<LockedState<J, K>>,
     pub(crate) number: usize,
     pub(crate) opened: u64,
 }
@@ -33,14 +33,19 @@ impl<J: Naming, K: Sink> Model for Shared<J, K> {
 
 impl<J: Naming, K: Sink> Shared<J, K> {
     /// A table with what is published of it, behind one lock.
-    pub(crate) fn new(alloc: Global, number: usize, opened: u64, held: Held<J, K>) -> Shared<J, K>
+    pub(crate) fn new(
+        alloc: Global,
+        number: usize,
+        opened: u64,
+        locked_state: LockedState<J, K>,
+    ) -> Shared<J, K>
         requires number { number ≡ J.sessions }
         requires opened { opened ≡ position_of J.opening }
         ensures value { result ≡ number }
     {
         Shared {
             alloc,
-            held: Mutex::new(held),
+            locked_state: Mutex::new(locked_state),
             number,
             opened,
         }
@@ -59,13 +64,13 @@ impl<J: Naming, K: Sink> Shared<J, K> {
     {
         let Shared {
             alloc: _,
-            held,
+            locked_state,
             number: _,
             opened: _,
         } = self;
-        let held = held.into_inner();
-        held.is_kept();
-        held.close(rt)
+        let locked_state = locked_state.into_inner();
+        locked_state.is_kept();
+        locked_state.close(rt)
     }
 
     /// Where its memory comes from.
@@ -74,7 +79,7 @@ impl<J: Naming, K: Sink> Shared<J, K> {
     }
 
     /// Its lock, taken.
-    pub(crate) fn lock<R: Wait>(&self, rt: &R) -> MutexGuard<'_, Held<J, K>> {
-        self.held.lock(rt)
+    pub(crate) fn lock<R: Wait>(&self, rt: &R) -> MutexGuard<'_, LockedState<J, K>> {
+        self.locked_state.lock(rt)
     }
 }

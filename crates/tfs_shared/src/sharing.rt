@@ -2,13 +2,13 @@
 
 ghost use Rattle.std.specs.Prelude.{◌≡◌, ◌≤◌, length, replicate, IfOk, IfErr};
 
-use crate::held::Held;
+use crate::locked_state::LockedState;
 use crate::session::Session;
 use crate::shared::Shared;
 use std::alloc::Global;
 use std::sync::Wait;
 use std::sync::ledger::{Blank, Share};
-use tfs_published::{Board, Naming, Opened};
+use tfs_published::{Naming, Opened, Publisher};
 use tfs_records::Sink;
 use tfs_table::Table;
 
@@ -48,18 +48,18 @@ pub fn share<J: Naming, K: Sink, R: Wait>(
     ensures back { IfErr result (λ unshared. unshared.table ≡ table) }
 {
     let (book, all) = blank.open::<J>();
-    let Ok(board) = Board::new(rt, alloc, &table, opened, number) else {
+    let Ok(publisher) = Publisher::new(rt, alloc, &table, opened, number) else {
         let why = Cause::NoMemory;
         return Err(Unshared { table, why });
     };
-    match sessions_of(alloc, &board, number, all) {
+    match sessions_of(alloc, &publisher, number, all) {
         Ok(sessions) => {
             let opened = table.position();
-            let held = Held::new(table, board, book);
-            Ok((Shared::new(alloc, number, opened, held), sessions))
+            let locked_state = LockedState::new(table, publisher, book);
+            Ok((Shared::new(alloc, number, opened, locked_state), sessions))
         }
         Err(why) => {
-            board.close(rt);
+            publisher.close(rt);
             Err(Unshared { table, why })
         }
     }
@@ -68,13 +68,13 @@ pub fn share<J: Naming, K: Sink, R: Wait>(
 /// As many new sessions as a share has parts.
 fn sessions_of<J: Naming>(
     alloc: Global,
-    board: &Board<J>,
+    publisher: &Publisher<J>,
     number: usize,
     all: Share<J>,
 ) -> Result<Vec<Session<J>>, Cause>
     requires parts { all.parts ≡ number }
     requires amount { all.amount ≡ 0 }
-    ensures value { IfOk result (λ sessions. sessions.items ≡ replicate number (record { journal = board.now.journal; accepted = 0 })) }
+    ensures value { IfOk result (λ sessions. sessions.items ≡ replicate number (record { journal = publisher.now.journal; accepted = 0 })) }
 {
     let mut rest = all;
     let Ok(mut sessions) = Vec::with_capacity(alloc, number) else {
@@ -82,10 +82,10 @@ fn sessions_of<J: Naming>(
     };
     for made in 0..number {
         let share = rest.split_off(1, 0);
-        let Some(viewer) = board.viewer() else {
+        let Some(reader) = publisher.reader() else {
             return Err(Cause::NoPlace);
         };
-        let Ok(()) = sessions.push(Session::new(viewer, share)) else {
+        let Ok(()) = sessions.push(Session::new(reader, share)) else {
             return Err(Cause::NoMemory);
         };
     }

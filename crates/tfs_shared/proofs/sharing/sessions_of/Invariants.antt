@@ -4,7 +4,7 @@ use Rattle.tfs_shared.proofs.sharing.sessions_of.Given as goal
 
 abbrev pub invariant-loop-made : goal.invariant-loop-made
 invariant-loop-made g l = record {
-  value : l.sessions.items ≡ replicate l.made (record { journal = l.board.journal; accepted = 0 });
+  value : l.sessions.items ≡ replicate l.made (record { journal = l.publisher.journal; accepted = 0 });
   parts : l.rest.parts + l.made ≡ l.number;
   amount : l.rest.amount ≡ 0;
 }

@@ -1,0 +1,23 @@
+-- The copy that readers are shown has the newest token.
+use Rattle.std.proofs.Common.{ap, sym, subst, ◌∙◌}
+use Rattle.tfs_records.specs.Journal.{Journal}
+use Rattle.tfs_published.specs.Change.{journal_after}
+use Rattle.tfs_published.specs.Published.{IsPublished}
+use Rattle.tfs_published.specs.Token.{TokenValue}
+use Rattle.tfs_published.specs.Beginning.{BeginsWith}
+use Rattle.tfs_published.proofs.Beginnings.{opening_begins}
+use Rattle.tfs_published.proofs.publisher.Publisher.shows.Goals as goal
+
+pub returns : goal.returns
+returns g c =
+    let publisher = c.self.invariant.1 in
+    let same = ap (λ v. v.journal) c.self.view_is in
+    let journal = ap (λ (t : TokenValue). journal_after g.J.Naming.opening t.changes) publisher.newest_is ∙ same in
+    record {
+      value = record {
+        copy = publisher.copy;
+        shown = sym (ap (λ v. v.shown) c.self.view_is) ∙ publisher.shows;
+        published = subst (λ (j : Journal). IsPublished publisher.copy j) journal publisher.stands.published;
+      };
+      begins = subst (λ (j : Journal). BeginsWith j g.J.Naming.opening) same (opening_begins g.J.Naming.opening c.self.inside.newest.changes);
+    }

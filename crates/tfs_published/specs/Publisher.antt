@@ -1,0 +1,34 @@
+-- What lies under the lock beside the table.
+use Rattle.std.specs.Prelude.{◌≡◌, List, [], Option, Some, None, IfSome}
+use Rattle.logbook.specs.Pages.{Book}
+use Rattle.tfs_records.specs.Journal.{Journal}
+use Rattle.tfs_published.specs.Token.{TokenValue}
+use Rattle.tfs_published.specs.Published.{IsPublished, StandsFor, Queues}
+use Rattle.tfs_published.specs.declared.view.CopyView.{CopyView}
+use Rattle.tfs_published.specs.declared.operation.Operation.{Operation}
+
+-- What callers see: the journal that is published, the one that is to be published next, and the copy that readers are shown.
+pub record PublisherView : Type 0 where
+  pub journal : Journal
+  pub next : Option Journal
+  pub shown : Option CopyView
+
+-- Readers are shown a copy that stands for what is published.
+pub record Shows (publisher : PublisherView) : Type 0 where
+  pub copy : CopyView
+  pub shown : publisher.shown ≡ Some copy
+  pub published : IsPublished copy publisher.journal
+
+-- What is queued: nothing, or the update that leads to the next token.
+abbrev pub IsQueue : Journal → CopyView → Option TokenValue → List Operation → Type 0
+IsQueue opening copy None queued = queued ≡ []
+IsQueue opening copy (Some next) queued = (queues : Queues opening copy queued) × (queues.update.token ≡ next)
+
+-- What a publisher keeps: the copy that readers are shown has the newest token, and stands for the journal after its changes.
+pub record IsPublisher (book : Book) (opening : Journal) (newest : TokenValue) (next : Option TokenValue) (shown : Option CopyView)
+    (queued : Option (List Operation)) : Type 0 where
+  pub copy : CopyView
+  pub shows : shown ≡ Some copy
+  pub newest_is : copy.token ≡ newest
+  pub stands : StandsFor book opening copy
+  pub queue : IfSome queued (IsQueue opening copy next)

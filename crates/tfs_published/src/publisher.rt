@@ -1,0 +1,251 @@
+//! What lies under the lock beside the table and the ledger's book.
+
+ghost use Rattle.std.specs.Prelude.{◌≡◌, ◌≤◌, ◌<◌, ◌∷◌, ◌++◌, [], true, false, drop, length, Some, None, IfSome, IfOk, OnOk, OnErr, option_map};
+ghost use Rattle.std.specs.Arc.{arc_value};
+ghost use Rattle.tfs_records.specs.Journal.{with_entry, position_of};
+ghost use Rattle.tfs_published.specs.Publisher.{Shows};
+ghost use Rattle.tfs_published.specs.declared.operation.Operation.TheVariants.{Take};
+ghost use Rattle.tfs_published.specs.Change.{change_of, journal_after, state_told};
+ghost use Rattle.tfs_published.specs.PlaceView.{place_with};
+ghost use Rattle.tfs_published.specs.Beginning.{BeginsWith};
+
+use crate::history::{History, Opened};
+use crate::naming::Naming;
+use crate::operation::{Operation, Update};
+use crate::published::Published;
+use crate::reader::Reader;
+use crate::replaced::Replaced;
+use crate::rule::{CopyWriter, publish, with_room};
+use crate::token::Token;
+use left_right::writer::Writer;
+use std::alloc::{AllocError, Global};
+use std::marker::Model;
+use std::mem::replace;
+use std::sync::{Arc, Wait};
+use tfs_index::Version;
+use tfs_records::Sink;
+use tfs_rules::Name;
+use tfs_table::{Ready, Table};
+
+/// The writer of the published copies, and the word of the history with its newest token. Between the two halves of a change
+/// there is a next token, whose last change is queued. The versions that changes have replaced are kept as long as a copy has them.
+pub struct Publisher<J: Naming> {
+    writer: Option<CopyWriter<J>>,
+    history: History<J>,
+    newest: Token,
+    next: Option<Token>,
+    position: u64,
+    replaced: Replaced,
+}
+
+impl<J: Naming> Model for Publisher<J> {
+    ghost use Rattle.std.specs.Prelude.{◌≡◌, drop, option_map};
+    ghost use Rattle.tfs_records.specs.Journal.{position_of};
+    ghost use Rattle.tfs_published.specs.Publisher.{PublisherView, IsPublisher};
+    ghost use Rattle.tfs_published.specs.Change.{journal_after};
+
+    ghost Value = { PublisherView };
+
+    ghost view = { λ b. record {
+      journal = journal_after J.opening b.newest.changes;
+      next = option_map (λ t. journal_after J.opening t.changes) b.next;
+      shown = option_map (λ w. w.desk.shown.value) b.writer;
+    } };
+
+    ghost invariant = { λ b. (b.position ≡ position_of (journal_after J.opening b.newest.changes))
+        × IsPublisher J.book J.opening b.newest b.next (option_map (λ w. w.desk.shown.value) b.writer)
+        (option_map (λ w. drop w.behind w.log.items) b.writer) };
+}
+
+impl<J: Naming> Publisher<J> {
+    /// What shows readers the opening journal, with places for this number of readers. An error is a refused request for memory.
+    #[tactic(auto, using(crate::proofs::Publishers::no_changes))]
+    pub fn new<K: Sink, R: Wait>(
+        rt: &R,
+        alloc: Global,
+        table: &Table<K>,
+        opened: Opened,
+        number: usize,
+    ) -> Result<Publisher<J>, AllocError>
+        requires opening { table.now.journal ≡ J.opening }
+        requires book { opened ≡ J.book }
+        requires readers { (1 ≤ number) × (number ≤ 16) }
+        ensures journal { IfOk result (λ publisher. publisher.journal ≡ J.opening) }
+        ensures idle { IfOk result (λ publisher. publisher.next ≡ None) }
+    {
+        let (history, newest) = opened.named::<J>();
+        let first = Published::of(alloc, table, &newest)?;
+        let second = Published::of(alloc, table, &newest)?;
+        table.len();
+        let writer: CopyWriter<J> = Writer::new(alloc, first, second, number)?;
+        let writer = with_room(rt, writer)?;
+        Ok(Publisher {
+            writer: Some(writer),
+            history,
+            newest,
+            next: None,
+            position: table.position(),
+            replaced: Replaced::none(),
+        })
+    }
+
+    /// A reader that has seen what is published. There is none where no reader's place is there.
+    pub fn reader(&self) -> Option<Reader<J>>
+        ensures value { IfSome result (λ reader. reader ≡ self.now.journal) }
+    {
+        let Some(writer) = &self.writer else {
+            return None;
+        };
+        let Ok(reader) = writer.factory().reader() else {
+            return None;
+        };
+        let (token, position) = self.reached();
+        Some(Reader::new(reader, token, position))
+    }
+
+    /// What readers are shown stands for what is published, which begins with the opening journal.
+    pub fn shows(&self)
+        ensures value { Shows self.now }
+        ensures begins { BeginsWith self.now.journal J.opening }
+    {
+        let _position = self.position;
+    }
+
+    /// Ends the writer. It waits for readers.
+    pub fn close<R: Wait>(self, rt: &R) {
+        let Publisher {
+            writer,
+            history: _history,
+            newest: _newest,
+            next: _next,
+            position: _,
+            replaced: _replaced,
+        } = self;
+        if let Some(writer) = writer {
+            writer.take(rt);
+        }
+    }
+
+    /// Whether what is published begins with what a reader has seen. If not, its position is lower.
+    pub fn covers(&self, reader: &Reader<J>) -> bool
+        ensures yes { result ≡ true → BeginsWith self.now.journal reader.now }
+        ensures no { result ≡ false → position_of self.now.journal < position_of reader.now }
+    {
+        self.newest.begins_with(reader.token())
+    }
+
+    /// Has a reader see what is published.
+    pub fn show(&self, reader: &mut Reader<J>)
+        ensures value { reader.new ≡ self.now.journal }
+    {
+        let (token, position) = self.reached();
+        reader.see(token, position);
+    }
+
+    /// The token of what is published, and its position.
+    fn reached(&self) -> (Token, u64)
+        ensures book { result.0.book ≡ J.book }
+        ensures journal { journal_after J.opening result.0.changes ≡ self.now.journal }
+        ensures position { result.1 ≡ position_of self.now.journal }
+    {
+        (self.newest.again(), self.position)
+    }
+
+    /// Queues the update that tells a change. Readers don't see it before it is published.
+    pub fn stage(&mut self, ready: &Ready) -> Result<(), AllocError>
+        requires idle { self.old.next ≡ None }
+        requires journal { ready.now.journal ≡ self.old.journal }
+        requires entries { length self.old.journal.entries ≤ 65536 }
+        requires base { self.old.journal.base.position ≤ 4611686018427387904 }
+        ensures ok { OnOk result (self.new.next ≡ Some (with_entry self.old.journal ready.now.entry)) }
+        ensures err { OnErr result (self.new.next ≡ None) }
+        ensures kept { (self.new.journal ≡ self.old.journal) × (self.new.shown ≡ self.old.shown) }
+    {
+        let version = version_after(ready)?;
+        let Some(writer) = &mut self.writer else {
+            return Err(AllocError);
+        };
+        let Some(token) = self.newest.with(&self.history, ready) else {
+            return Err(AllocError);
+        };
+        let position = self.position + 1;
+        queue(
+            writer,
+            ready.number(),
+            ready.name(),
+            version,
+            position,
+            &token,
+        )?;
+        self.next = Some(token);
+        Ok(())
+    }
+
+    /// Shows readers the change that is staged, of the name with this number. It waits for readers that are still in the copy
+    /// before.
+    pub fn publish<R: Wait>(&mut self, rt: &R, number: usize)
+        requires number { number < 1024 }
+        requires room { position_of self.old.journal < 9223372036854775808 }
+        ensures journal { IfSome self.old.next (λ next. self.new.journal ≡ next) }
+        ensures idle { self.new.next ≡ None }
+    {
+        let Some(token) = self.next.take() else {
+            return;
+        };
+        let Some(writer) = self.writer.take() else {
+            return;
+        };
+        let replaced = writer.published().version(number);
+        let none = replace(&mut self.writer, Some(publish(rt, writer)));
+        if let Some(writer) = none {
+            writer.take(rt);
+        }
+        self.newest = token;
+        self.position += 1;
+        self.replaced.add(replaced);
+    }
+
+    /// A version that was replaced and that no copy has any more.
+    pub fn take_replaced(&mut self) -> Option<Arc<Version>>
+        ensures kept { self.new ≡ self.old }
+    {
+        self.replaced.take()
+    }
+}
+
+/// The version that a name has after a change.
+fn version_after(ready: &Ready) -> Result<Option<Arc<Version>>, AllocError>
+    ensures value { IfOk result (λ version. option_map arc_value version ≡ (change_of ready.now).state) }
+{
+    match ready.version() {
+        Some(version) => Ok(Some(version.clone()?)),
+        None => Ok(None),
+    }
+}
+
+/// Queues an update at a writer.
+fn queue<J: Naming>(
+    writer: &mut CopyWriter<J>,
+    number: usize,
+    name: &Name,
+    version: Option<Arc<Version>>,
+    position: u64,
+    token: &Token,
+) -> Result<(), AllocError>
+    requires number { number < 1024 }
+    requires told { state_told token.now.changes ≡ option_map arc_value version }
+    ensures ok { OnOk result (drop writer.new.behind writer.new.log.items ≡ drop writer.old.behind writer.old.log.items ++ Take (record {
+      number = number;
+      place = place_with name.now (option_map arc_value version);
+      position = position;
+      token = token.now;
+    }) ∷ []) }
+    ensures err { OnErr result (drop writer.new.behind writer.new.log.items ≡ drop writer.old.behind writer.old.log.items) }
+    ensures shown { writer.new.desk.shown.value ≡ writer.old.desk.shown.value }
+{
+    let update = Update::new(number, name, version, position, token);
+    match writer.append(Operation::Take(update)) {
+        Ok(()) => Ok(()),
+        Err(_) => Err(AllocError),
+    }
+}

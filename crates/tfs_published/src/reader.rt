@@ -1,0 +1,94 @@
+//! What one session sees of the published copies.
+
+ghost use Rattle.std.specs.Prelude.{◌≡◌, IfSome, IfNone};
+ghost use Rattle.tfs_rules.specs.History.{state_of};
+ghost use Rattle.tfs_records.specs.Journal.{position_of, acts_of};
+ghost use Rattle.tfs_published.specs.Beginning.{BeginsWith};
+ghost use Rattle.tfs_published.specs.Change.{journal_after};
+ghost use Rattle.tfs_published.specs.Lookup.{IsLookup};
+
+use crate::lookup::Lookup;
+use crate::naming::Naming;
+use crate::rule::{CopyReader, enter};
+use crate::token::Token;
+use std::marker::Model;
+use tfs_rules::Name;
+
+/// A reader's place at the published copies, and how far it has seen. Contracts see the journal that it has seen.
+#[derive(Drop)]
+pub struct Reader<J: Naming> {
+    copies: Option<CopyReader<J>>,
+    token: Token,
+    position: u64,
+}
+
+impl<J: Naming> Model for Reader<J> {
+    ghost use Rattle.std.specs.Prelude.{◌≡◌};
+    ghost use Rattle.tfs_records.specs.Journal.{Journal, position_of};
+    ghost use Rattle.tfs_published.specs.Change.{journal_after};
+
+    ghost Value = { Journal };
+
+    ghost view = { λ v. journal_after J.opening v.token.changes };
+
+    ghost invariant = { λ v. (v.token.book ≡ J.book) × (v.position ≡ position_of (journal_after J.opening v.token.changes)) };
+}
+
+impl<J: Naming> Reader<J> {
+    /// A reader that has seen the journal of a token, by its position.
+    pub(crate) fn new(copies: CopyReader<J>, token: Token, position: u64) -> Reader<J>
+        requires book { token.book ≡ J.book }
+        requires position { position ≡ position_of (journal_after J.opening token.changes) }
+        ensures value { result ≡ journal_after J.opening token.changes }
+    {
+        Reader {
+            copies: Some(copies),
+            token,
+            position,
+        }
+    }
+
+    /// The position of the journal that it has seen.
+    pub fn position(&self) -> u64
+        ensures value { result ≡ position_of self.now }
+    {
+        self.position
+    }
+
+    /// The token of the journal that it has seen.
+    pub(crate) fn token(&self) -> &Token
+        ensures book { result.now.book ≡ J.book }
+        ensures journal { journal_after J.opening result.now.changes ≡ self.now }
+    {
+        &self.token
+    }
+
+    /// Has it see the journal of a token, by its position.
+    pub(crate) fn see(&mut self, token: Token, position: u64)
+        requires book { token.book ≡ J.book }
+        requires position { position ≡ position_of (journal_after J.opening token.changes) }
+        ensures value { self.new ≡ journal_after J.opening token.changes }
+    {
+        self.token = token;
+        self.position = position;
+    }
+
+    /// Looks a name up in a published copy that begins with all that it has seen. Afterwards it has seen the journal that the copy
+    /// stands for. There is nothing, and nothing changes, where no such copy is handed out. It waits for nobody.
+    #[tactic(auto, using(crate::proofs::Beginnings::begins_with_itself, crate::proofs::Beginnings::later_begins))]
+    pub fn look(&mut self, name: &Name) -> Option<Lookup>
+        ensures found { IfSome result (λ lookup. IsLookup lookup (state_of (acts_of name.now self.new))) }
+        ensures later { BeginsWith self.new self.old }
+        ensures kept { IfNone result (self.new ≡ self.old) }
+    {
+        let copies = self.copies.take()?;
+        let (copies, snapshot) = enter(copies, &self.token, name);
+        self.copies = Some(copies);
+        let Some(snapshot) = snapshot else {
+            return None;
+        };
+        self.token = snapshot.token;
+        self.position = snapshot.position;
+        Some(snapshot.lookup)
+    }
+}

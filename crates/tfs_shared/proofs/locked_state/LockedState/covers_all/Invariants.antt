@@ -1,0 +1,8 @@
+-- What the sessions so far have seen is begun with.
+use Rattle.std.proofs.Common.{ℕ, ◌<◌, get_or}
+use Rattle.tfs_published.specs.Beginning.{BeginsWith}
+use Rattle.tfs_shared.specs.View.{SessionView}
+use Rattle.tfs_shared.proofs.locked_state.LockedState.covers_all.Given as goal
+
+abbrev pub invariant-loop-session : goal.invariant-loop-session
+invariant-loop-session g l = (k : ℕ) (d : SessionView) → k < l.session-index → BeginsWith l.self.table.journal (get_or l.sessions k d).journal

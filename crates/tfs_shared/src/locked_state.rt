@@ -1,0 +1,190 @@
+//! What lies under the lock.
+
+ghost use Rattle.std.specs.Prelude.{◌≡◌, ◌⊎◌, ◌+◌, ◌≤◌, ℕ, List, true, false, All, Any, None, length, sum_by, OnOk, OnErr, MatchResult};
+ghost use Rattle.tfs_rules.specs.Act.{ActValue};
+ghost use Rattle.std.specs.Arc.{arc_value};
+ghost use Rattle.tfs_calls.specs.Refusal.{refusal_value};
+ghost use Rattle.tfs_calls.specs.Reply.{state, refused};
+ghost use Rattle.tfs_table.specs.Table.{IsTable, change_reply};
+ghost use Rattle.tfs_published.specs.Publisher.{Shows};
+ghost use Rattle.tfs_shared.specs.LockedState.{IsLockedState};
+ghost use Rattle.tfs_shared.specs.Locked.{AnswersChange, AnswersRead, HasNoCopy, IsAhead};
+ghost use Rattle.tfs_published.specs.Beginning.{BeginsWith};
+
+use crate::locked::change;
+use crate::merge::merged;
+use crate::session::Session;
+use std::marker::Model;
+use std::sync::ledger::Book;
+use std::sync::{Arc, Wait};
+use tfs_calls::Refusal;
+use tfs_index::Version;
+use tfs_published::{Naming, Publisher};
+use tfs_records::Sink;
+use tfs_rules::Name;
+use tfs_state::Doc;
+use tfs_table::{Prepared, Table};
+
+/// The table, what is published of it, and the book of the accepted changes.
+pub struct LockedState<J: Naming, K: Sink> {
+    table: Table<K>,
+    publisher: Publisher<J>,
+    book: Book<J>,
+}
+
+impl<J: Naming, K: Sink> Model for LockedState<J, K> {
+    ghost use Rattle.tfs_shared.specs.LockedState.{LockedStateView, IsLockedState};
+
+    ghost Value = { LockedStateView };
+
+    ghost view = { λ h. record { table = h.table; publisher = h.publisher; accepted = h.book.total } };
+
+    ghost invariant = { λ h. IsLockedState J.opening (record { table = h.table; publisher = h.publisher; accepted = h.book.total }) };
+}
+
+impl<J: Naming, K: Sink> LockedState<J, K> {
+    /// A table that nothing was changed of, with what is published of it.
+    pub(crate) fn new(table: Table<K>, publisher: Publisher<J>, book: Book<J>) -> LockedState<J, K>
+        requires opening { table.journal ≡ J.opening }
+        requires published { publisher.journal ≡ J.opening }
+        requires idle { publisher.next ≡ None }
+        requires empty { book.total ≡ 0 }
+        ensures table { result.table ≡ table }
+    {
+        LockedState {
+            table,
+            publisher,
+            book,
+        }
+    }
+
+    /// What is kept whenever the lock is free: the table's invariant, with a lawful journal; what readers are shown stands for that
+    /// journal; and it has as many entries beyond the opening ones as changes were accepted.
+    pub fn is_kept(&self)
+        ensures table { IsTable self.now.table }
+        ensures shown { Shows self.now.publisher }
+        ensures locked_state { IsLockedState J.opening self.now }
+        ensures begins { BeginsWith self.now.table.journal J.opening }
+    {
+        self.table.len();
+        self.publisher.shows();
+    }
+
+    /// A change by a session.
+    pub(crate) fn submit<R: Wait>(
+        &mut self,
+        rt: &R,
+        session: &mut Session<J>,
+        prepared: Prepared,
+    ) -> Result<u64, Refusal>
+        ensures answered { HasNoCopy J.opening session.old session.new (change_reply result)
+            ⊎ AnswersChange prepared.name prepared.act session.old session.new (change_reply result) }
+        ensures accepted { OnOk result (session.new.accepted ≡ session.old.accepted + 1) }
+        ensures refused { OnErr result (session.new.accepted ≡ session.old.accepted) }
+    {
+        self.is_kept();
+        if !session.is_covered(&self.publisher) {
+            return Err(Refusal::NoCopy);
+        }
+        let answer = change(rt, &mut self.table, &mut self.publisher, prepared);
+        session.see(&self.publisher);
+        if answer.is_ok() {
+            self.table.len();
+            session.count(&mut self.book);
+        }
+        answer
+    }
+
+    /// A version that was replaced and that nothing under the lock has any more.
+    pub(crate) fn take_replaced(&mut self) -> Option<Arc<Version>>
+        ensures kept { self.new ≡ self.old }
+    {
+        self.publisher.take_replaced()
+    }
+
+    /// The answer to a change of a session that couldn't be prepared for want of memory. The session sees what is published.
+    pub(crate) fn lack_memory(&self, session: &mut Session<J>) -> Refusal
+        ensures answered { (name : List ℕ) (act : ActValue) → HasNoCopy J.opening session.old session.new (refused (refusal_value result))
+            ⊎ AnswersChange name act session.old session.new (refused (refusal_value result)) }
+        ensures accepted { session.new.accepted ≡ session.old.accepted }
+    {
+        self.is_kept();
+        if !session.is_covered(&self.publisher) {
+            return Refusal::NoCopy;
+        }
+        session.see(&self.publisher);
+        Refusal::OutOfMemory
+    }
+
+    /// The state of a name, for a session.
+    pub(crate) fn state(&self, session: &mut Session<J>, name: &Name) -> Result<Arc<Doc>, Refusal>
+        ensures answered { MatchResult result
+            (λ doc. AnswersRead name.now session.old session.new (state (arc_value doc)))
+            (λ refusal. HasNoCopy J.opening session.old session.new (refused (refusal_value refusal))
+            ⊎ AnswersRead name.now session.old session.new (refused (refusal_value refusal))) }
+        ensures accepted { session.new.accepted ≡ session.old.accepted }
+    {
+        self.is_kept();
+        if !session.is_covered(&self.publisher) {
+            return Err(Refusal::NoCopy);
+        }
+        session.see(&self.publisher);
+        self.table.state(name)
+    }
+
+    /// The table. The writer ends, which waits for readers.
+    pub(crate) fn close<R: Wait>(self, rt: &R) -> Table<K>
+        ensures table { result ≡ self.table }
+    {
+        let LockedState {
+            table,
+            publisher,
+            book: _book,
+        } = self;
+        publisher.close(rt);
+        table
+    }
+
+    /// Whether the table's journal begins with what each session has seen. If not, some session has seen more.
+    pub(crate) fn covers_all(&self, sessions: &[Session<J>]) -> bool
+        ensures yes { result ≡ true → All (λ session. BeginsWith self.now.table.journal session.journal) sessions.now }
+        ensures no { result ≡ false → Any (IsAhead J.opening) sessions.now }
+    {
+        for session in sessions {
+            if !self.covers(session) {
+                return false;
+            }
+        }
+        true
+    }
+
+    /// Whether the table's journal begins with what a session has seen. If not, the session has seen more.
+    fn covers(&self, session: &Session<J>) -> bool
+        ensures yes { result ≡ true → BeginsWith self.now.table.journal session.now.journal }
+        ensures no { result ≡ false → IsAhead J.opening session.now }
+    {
+        self.is_kept();
+        session.is_covered(&self.publisher)
+    }
+
+    /// The table. At least as many sessions as there are in all end their readers, and then the writer ends.
+    pub(crate) fn end<R: Wait>(self, rt: &R, sessions: Vec<Session<J>>) -> Table<K>
+        requires some { 1 ≤ J.parts }
+        requires all { J.parts ≤ length sessions.items }
+        ensures table { result ≡ self.table }
+        ensures whole { length sessions.items ≡ J.parts }
+        ensures counted { length result.journal.entries
+            ≡ length J.opening.entries + sum_by (λ session. session.accepted) sessions.items }
+    {
+        let LockedState {
+            table,
+            publisher,
+            mut book,
+        } = self;
+        if let Some(mut all) = merged(sessions) {
+            book.audit(&mut all);
+        }
+        publisher.close(rt);
+        table
+    }
+}
