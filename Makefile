@@ -9,12 +9,13 @@ endif
 # Stops a target that needs a crate where CRATE names none.
 crate = $(if $(and $(CRATE),$(wildcard crates/$(CRATE)/src)),,$(error name a crate of crates/, as in: make $@ CRATE=tfs_rules))
 
-.PHONY: help run serve test check edits blackbox deploy-test bench stress lint
+.PHONY: help try run serve test check edits blackbox deploy-test bench stress lint
 
 help:
+	@echo 'make try                       look at the program in a minute or two, without any proof'
 	@echo 'make run                       build the program out of proved crates, and show a team'\''s day against it'
 	@echo 'make serve                     serve on 127.0.0.1:8080, with journals in ./journal/, until it is stopped'
-	@echo 'make test                      prove and test everything from nothing; docs/GATE.md says how long it takes'
+	@echo 'make test                      prove and test everything from nothing; CONTRIBUTING.md says how long it takes'
 	@echo 'make check CRATE=tfs_rules     prove one crate, over what earlier runs proved'
 	@echo 'make edits CRATE=tfs_rules     try the must-fail edits of one crate; one of them with EDIT=name'
 	@echo 'make blackbox                  check the built program from outside; one check with CHECK=locks'
@@ -22,6 +23,9 @@ help:
 	@echo 'make bench                     run the benchmarks; one of them with BENCH=planes'
 	@echo 'make stress                    have 16 sessions call a shared table for a minute, and check each answer; SECONDS=10 for less'
 	@echo 'make lint                      look for faults in Python and shell files, without running them'
+
+try:
+	@python3 tests/try_program.py
 
 run:
 	@python3 tests/main_job.py
@@ -48,7 +52,7 @@ bench:
 	@python3 tests/bench.py $(BENCH)
 
 stress:
-	@cd crates/shared_bench && rt run -- stress $(or $(SECONDS),60)
+	@python3 tests/stress.py $(SECONDS)
 
 lint:
 	@python3 tests/lint.py

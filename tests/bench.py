@@ -1,5 +1,4 @@
-"""Runs the benchmarks of bench/: all of them, or those that are named. Each folder has a script `run`, or else stands for the
-program crates/NAME_bench, which prints its times under the argument `times`."""
+"""Runs the benchmarks of bench/: all of them, or those that are named. Each folder with a script `run` is one. What they find is printed."""
 import subprocess
 import sys
 
@@ -7,13 +6,11 @@ from repository import TOP, chosen
 
 
 def main(wanted):
-    named = {path.name: path for path in sorted((TOP / "bench").iterdir()) if path.is_dir()}
+    named = {path.parent.name: path for path in sorted((TOP / "bench").glob("*/run"))}
     failed = []
     for name in chosen(wanted, named, "benchmark"):
         print(f"== {name}", flush=True)
-        script, crate = named[name] / "run", TOP / "crates" / f"{name}_bench"
-        command, folder = ([str(script)], TOP) if script.is_file() else (["rt", "run", "--", "times"], crate)
-        if subprocess.run(command, cwd=folder, stdin=subprocess.DEVNULL, check=False).returncode:
+        if subprocess.run([str(named[name])], cwd=TOP, stdin=subprocess.DEVNULL, check=False).returncode:
             failed.append(name)
     if failed:
         sys.exit(f"failed: {', '.join(failed)}")

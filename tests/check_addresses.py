@@ -1,4 +1,4 @@
-"""Refuses the requests for memory that the program `addr_bench` makes: each one in turn, and all from each one on. Each call of
+"""Refuses the requests for memory that the program `tfs_probe` makes: each one in turn, and all from each one on. Each call of
 `tfs_addr` then answers that memory ran out, or what it answers with ample memory; a text with a fault has its fault.
 
 It needs gcc, and builds the program where it isn't built. The last line counts what passed."""
@@ -8,9 +8,11 @@ import refused_requests
 from refused_requests import FOREVER
 from repository import TOP
 
-PROGRAM = [refused_requests.built("addr_bench")]
-AMPLE = (TOP / "crates" / "addr_bench" / "stdout").read_text(encoding="utf-8").splitlines()
+PROGRAM = [refused_requests.built("tfs_probe"), "addresses"]
 CALLS = ("strip", "config", "instance")
+# What the program writes of these calls in its stored run.
+STORED = (TOP / "crates" / "tfs_probe" / "stdout").read_text(encoding="utf-8").splitlines()
+AMPLE = [line for line in STORED if line.split(":")[0] in CALLS]
 
 
 def run_refused(first, last):
@@ -23,14 +25,10 @@ def call_of(line):
     return line.split(":")[0]
 
 
-def first_answer():
-    """The place of the first answer, which is that of `strip` to the empty text: it asks for no memory."""
-    return next(place for place, line in enumerate(AMPLE) if call_of(line) in CALLS)
-
-
 def may_run_out(place):
-    """Whether the call that answers in this place asks for memory, and has no fault to tell first."""
-    return place > first_answer() and "the bracket at byte" not in AMPLE[place]
+    """Whether the call that answers in this place asks for memory, and has no fault to tell first. The first one is `strip` of the
+    empty text, which asks for none."""
+    return place > 0 and "a bracket is" not in AMPLE[place]
 
 
 def out_of_memory(line):
@@ -64,8 +62,7 @@ def check_each_request_is_refused_in_turn():
             assert len(places) <= 1, f"request {request}: {len(places)} calls ran out of memory"
             seen |= places
         else:
-            before = first_answer()
-            assert len(lines) < before and lines == AMPLE[: len(lines)], f"request {request}: status {status}"
+            assert lines == [], f"request {request}: status {status}"
     wanted = {place for place in range(len(AMPLE)) if may_run_out(place)}
     assert seen == wanted, f"not refused: {[AMPLE[place] for place in sorted(wanted - seen)]}"
 
@@ -77,7 +74,7 @@ def check_all_requests_from_each_one_on_are_refused():
         if status == 0:
             refused_places(lines, f"from request {request} on")
         else:
-            assert lines == AMPLE[: len(lines)] and len(lines) < first_answer(), f"from request {request} on: status {status}"
+            assert lines == [], f"from request {request} on: status {status}"
 
 
 def main():

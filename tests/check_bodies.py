@@ -59,6 +59,15 @@ def check_bodies_in_one_piece():
         expect(run(push_and_get(body)), (replies_to(body), CLEAN, b""), f"a body of {size:,} bytes")
 
 
+def check_bodies_stand_behind_heads_of_every_spelling():
+    for size in (41, LONG):
+        body = text_of(size)
+        start = b"\r\n\nPOST /state/a HTTP/1.1\nHost: h\nContent-Length: " + b"%010d\n\n" % size
+        for pieces in ([start + body + GET], [start, body + GET], [start + body[:3], body[3:] + GET]):
+            cut = [piece[at : at + MAX_READ] for piece in pieces for at in range(0, len(piece), MAX_READ)]
+            expect_replies(cut, body, f"in {len(cut)} pieces, behind empty lines")
+
+
 def check_short_bodies_are_cut_at_each_byte():
     for body in map(text_of, SHORT_LENGTHS):
         data = push_and_get(body)

@@ -15,6 +15,9 @@ PUSHED = DONE + reply_text(200, S1)
 CODED = b"29\r\n" + S1 + b"\r\n0\r\n\r\n"
 SMALL = b"".join(b"1\r\n%c\r\n" % byte for byte in S1) + b"0\r\nX: y\r\n\r\n"
 MAX_BODY = 16777216
+# A state in two chunks, with an extension behind each size, and a trailer of two fields.
+EXTENDED = b'3;k="v"\r\n{"v\r\n026 \t;x\r\n' + S1[3:] + b"\r\n0;y\r\nDate: today\r\nX: z\r\n\r\n"
+PADDED = b"0029 \t;x=y\r\n" + S1 + b"\r\n000;\r\nA: b\n\n"
 
 
 def chunked(body, method=b"POST", coding=b"Transfer-Encoding: chunked\r\n", version=1):
@@ -29,23 +32,33 @@ def expect_refused(data, name, about):
 
 def check_bodies_in_chunks_are_read():
     bodies = [
-        CODED, SMALL, b"029 \t;x=y\r\n" + S1 + b"\r\n00000;\r\n\r\n", b"29\r\n" + S1 + b"\r\n0\r\nA: b\nC\r\n\n",
+        CODED, SMALL, EXTENDED, PADDED, b"029 \t;x=y\r\n" + S1 + b"\r\n00000;\r\n\r\n", b"29\r\n" + S1 + b"\r\n0\r\nA: b\nC\r\n\n",
         b"28\r\n" + S1[:40] + b"\r\n1\r\n" + S1[40:] + b"\r\n0\r\n\n", b"0000000000000029\r\n" + S1 + b"\r\n0\r\n\r\n",
     ]
     for body in bodies:
         expect(run(chunked(body) + GET), (PUSHED, CLEAN, b""), body)
-    expect(run(chunked(CODED, coding=b"transfer-encoding: \tCHUNKED \r\n") + GET), (PUSHED, CLEAN, b""), "in any case")
+    expect(len(chunked(CODED)), 115)
+    for coded, body in [(b"0\r\n\r\n", b""), (b"0\r\n\n", b""), (b"1\r\na\r\n02\r\nbc\r\n0\r\n\r\n", b"abc")]:
+        expect(run(chunked(coded) + GET), (refusal_text("BadState") + NO_STATE, CLEAN, b""), body)
+    for coding in (b"transfer-encoding: \tCHUNKED \r\n", b"tRANSFER-eNCODING:chunked\r\n", b"transfer-encoding: \tcHuNkEd \r\n"):
+        expect(run(chunked(CODED, coding=coding) + GET), (PUSHED, CLEAN, b""), coding)
     closing = chunked(CODED, coding=b"Transfer-Encoding: chunked\r\nConnection: close\r\n") + GET
     expect(run(closing), (b"HTTP/1.1 200 OK\r\nConnection: close\r\nContent-Length: 0\r\n\r\n", ASKED, b""))
 
 
 def check_each_cut_of_a_body_in_chunks_changes_nothing():
-    for data in (chunked(CODED) + GET, chunked(SMALL) + GET):
+    for body in (CODED, SMALL, EXTENDED, PADDED):
+        data = chunked(body) + GET
         for count in range(1, len(data)):
             expect(run_in_pieces([data[:count], data[count:]]), (PUSHED, CLEAN, b""), count)
-    whole = chunked(CODED)
-    for count in range(1, len(whole)):
-        expect(run(whole[:count]), (b"", CUT, b""), count)
+        expect(run_in_pieces([data[at : at + 1] for at in range(len(data))]), (PUSHED, CLEAN, b""), "byte by byte")
+
+
+def check_each_beginning_of_a_body_in_chunks_is_cut_short():
+    for body in (CODED, SMALL, EXTENDED, PADDED):
+        whole = chunked(body)
+        for count in range(1, len(whole)):
+            expect(run(whole[:count]), (b"", CUT, b""), count)
 
 
 def check_codings_are_judged_with_the_head():
@@ -54,6 +67,7 @@ def check_codings_are_judged_with_the_head():
         (b"Transfer-Encoding: gzip, chunked\r\n", 1, "TransferCoding"), (twice, 1, "TransferCoding"),
         (b"Transfer-Encoding:\r\n", 1, "TransferCoding"), (b"Transfer-Encoding: chunked\r\n", 0, "TransferCoding"),
         (b"Transfer-Encoding: chunked;x=y\r\n", 1, "TransferCoding"), (b"Transfer-Encoding: identity\r\n", 1, "TransferCoding"),
+        (b"Transfer-Encoding: chunked, chunked\r\n", 1, "TransferCoding"), (b"Transfer-Encoding: x\tchunked\r\n", 1, "TransferCoding"),
         (b"Content-Length: 41\r\nTransfer-Encoding: chunked\r\n", 1, "BadLength"),
         (b"Transfer-Encoding: chunked\r\nContent-Length: 41\r\n", 0, "BadLength"),
     ]
@@ -64,8 +78,10 @@ def check_codings_are_judged_with_the_head():
 def check_chunks_that_are_none_are_refused():
     lines = [
         b"x\r\n", b"\r\n", b"-1\r\n", b"+1\r\n", b"0x1\r\n", b" 1\r\n", b"1\n", b"1;\n", b"1 2\r\n", b"1;a\rb\r\n",
-        b"0" * 17 + b"\r\n", b"1;" + b"a" * 1022 + b"\r\n", b"1" * 1024,
+        b"0" * 17 + b"\r\n", b"0" * 16 + b"1\r\n", b"1;" + b"a" * 1022 + b"\r\n", b"1" * 1024,
+        b"0;" + b"a" * 1021 + b"\r\n\r\n", b"0;" + b"a" * 1022,
     ]
+    lines += [size + b"\r\n" + S1 + b"\r\n0\r\n\r\n" for size in (b"+29", b"-29", b"0x29", b" 29", b"29 x", b"0" * 15 + b"29")]
     for line in lines:
         expect_refused(chunked(line), "BadChunk", line[:40])
     for body in [b"28\r\n" + S1 + b"\r\n", b"1\r\nab\r\n", b"1\r\na\n\r\n", b"0\r\n" + b"a" * 16384, b"0\r\n" + b"a" * 16383 + b"\n\n"]:
@@ -74,8 +90,27 @@ def check_chunks_that_are_none_are_refused():
         expect_refused(chunked(line), "BodyTooLarge", line[:40])
     longest = b"29;" + b"a" * 1019 + b"\r\n" + S1 + b"\r\n0\r\n" + b"a" * 16382 + b"\n\n"
     expect(run(chunked(longest) + GET), (PUSHED, CLEAN, b""), "the longest line and trailer")
-    expect(run(chunked(b"x")), (b"", CUT, b""), "a line without hope")
-    expect(run(chunked(b"1\r\nax")), (b"", CUT, b""), "a wrong byte after a chunk")
+    most = CODED[:-5] + b"0;" + b"a" * 1020 + b"\r\n" + b"a" * 16382 + b"\n\n"
+    expect(run(chunked(most) + GET), (PUSHED, CLEAN, b""), "the longest last line and trailer")
+    expect(run_in_pieces([chunked(most)[:-1], most[-1:] + GET]), (PUSHED, CLEAN, b""), "the same, cut at its last byte")
+    expect(run(chunked((b"1;" + b"k" * 1020 + b"\r\n \r\n") * 50 + CODED) + GET),
+           (DONE + reply_text(200, b" " * 50 + S1), CLEAN, b""), "fifty of the longest lines")
+    for cut in (b"x", b"1\r", b"1\r\nax", b"1000000\r\n"):
+        expect(run(chunked(cut)), (b"", CUT, b""), cut)
+
+
+def check_a_refusal_comes_with_the_first_byte_that_decides_it():
+    table = [
+        (b"g\r\n0\r\n\r\n", "BadChunk", 3), (b'4;k="v"\r\nabcd\r\n4x\r\nefgh', "BadChunk", 19), (b"4\r\nabcdefgh\r\n", "BadChunk", 9),
+        (b"4\r\nabcd\n\n0\r\n", "BadChunk", 9), (b"4\r\nabcd\r\r\n0\r\n", "BadChunk", 9), (b"1000001\r\na", "BodyTooLarge", 9),
+        (b"ffffffffffffffff;x\r\na", "BodyTooLarge", 20), (b"1\r\na\r\n1000000\r\nb", "BodyTooLarge", 15),
+    ]
+    for coded, name, count in table:
+        decided, head = chunked(coded[:count]), chunked(b"")
+        refused = (refusal_text(name, close=True), REFUSED, b"")
+        expect(run(decided[:-1]), (b"", CUT, b""), coded)
+        expect(run(decided), refused, coded)
+        expect(run_in_pieces([head, *(coded[at : at + 1] for at in range(len(coded)))]), refused, coded)
 
 
 def check_a_body_has_at_most_65536_chunks():

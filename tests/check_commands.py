@@ -18,7 +18,8 @@ FOLDER = tempfile.TemporaryDirectory(prefix="tfstated-")
 FIRST, SECOND = b"TFJ1\n", b"TFJ2\n"
 A, B = b'{"ID":"A" ,"Who":""}', b'{"ID":"B"}'
 PUSH, LOCK = record_text(3, b"a", push_content(b"", S1)), record_text(1, b"a", B)
-UNLOCK = record_text(2, b"a", b"B")
+UNLOCK, DELETE = record_text(2, b"a", b"B"), record_text(4, b"a", b"")
+PUSH_BY_B = record_text(3, b"a", push_content(b"B", S1))
 TEXT = FIRST + PUSH + LOCK
 REBASED = SECOND + base_text(2, [(b"a", B, S1)])
 METHODS = {"lock": "LOCK", "unlock": "UNLOCK", "push": "POST", "delete": "DELETE"}
@@ -68,7 +69,9 @@ def check_records_and_their_end_are_listed():
         (REBASED + later, ["base 2 1", "1 push a", "unlawful 1"], 5), (REBASED[:91], ["torn 5"], 3),
         (REBASED + LOCK[:20], ["base 2 1", "torn 92"], 3), (REBASED + b"\0", ["base 2 1", "damaged 92"], 4),
         (REBASED + UNLOCK + later, ["base 2 1", "1 unlock a", "2 push a", "whole"], 0),
-        ((FIRST + later + PUSH)[:-1], ["1 push a", "torn 71"], 3),
+        ((FIRST + later + PUSH)[:-1], ["1 push a", "torn 71"], 3), (FIRST + PUSH + later, ["1 push a", "2 push a", "whole"], 0),
+        (FIRST + LOCK + PUSH_BY_B + DELETE, ["1 lock a", "2 push a", "3 delete a", "unlawful 3"], 5),
+        (FIRST + PUSH_BY_B, ["1 push a", "unlawful 1"], 5), (REBASED + b"\3", ["base 2 1", "torn 92"], 3), (b"TFK", ["damaged 0"], 4),
     ]
     for data, lines, status in table:
         expect(check(data), (told(*lines), status, b""), data)
@@ -83,8 +86,9 @@ def check_the_1025th_name_is_unlawful():
 
 def check_a_journal_goes_on_from_a_base():
     expect(len(REBASED), 92)
-    table = [(TEXT, "2 1", REBASED), (TEXT[:90], "1 1", SECOND + base_text(1, [(b"a", b"", S1)])),
-             (b"", "0 0", SECOND + base_text(0, [])), (REBASED, "2 1", REBASED)]
+    pushed, empty = SECOND + base_text(1, [(b"a", b"", S1)]), SECOND + base_text(0, [])
+    table = [(TEXT, "2 1", REBASED), (TEXT[:90], "1 1", pushed), (TEXT[:71], "1 1", pushed), (TEXT[:70], "0 0", empty), (FIRST, "0 0", empty),
+             (b"TFJ", "0 0", empty), (b"", "0 0", empty), (REBASED, "2 1", REBASED), (REBASED + b"\3", "2 1", REBASED)]
     for data, numbers, new in table:
         expect(rebase(data), (told("rebased " + numbers), 0, b"", new), data)
 
@@ -94,7 +98,8 @@ def check_faults_of_a_rebase():
     expect(rebase(most), (told(f"rebased {MAX_POSITION} 0"), 0, b"", most))
     changed = REBASED[:30] + bytes([REBASED[30] ^ 1]) + REBASED[31:]
     unlawful = FIRST + record_text(3, b"a", push_content(b"", S2)) + PUSH
-    table = [(changed, 4, b"Damaged"), (REBASED[:50], 3, b"TornBase"), (unlawful, 5, b"Unlawful"),
+    table = [(changed, 4, b"Damaged"), (b"TFK", 4, b"Damaged"), (TEXT[:20] + b"x" + TEXT[21:], 4, b"Damaged"),
+             *[(REBASED[:count], 3, b"TornBase") for count in (5, 50, 91)], (unlawful, 5, b"Unlawful"),
              (unlawful + b"\t", 4, b"Damaged"), (SECOND + far + PUSH, 1, b"TooFar")]
     for data, status, name in table:
         expect(rebase(data), (b"", status, b"tfstated: " + name + b"\n", b""), name)
@@ -164,7 +169,7 @@ def check_refused_memory_is_told_or_does_no_harm():
     usage, none = (b"", 2, USAGE, None), (b"", 1, b"tfstated: NoMemory\n")
     listed, made = (told("1 push a", "2 lock a", "whole"), 0, b"", None), (told("rebased 2 1"), 0, b"", REBASED)
     table = [(("check", path_of("journal", TEXT)), listed, {(*none, None)}),
-             (("rebase", path_of("old", TEXT), path_of("new")), made, {(*none, new) for new in (None, b"", REBASED)})]
+             (("rebase", path_of("old", TEXT), path_of("new")), made, {(*none, new) for new in (None, b"")})]
     for words, ample, faults in table:
         runs = list(refused_runs(*words))
         expect({ran for is_ample, ran in runs if is_ample}, {ample}, "no further request")

@@ -1,4 +1,4 @@
-"""Faults of `tfstated serve`. Of two that wait at a start, the one that comes first in docs/FORMATS.md (The program) is told, and nothing
+"""Faults of `tfstated serve`. Of two that wait at a start, the one that comes first in docs/PROTOCOL.md (The program) is told, and nothing
 is done that comes after it. In running: no connection that can be taken, and clients that go away at any byte."""
 import itertools
 import os
@@ -106,11 +106,10 @@ def check_a_journal_is_never_written_over():
 
 def check_a_worker_that_is_given_no_connection_ends_alone():
     server = Server(workers=3)
-    lowest = server.lowest_free()
     held = [server.connect() for _ in range(3)]
     for connection in held:
         expect(asked(connection, "GET", "/state/a")[0], 404)
-    server.leave_free(lowest)
+    server.shut()
     for number, connection in enumerate(held):
         expect(asked(connection, "POST", f"/state/n{number}", S1), (200, b""), f"after {number} have ended")
         connection.close()
@@ -118,6 +117,21 @@ def check_a_worker_that_is_given_no_connection_ends_alone():
     expect(server.end(), (b"", 1, b"tfstated: AcceptFault\n"), "all have ended")
     names = [name for _, name, _ in entries_of(Path(server.new).read_bytes())]
     expect(names, ["n0", "n1", "n2"], "what was acknowledged is there")
+
+
+def check_workers_go_on_once_descriptors_are_there_again():
+    server = Server(workers=4)
+    server.leave_free(server.lowest_free() + 1)
+    held = [server.connect() for _ in range(4)]
+    expect(asked(held[0], "GET", "/state/a")[0], 404)
+    time.sleep(0.5)  # in which the other three find no descriptor, more than once
+    server.leave_free(256)
+    for number, connection in enumerate(held):
+        expect(asked(connection, "POST", f"/state/n{number}", S1), (200, b""), f"connection {number}, beside the others")
+        connection.settimeout(5)
+    for connection in held:
+        connection.close()
+    server.kill()
 
 
 def go_away(server, data, count=0, reset=False):

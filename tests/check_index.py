@@ -1,28 +1,31 @@
-"""Refuses the requests for memory of the program `index_bench`, which reads a small state, builds its index and asks it for any
+"""Refuses the requests for memory of the program `tfs_probe`, which reads a small state, builds its index and asks it for any
 and all of two addresses: each request in turn, and all from each one on. Each run writes what it writes with ample memory, or
 whole lines of it and that memory ran out."""
 import sys
 
 from checking import checks_in, expect, run_checks
 from refused_requests import FOREVER, build_shim, built, count_of, fault_of
+from sample_states import groups
 
+# Of eight resources with two instances each the last two depend, by one or more steps, on all of t.r5; t.r7 alone on t.r6[1].
+ASKED = groups(16) + b"\nt.r5\nt.r6[1]\n"
 ANY, ALL = b"".join(b"any %d\n" % u for u in range(12, 16)), b"all 14\nall 15\n"
 AMPLE = b"read\nbuilt\n" + ANY + ALL
-PROGRAM = [built("index_bench"), "small"]
+PROGRAM = [built("tfs_probe"), "index"]
 
 
 def check_each_request_is_refused_in_turn():
-    seen = {fault_of(PROGRAM, AMPLE, request, request) for request in range(1, count_of(PROGRAM, AMPLE) + 1)}
+    seen = {fault_of(PROGRAM, AMPLE, request, request, ASKED) for request in range(1, count_of(PROGRAM, AMPLE, ASKED) + 1)}
     expect([fault for _, fault in seen if fault and b"memory" not in fault], [], "memory runs out")
     refused = {output for output, fault in seen if fault}
     expect(refused >= {b"", b"read\n", b"read\nbuilt\n", b"read\nbuilt\n" + ANY}, True, "reading, build, any and all are refused some")
 
 
 def check_all_requests_from_each_one_on_are_refused():
-    requests = count_of(PROGRAM, AMPLE)
-    faults = {fault_of(PROGRAM, AMPLE, request, FOREVER)[1] for request in range(1, requests + 1)}
+    requests = count_of(PROGRAM, AMPLE, ASKED)
+    faults = {fault_of(PROGRAM, AMPLE, request, FOREVER, ASKED)[1] for request in range(1, requests + 1)}
     expect([fault for fault in faults if b"memory" not in fault], [], "memory runs out")
-    expect(fault_of(PROGRAM, AMPLE, requests + 1, FOREVER), (AMPLE, b""), "there is no further request")
+    expect(fault_of(PROGRAM, AMPLE, requests + 1, FOREVER, ASKED), (AMPLE, b""), "there is no further request")
 
 
 if __name__ == "__main__":

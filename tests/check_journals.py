@@ -1,7 +1,8 @@
-"""Runs the program `journal_bench`, which has the journal's crates over real bytes and files. What it reads, and writes of it again, is
+"""Runs the program `tfs_probe`, which has the journal's crates over real bytes and files. What it reads, and writes of it again, is
 compared with a plain reader and writer: four journals with each bit flipped, also under right MD5s, each prefix, and journals at
-random. Its files are compared with what it says of each append: whole ones, a limit on the size of files, a full device, a pipe, a
-closed descriptor. Its requests for memory are refused in turn."""
+random. How prefixes, flipped bits, and fields at their limits are read is worked out by hand, too (journal_rows.py). Its files are
+compared with what it says of each append: whole ones, a limit on the size of files, a full device, a pipe, a closed descriptor. Its
+requests for memory are refused in turn."""
 import os
 import random
 import resource
@@ -14,14 +15,20 @@ from pathlib import Path
 
 from checking import S1, S2, SECONDS, checks_in, expect, run_checks
 from journal_reader import base_text, lines_of, push_content, read_journal, record_text
+from journal_rows import DAMAGED_BASES, DAMAGED_RECORDS, EMPTY, FLIPPED, LONG_RECORDS, PREFIXES, TORN_BASES, TORN_RECORDS, WHOLE_BASES
 from refused_requests import FOREVER, build_shim, built, count_of, fault_of
 
-PROGRAM = built("journal_bench")
+PROGRAM = built("tfs_probe")
 FOLDER = tempfile.TemporaryDirectory(prefix="tfstated-")
 B = b'{"ID":"B"}'
 FIRST, SECOND = b"TFJ1\n", b"TFJ2\n"
 ROWS = [(b"a", B, b""), (b"b", b"", S1)]
 PUSH, LOCK = (3, b"a", push_content(b"", S1)), (1, b"a", B)
+MORE_STATES = [
+    S1[:-1] + b',"resources":[{"mode":"data","type":"t","name":"n","instances":[{}]}]}',
+    b'{"version":4,"serial":18446744073709551615,"lineage":"\\u0000"}',
+    b'{"version":4,"serial":0,"lineage":"x","resources":[{"mode":"managed","type":"t","name":"n","instances":[{}]}]}',
+]
 LATER = [(3, b"b", push_content(b"", S2)), (2, b"a", b"B")]
 
 
@@ -45,7 +52,7 @@ def path_of(name):
 def run(pieces, *words, **how):
     """Runs the program on a line of hex digits for each piece: what it wrote, its status, and what it wrote on standard error."""
     lines = "".join(piece.hex() + "\n" for piece in pieces).encode()
-    ran = subprocess.run([PROGRAM, *map(str, words or ["readings"])], input=lines, capture_output=True, timeout=SECONDS, check=False, **how)
+    ran = subprocess.run([PROGRAM, *map(str, words or ["journal"])], input=lines, capture_output=True, timeout=SECONDS, check=False, **how)
     return ran.stdout.decode(), ran.returncode, ran.stderr.decode()
 
 
@@ -57,6 +64,34 @@ def expect_read(texts):
     expect(len(lines), 2 * len(texts), "two lines for each text")
     for text, read, again in zip(texts, lines[::2], lines[1::2]):
         expect([read, again], lines_of(text), text.hex())
+
+
+def summary_of(line):
+    """Of a reading that the program prints: the format, the position, the number of rows, the number of entries, and the end."""
+    words = line.split()
+    end = words[-1:] if words[-1] == "whole" else words[-2:]
+    entries = sum(words.count(kind) for kind in ("lock", "unlock", "push", "delete"))
+    return " ".join([words[1], words[3], str(words.count("row")), str(entries), *end])
+
+
+def expect_summaries(texts, wanted, about):
+    """Compares how the program reads each text with what is written here, which is one reading for each, or one for all."""
+    output, status, errors = run(texts)
+    expect((status, errors), (0, ""), "the program")
+    expect([summary_of(line) for line in output.splitlines()[::2]], wanted if isinstance(wanted, list) else [wanted] * len(texts), about)
+
+
+def readings_of(runs):
+    """The readings of runs, one for each length or place."""
+    readings = []
+    for last, reading in (run.split(": ") for run in runs.split(", ")):
+        readings += [reading] * (int(last) + 1 - len(readings))
+    return readings
+
+
+def behind(front, rows):
+    """Texts of format 2: behind the header stands a front, and a row of hex digits."""
+    return [SECOND + bytes.fromhex(front + row) for row in rows.split("\n")[1:]]
 
 
 def flipped(text):
@@ -79,6 +114,42 @@ def check_each_flipped_bit_is_read():
     expect_read([changed for text in TEXTS for changed in flipped(text)])
 
 
+def check_prefixes_and_flipped_bits_are_read_as_worked_out_by_hand():
+    for text, prefixes, flips in zip(TEXTS, PREFIXES, FLIPPED):
+        expect_summaries([text[:count] for count in range(len(text) + 1)], readings_of(prefixes), f"prefixes of {text}")
+        lowest = [text[:place] + bytes([text[place] ^ 1]) + text[place + 1 :] for place in range(len(text))]
+        expect_summaries(lowest, readings_of(flips), f"flipped bits of {text}")
+
+
+def check_no_bit_turns_one_header_into_the_other():
+    texts = [text[:3] + bytes([text[3] ^ 1 << bit]) + text[4:] for text in TEXTS[:2] for bit in range(8)]
+    expect_summaries(texts, "1 0 0 0 damaged 0", "a bit of the format")
+
+
+def check_what_is_read_is_what_the_text_says():
+    wanted = f"format 2 base 2 row a {B.hex()} - row b - {S1.hex()} push b - {S2.hex()} unlock a {b'B'.hex()} whole"
+    expect(run(TEXTS[3:])[0].splitlines()[0], wanted)
+
+
+def check_bases_at_their_limits_are_read():
+    expect_summaries(behind("", TORN_BASES), "2 0 0 0 torn 5", "bases that stop")
+    expect_summaries(behind("", DAMAGED_BASES), "2 0 0 0 damaged 5", "bases that are none")
+    expect_summaries(behind("", WHOLE_BASES), ["2 3 1 0 whole", f"2 {2**62} 0 0 whole"], "whole bases")
+    rows = [(b"%04d" % number, b"", b"") for number in range(1024)]
+    text = SECOND + base_text(1024, rows)
+    expect(len(text), 5 + 26 + 1024 * 13)
+    expect_summaries([text], "2 1024 1024 0 whole", "as many rows as a base may have")
+    expect_summaries([SECOND + base_text(1024, rows + [(b"a", b"", b"")])], "2 0 0 0 damaged 5", "a row more")
+
+
+def check_records_at_their_limits_are_read():
+    expect_summaries(behind(EMPTY, TORN_RECORDS), "2 0 0 0 torn 31", "records that stop")
+    expect_summaries(behind(EMPTY, DAMAGED_RECORDS), "2 0 0 0 damaged 31", "records that are none")
+    for front, filling, back, is_read in LONG_RECORDS:
+        text = SECOND + bytes.fromhex(EMPTY + front) + filling + bytes.fromhex(back)
+        expect_summaries([text], "2 0 0 1 whole" if is_read else "2 0 0 0 damaged 31", f"{front} and {len(filling)} bytes")
+
+
 def check_each_flipped_bit_of_a_prefix_is_read():
     for text in TEXTS[2:]:
         expect_read([changed for count in range(len(text)) for changed in flipped(text[:count])[:400]])
@@ -98,9 +169,9 @@ def check_each_flipped_bit_under_a_right_digest_is_read():
 def some_entry(chance):
     """An entry at random, of which about one in ten is refused."""
     kind, name = chance.randint(1, 4), bytes(chance.choices(b"az09_-.", k=chance.randint(1, 64)))
-    identifier = chance.choice([b"", b"", b"B", "\u00e9".encode(), b"x" * 256, b"\xff"])
-    lock = chance.choice([B, b' {"Who":"","ID":"\\u00e9"}', b'{"ID":""}', b'{"ID":"0"} ', b"[]"])
-    state = chance.choice([S1, S2, S1 + b"\n", S1[:-1] + b',"resources":[{"mode":"data","type":"t","name":"n","instances":[{}]}]}', b"{}"])
+    identifier = chance.choice([b"", b"", b"B", b"a b", b"0", "\u00e9".encode(), b"x" * 256, b"\xff"])
+    lock = chance.choice([B, b' {"Who":"", "ID":"\\u00e9"}\n', b'{"ID":""}', b'{"ID":"0"} ', b"[]"])
+    state = chance.choice([S1, S2, S1 + b"\n", *MORE_STATES, b"{}"])
     return record_text(kind, name, {1: lock, 3: push_content(identifier, state)}.get(kind, identifier))
 
 
@@ -125,7 +196,7 @@ def check_journals_at_random_are_read():
 
 def check_an_append_is_told_once_its_bytes_are_in_the_file():
     path = path_of("told")
-    with subprocess.Popen([PROGRAM, "new", str(path)], stdin=subprocess.PIPE, stdout=subprocess.PIPE, bufsize=0) as process:
+    with subprocess.Popen([PROGRAM, "append", "new", str(path)], stdin=subprocess.PIPE, stdout=subprocess.PIPE, bufsize=0) as process:
         there = b""
         for piece in PIECES[3]:
             process.stdin.write(piece.hex().encode() + b"\n")
@@ -164,7 +235,7 @@ def check_a_limit_on_the_size_is_one_fault_and_leaves_a_prefix():
         ends = [len(b"".join(pieces[: count + 1])) for count in range(len(pieces))]
         for limit in range(len(TEXTS[journal]) + 1):
             path = path_of("limited")
-            output, status, errors = run(pieces, "new", path, preexec_fn=limited(resource.RLIMIT_FSIZE, limit))
+            output, status, errors = run(pieces, "append", "new", path, preexec_fn=limited(resource.RLIMIT_FSIZE, limit))
             whole = sum(end <= limit for end in ends)
             expect(output, "done\n" * whole + "fault\n" * (whole < len(pieces)), f"a limit of {limit} bytes")
             expect((status, errors), (0, ""), "the program")
@@ -173,14 +244,14 @@ def check_a_limit_on_the_size_is_one_fault_and_leaves_a_prefix():
 
 
 def check_a_full_device_is_a_fault():
-    expect(run(PIECES[1], "over", "/dev/full"), ("fault\n", 0, ""), "no byte is taken")
-    expect(run([b"", *PIECES[1]], "over", "/dev/full"), ("done\nfault\n", 0, ""), "no bytes are appended without a write")
+    expect(run(PIECES[1], "append", "over", "/dev/full"), ("fault\n", 0, ""), "no byte is taken")
+    expect(run([b"", *PIECES[1]], "append", "over", "/dev/full"), ("done\nfault\n", 0, ""), "no bytes are appended without a write")
 
 
 def check_a_descriptor_that_is_closed_for_writing_is_a_fault():
     path = path_of("closed")
     path.write_bytes(TEXTS[0])
-    expect(run(PIECES[1], "closed", path), ("fault\n", 0, ""), "a file that is open for reading")
+    expect(run(PIECES[1], "append", "closed", path), ("fault\n", 0, ""), "a file that is open for reading")
     expect(path.read_bytes(), TEXTS[0], "it stays")
 
 
@@ -190,7 +261,7 @@ def check_a_file_that_is_not_synced_is_a_fault():
     found = []
     reader = threading.Thread(target=lambda: found.append(path.read_bytes()), daemon=True)
     reader.start()
-    expect(run(PIECES[1], "over", path), ("fault\n", 0, ""), "a pipe can't be synced")
+    expect(run(PIECES[1], "append", "over", path), ("fault\n", 0, ""), "a pipe can't be synced")
     reader.join(SECONDS)
     expect(found, [PIECES[1][0]], "what the pipe was given before")
 
@@ -199,7 +270,7 @@ def check_a_pipe_that_nobody_reads_is_a_fault():
     path = path_of("unread")
     os.mkfifo(path)
     reader = os.open(path, os.O_RDONLY | os.O_NONBLOCK)
-    with subprocess.Popen([PROGRAM, "over", str(path)], stdin=subprocess.PIPE, stdout=subprocess.PIPE,
+    with subprocess.Popen([PROGRAM, "append", "over", str(path)], stdin=subprocess.PIPE, stdout=subprocess.PIPE,
                           preexec_fn=limited(resource.RLIMIT_CORE, 0)) as process:
         process.stdin.write(b"\n")
         process.stdin.flush()
@@ -212,9 +283,9 @@ def check_a_pipe_that_nobody_reads_is_a_fault():
 def check_each_request_for_memory_is_refused_in_turn():
     data = "".join(text.hex() + "\n" for text in TEXTS).encode()
     ample = "".join(line + "\n" for text in TEXTS for line in lines_of(text)).encode()
-    requests = range(1, count_of([PROGRAM, "readings"], ample, data) + 1)
+    requests = range(1, count_of([PROGRAM, "journal"], ample, data) + 1)
     for last in (0, FOREVER):
-        faults = {fault_of([PROGRAM, "readings"], ample, request, max(request, last), data)[1] for request in requests}
+        faults = {fault_of([PROGRAM, "journal"], ample, request, max(request, last), data)[1] for request in requests}
         expect([fault for fault in faults if fault and b"memory" not in fault], [], "memory runs out")
         expect(len(faults - {b""}) > 0, True, "some are told")
 
@@ -223,7 +294,7 @@ def check_a_file_that_is_there_or_can_not_be_made_is_refused():
     path = path_of("there")
     path.write_bytes(TEXTS[0])
     for words in [("new", path), ("new", path / "below"), ("closed", path_of("none")), ("other", path), ("new",)]:
-        output, status, errors = run(PIECES[1], *words)
+        output, status, errors = run(PIECES[1], "append", *words)
         expect((output, status, bool(errors)), ("", 1, True), f"{words}")
     expect(path.read_bytes(), TEXTS[0], "the file stays")
 

@@ -53,13 +53,13 @@ def check_a_start_that_is_refused_memory_tells_it():
     expect(seen >= {usage} | faults, True, f"memory is refused at each place: {seen}")
 
 
-def end_between_connections(server, lowest):
-    """Ends a server of one worker by leaving no descriptor for a connection. Memory may be refused to one connection before."""
+def end_between_connections(server):
+    """Ends a server of one worker by shutting what it listens on. Memory may be refused to one connection before."""
     for _ in range(2):
         with server.connect() as held:
             reply = answer_over(held, ("GET", "/state/b"))
             if reply == (404, b'{"error":"NoState"}'):
-                server.leave_free(lowest)
+                server.shut()
                 break
             expect(reply in (None, NO_MEMORY), True, f"{reply}")
     return server.end()
@@ -72,9 +72,8 @@ def talk_refused(first, last):
     given = {"LD_PRELOAD": str(SHIM), "REFUSE_FROM": str(first), "REFUSE_TO": str(last), "COUNTS": str(writing)}
     server = Server(workers=1, env=given, pass_fds=[writing])
     os.close(writing)
-    lowest = server.lowest_free()
     replies = [answer_of(server, request) for request in TALK]
-    expect(end_between_connections(server, lowest), (b"", 1, b"tfstated: AcceptFault\n"), f"requests {first} to {last}")
+    expect(end_between_connections(server), (b"", 1, b"tfstated: AcceptFault\n"), f"requests {first} to {last}")
     with os.fdopen(reading) as counts:
         requests = int(counts.read().split()[0])
     return replies, [kind for kind, _, _ in entries_of(Path(server.new).read_bytes())], requests

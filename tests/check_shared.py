@@ -1,14 +1,15 @@
 """Refuses the requests for memory of a shared table's calls, each in turn, by a preloaded shim. Each word of the program makes the
 requests of the one before it, and its own call's after them. A clone of a version makes none, as `state` shows, so that no request
 can be refused that would lose a place of a published copy: such a clone is refused only where a version has 2^63 - 1 owners."""
-import json
 import sys
 
 from checking import checks_in, expect, run_checks
 from refused_requests import FOREVER, build_shim, built, run_refused
+from sample_states import chain
+from stress import round_of
 
 build_shim()
-PROGRAM = built("shared_bench")
+PROGRAM = built("tfs_probe")
 SERIAL = 7
 # What is told with ample memory: of sharing, of the push, of what is asked after it, and of the end.
 SHARED, PUSHED = b"shared\n", b"done 1, accepted 1, seen 1\n"
@@ -25,9 +26,7 @@ def gathered(count):
 
 def state_of(count):
     """A state of so many instances, each of which depends on the one before."""
-    resources = [{"mode": "managed", "type": "t", "name": f"n{number}", "instances": [{"dependencies": [f"t.n{number - 1}"] if number else []}]}
-                 for number in range(count)]
-    return json.dumps({"version": 4, "serial": SERIAL, "lineage": "L1", "resources": resources}).encode()
+    return chain(count, serial=SERIAL)
 
 
 def impact_of(count):
@@ -37,12 +36,12 @@ def impact_of(count):
 
 def ran(text, word, first=0, last=0):
     """What the program wrote, and its status."""
-    return run_refused([PROGRAM, "memory", word], first, last, text)[:2]
+    return run_refused([PROGRAM, "shared", word], first, last, text)[:2]
 
 
 def requests_of(text, word, ample):
     """How many requests the program makes with ample memory, of which it has to write this."""
-    output, status, _, requests, _ = run_refused([PROGRAM, "memory", word], 0, 0, text)
+    output, status, _, requests, _ = run_refused([PROGRAM, "shared", word], 0, 0, text)
     expect((output, status), (ample, 0), word)
     return requests
 
@@ -101,6 +100,12 @@ def check_a_refusal_before_sharing_ends_the_program_or_changes_nothing():
     for number in range(1, requests_of(text, "read", b"") + 1):
         found = ran(text, "impact", number, number)
         expect(found in ((b"", 1), (ample, 0)), True, f"request {number}: {found}")
+
+
+def check_a_round_of_calls_by_sixteen_sessions_is_answered_as_the_journal_has_it():
+    calls, changes = round_of(PROGRAM)
+    expect(calls, 16_000)
+    expect(1_000 < changes < 8_000, True, f"{changes} changes, of half of the calls, some of which are refused")
 
 
 if __name__ == "__main__":

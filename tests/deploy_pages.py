@@ -1,4 +1,4 @@
-"""Checks the picture of a state and of the answer to an impact query, by the example of docs/PICTURE.md and by odd addresses, and
+"""Checks the picture of a state and of the answer to an impact query, by the example of docs/PROTOCOL.md and by odd addresses, and
 that deploy/README.md has a line for each refusal and each fault."""
 import re
 import shutil
@@ -11,12 +11,28 @@ from checking import checks_in, expect, run_checks
 from picture import picture
 from stdio_program import TOP, run
 
-PAGE, FORMATS, DEPLOY = ((TOP / path).read_text() for path in ("docs/PICTURE.md", "docs/FORMATS.md", "deploy/README.md"))
+PROTOCOL, DEPLOY = ((TOP / path).read_text() for path in ("docs/PROTOCOL.md", "deploy/README.md"))
+DRAWN = """digraph impact {
+  rankdir=LR;
+  node [shape=box, style=filled, fillcolor=white, fontname="sans-serif"];
+  "aws_vpc.main";
+  "aws_subnet.app[\\"a\\"]" [fillcolor=orange];
+  "aws_subnet.app[\\"b\\"]" [fillcolor=orange];
+  "aws_iam_role.app";
+  "module.web.aws_instance.app" [fillcolor=orange];
+  "aws_s3_bucket.logs";
+  "aws_vpc.main" -> "aws_subnet.app[\\"a\\"]";
+  "aws_vpc.main" -> "aws_subnet.app[\\"b\\"]";
+  "aws_iam_role.app" -> "module.web.aws_instance.app";
+  "aws_subnet.app[\\"a\\"]" -> "module.web.aws_instance.app";
+  "aws_subnet.app[\\"b\\"]" -> "module.web.aws_instance.app";
+}
+"""
 
 
 def block(title):
     """The text of the block of the page that comes after a line."""
-    return PAGE.split(title, 1)[1].split("```", 2)[1].split("\n", 1)[1]
+    return PROTOCOL.split(title, 1)[1].split("```", 2)[1].split("\n", 1)[1]
 
 
 def answered(text, query):
@@ -28,7 +44,7 @@ def answered(text, query):
 
 
 def check_the_example_of_the_page():
-    state, answer, drawn = map(block, ("The state `state.json`", "The answer `answer.json`", "The picture `picture.dot`"))
+    state, answer = map(block, ("What does a change of the network touch in this state?", "The answer to `any?of=aws_vpc.main`:"))
     expect(answered(state, "of=aws_vpc.main"), answer.strip(), "what the program answers")
     with tempfile.TemporaryDirectory(prefix="tfstated-") as folder:
         paths = [Path(folder) / "state.json", Path(folder) / "answer.json"]
@@ -36,15 +52,15 @@ def check_the_example_of_the_page():
             path.write_text(text)
         words = [sys.executable, TOP / "tests" / "picture.py", *paths]
         made = subprocess.run(words, capture_output=True, check=True).stdout.decode()
-    expect(made, drawn)
+    expect(made, DRAWN)
 
 
 def check_each_refusal_and_each_fault_has_a_line():
-    section = FORMATS.split("\n## Refusals\n")[1].split("\n## ")[0]
+    section = PROTOCOL.split("\n## Refusals\n")[1].split("\n## ")[0]
     refusals = set(re.findall(r"^\| [0-9]+ \| (\w+) \| ([0-9]{3}) \|", section, re.M))
-    expect(len(refusals), 29, "refusals of docs/FORMATS.md")
+    expect(len(refusals), 29, "refusals of docs/PROTOCOL.md")
     expect(set(re.findall(r"^\| (\w+) \| ([0-9]{3}) \|", DEPLOY, re.M)), refusals)
-    rows = re.findall(r"^\| `(?:rebase|serve)` \| (Cannot.*) \|$", FORMATS, re.M)
+    rows = re.findall(r"^\| `(?:rebase|serve)` \| (Cannot.*) \|$", PROTOCOL, re.M)
     faults = set(re.findall(r"[A-Z]\w+", " ".join(rows)))
     expect(len(faults) > 10, True, faults)
     told = set(re.findall(r"\w+", " ".join(re.findall(r"^\| ([A-Z]\w+(?:, \w+)*) \|", DEPLOY, re.M))))

@@ -1,6 +1,6 @@
 """A plain model of the impact of changes: the instances of a state by its JSON value, and what a query chooses among them.
 
-It is written from docs/DEFINITIONS.md: addresses, dependency, walk and reach, impact."""
+It is written from docs/MODEL.md: addresses, dependency, walk and reach, impact."""
 import json
 import re
 

@@ -1,5 +1,5 @@
-"""Reads all Python and shell files of the repository for faults, without running them. The last line is `N passed, M failed`,
-of two: Python and shell."""
+"""Reads all Python and shell files of the repository for faults, without running them, and looks where the library's code makes faults
+of memory and of sinks. The last line is `N passed, M failed`, of three: Python, shell, and those places."""
 import importlib.util
 import os
 import shutil
@@ -8,6 +8,7 @@ import sys
 import tempfile
 from pathlib import Path
 
+from fault_places import unlisted
 from repository import TOP
 
 MADE = {".git", "out", "__pycache__"}
@@ -68,9 +69,15 @@ def is_good_shell(paths):
     return all([passes(["bash", "-n", path]) for path in paths])
 
 
+def makes_listed_faults():
+    wrong = list(unlisted())
+    print("lint: places of faults, by tests/fault_places.txt", *wrong, sep="\n", flush=True)
+    return not wrong
+
+
 def main():
     found = files()
-    results = [is_good_python(found[".py"]), is_good_shell(found[".sh"])]
+    results = [is_good_python(found[".py"]), is_good_shell(found[".sh"]), makes_listed_faults()]
     print(f"{results.count(True)} passed, {results.count(False)} failed", flush=True)
     return 0 if all(results) else 1
 

@@ -1,4 +1,6 @@
 """Runs the built program as a server, for the checks: on a port that is free and a journal of its own."""
+import contextlib
+import ctypes
 import itertools
 import json
 import os
@@ -16,6 +18,7 @@ from stdio_program import PROGRAM, request_text
 FOLDER = tempfile.TemporaryDirectory(prefix="tfstated-")
 LOOPBACK = "127.0.0.1"
 NUMBER = iter(range(10**6))
+PIDFD_GETFD = 438  # pidfd_getfd(2) of Linux, for which Python has no name
 
 
 def fresh(content=None):
@@ -65,6 +68,13 @@ class Server:
         output, errors = self.process.communicate(timeout=SECONDS)
         return output, self.process.returncode, errors
 
+    def shut(self):
+        """Shuts the socket that it listens on: it is given no connection any more. Those that it has stay."""
+        for name in os.listdir(f"/proc/{self.process.pid}/fd"):
+            with contextlib.suppress(OSError), descriptor_of(self.process.pid, int(name)) as copied:
+                if copied.getsockopt(socket.SOL_SOCKET, socket.SO_ACCEPTCONN):
+                    copied.shutdown(socket.SHUT_RDWR)
+
     def lowest_free(self):
         """The number that its next descriptor gets."""
         used = set(map(int, os.listdir(f"/proc/{self.process.pid}/fd")))
@@ -72,7 +82,24 @@ class Server:
 
     def leave_free(self, count):
         """Lets it have new descriptors below this number alone; those that it has stay."""
-        resource.prlimit(self.process.pid, resource.RLIMIT_NOFILE, (count, count))
+        _, most = resource.prlimit(self.process.pid, resource.RLIMIT_NOFILE)
+        resource.prlimit(self.process.pid, resource.RLIMIT_NOFILE, (count, most))
+
+
+def descriptor_of(pid, number):
+    """A socket that a process of ours has under this number."""
+    process = os.pidfd_open(pid)
+    try:
+        copied = ctypes.CDLL(None, use_errno=True).syscall(PIDFD_GETFD, process, number, 0)
+    finally:
+        os.close(process)
+    if copied < 0:
+        raise OSError(ctypes.get_errno(), f"descriptor {number}")
+    try:
+        return socket.socket(fileno=copied)
+    except OSError:
+        os.close(copied)
+        raise
 
 
 def reply_of(file):

@@ -1,6 +1,6 @@
 """A plain model of a conversation over a new table: what `tfstated stdio` writes for a list of bytes, and its status.
 
-It is written from docs/DEFINITIONS.md and docs/FORMATS.md: GET, POST, DELETE, LOCK and UNLOCK of a state, and queries for the
+It is written from docs/MODEL.md and docs/PROTOCOL.md: GET, POST, DELETE, LOCK and UNLOCK of a state, and queries for the
 impact of changes. It always looks at all of the bytes and never at how they were cut. It never runs out of memory.
 """
 import base64

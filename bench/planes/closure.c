@@ -1,6 +1,5 @@
-/* The closure of a relation over rows of bits in plain C, with vectors of 8 words, beside which crates/planes_bench is
-   measured: in an order of the rows where there is one, and by blocks of 64 rows. It prints nanoseconds, or with the
-   argument `counts` how many pairs each relation has before and after. */
+/* The closure of a relation over rows of bits in plain C, with vectors of 8 words, beside which crates/tfs_bench is
+   measured: in an order of the rows where there is one, and by blocks of 64 rows. */
 #include <stdint.h>
 #include <stdio.h>
 #include <stdlib.h>
@@ -223,7 +222,7 @@ static long nanoseconds(void) {
     return now.tv_sec * 1000000000 + now.tv_nsec;
 }
 
-static void measure(const char *name, void (*close_rows)(uint64_t *, size_t, size_t), uint64_t *words, size_t size, const char *kind) {
+static long measure(void (*close_rows)(uint64_t *, size_t, size_t), uint64_t *words, size_t size, const char *kind) {
     long best = -1;
     int runs = size > 2048 ? 6 : size > 512 ? 20 : 200;
     for (int run = 0; run < runs; run++) {
@@ -233,26 +232,37 @@ static void measure(const char *name, void (*close_rows)(uint64_t *, size_t, siz
         long took = nanoseconds() - start;
         if (best < 0 || took < best) best = took;
     }
-    printf("%s %s %zu %ld\n", name, kind, size, best);
+    return best;
 }
 
+/* Writes pairs as two numbers of two bytes each, the low one first; in front of them the size and 0. */
+
+static void put(size_t i, size_t j) {
+    unsigned char bytes[] = {i & 255, i >> 8, j & 255, j >> 8};
+    fwrite(bytes, 1, sizeof bytes, stdout);
+}
+
+static void put_pairs(const uint64_t *words, size_t size) {
+    put(size, 0);
+    for (size_t i = 0; i < size; i++)
+        for (size_t j = 0; j < size; j++)
+            if (get(words + i * stride_of(size), j)) put(i, j);
+}
+
+/* closure pairs KIND SIZE: the pairs of a relation. closure times KIND SIZE: the nanoseconds of its closure in an order and by blocks, and
+   how many pairs it has then. */
+
 int main(int argc, char **argv) {
-    const char *kinds[] = {"chain", "layered", "dense", "rising", "shuffled", "ancestries", "cycle"};
-    size_t sizes[] = {512, 2048, 4096};
-    int counts = argc > 1 && !strcmp(argv[1], "counts");
+    size_t size = argc == 4 ? strtoul(argv[3], NULL, 10) : 0;
     uint64_t *words = malloc(MAX * stride_of(MAX) * 8);
-    if (!words) return 1;
-    for (int k = 0; k < 7; k++)
-        for (int s = 0; s < (counts ? 2 : 3); s++)
-            if (counts) {
-                relate(words, sizes[s], kinds[k]);
-                printf("%s %zu %zu ", kinds[k], sizes[s], count(words, sizes[s]));
-                close_order(words, sizes[s], stride_of(sizes[s]));
-                printf("%zu\n", count(words, sizes[s]));
-            } else {
-                measure("order", close_order, words, sizes[s], kinds[k]);
-                measure("blocks", close_blocks, words, sizes[s], kinds[k]);
-            }
+    if (!words || !size || size > MAX) return 1;
+    if (!strcmp(argv[1], "pairs")) {
+        relate(words, size, argv[2]);
+        put_pairs(words, size);
+    } else {
+        long order = measure(close_order, words, size, argv[2]), blocks = measure(close_blocks, words, size, argv[2]);
+        printf("%ld %ld %zu\n", order, blocks, count(words, size));
+    }
     free(words);
     return 0;
 }

@@ -1,5 +1,5 @@
 -- A text reads or stops, and `stripped_text` tells which.
-use Rattle.std.proofs.Common.{◌≡◌, ℕ, zero, suc, ◌+◌, ◌-◌, ◌≤◌, ◌⊎◌, List, [], ◌∷◌, ◌++◌, length, Option, Some, None, Result, Err, refl, sym, ap, ◌∙◌, inl, inr, arith, append_assoc, length-append}
+use Rattle.std.proofs.Common.{◌≡◌, ℕ, zero, suc, ◌+◌, ◌≤◌, ◌⊎◌, List, [], ◌∷◌, ◌++◌, length, Option, Some, None, Result, Err, refl, sym, ap, ◌∙◌, inl, inr, arith, append_assoc, length-append}
 use Rattle.std.specs.Prelude.{IsUtf8, chars, encode_utf8_all}
 use Rattle.std.specs.Option.{IsSome, option_map, MatchOption}
 use Rattle.std.specs.List.{AllByRecursion}
@@ -7,11 +7,11 @@ use Rattle.std.proofs.lemmas.Str.{chars-nil, encodes-chars}
 use Rattle.std.proofs.lemmas.Bool.{cases_eq}
 use Rattle.tfs_addr.specs.declared.fault.AddrFault.{AddrFault}
 use Rattle.tfs_addr.specs.declared.fault.AddrFault.TheVariants.{Unclosed, StrayBracket, NoMemory}
-use Rattle.tfs_addr.specs.Address.{opening, closing, Piece, character, print_piece, print_pieces, without_keys, IsPiece, IsStripped, HasNoReading, BeginsNoPiece, StopsAt, first_piece, pieces_within, stripped_text, GivesText}
-use Rattle.tfs_addr.specs.Steps.{IsFaultAt, FaultOf}
+use Rattle.tfs_addr.specs.Address.{opening, closing, Piece, character, print_piece, print_pieces, without_keys, IsPiece, IsStripped, HasNoReading, BeginsNoPiece, StopsBefore, first_piece, pieces_within, stripped_text, GivesText}
+use Rattle.tfs_addr.specs.Steps.{IsBracketOf, FaultOf}
 use Rattle.tfs_addr.proofs.FirstPieceLemmas.{HasPiece, first_piece-reads}
 use Rattle.tfs_addr.proofs.PieceLemmas.{print_piece-some, BeginsNoPiece-from_none, HasRead, HasRead-nothing, IsStripped-from_read}
-use Rattle.tfs_addr.proofs.StopLemmas.{StopsAt-from_pieces, StopsAt-from_read, HasRead-size, reading_is_unique, stop_has_no_reading}
+use Rattle.tfs_addr.proofs.StopLemmas.{StopsBefore-from_pieces, StopsBefore-from_read, reading_is_unique, stop_has_no_reading}
 use Rattle.tfs_addr.proofs.ByteLemmas.{chars-empty}
 
 -- ---- the function
@@ -103,7 +103,7 @@ stop_is_bracket c rest none =
 
 -- The text stops at a bracket.
 abbrev pub HasStop : List ℕ → Type 0
-HasStop text = ((at : ℕ) × StopsAt text opening at) ⊎ ((at : ℕ) × StopsAt text closing at)
+HasStop text = StopsBefore text opening ⊎ StopsBefore text closing
 
 -- A text that stops has no reading.
 pub HasStop-no_reading : (text : List ℕ) → HasStop text → HasNoReading text
@@ -113,12 +113,11 @@ HasStop-no_reading text (inr h) = stop_has_no_reading text closing h.0 h.1
 -- A text stops where its characters do.
 text-stops : (text : List ℕ) → IsUtf8 text → Stops (chars text) → HasStop text
 text-stops text u h =
-    let at = length (encode_utf8_all (print_pieces h.0)) in
-    let stop : StopsAt text h.1 at =
-    StopsAt-from_pieces text h.2 h.1 at h.0 h.3 (sym (encodes-chars text u) ∙ ap encode_utf8_all h.4) h.5 refl in
+    let stop : StopsBefore text h.1 =
+    StopsBefore-from_pieces text h.2 h.1 h.0 h.3 (sym (encodes-chars text u) ∙ ap encode_utf8_all h.4) h.5 in
     elim (stop_is_bracket h.1 h.2 h.5) [
-      | inl e ↦ inl (at, rw e at stop)
-      | inr e ↦ inr (at, rw e at stop)
+      | inl e ↦ inl (rw e at stop)
+      | inr e ↦ inr (rw e at stop)
     ]
 
 -- The same for a text, which is stripped or stops.
@@ -161,36 +160,30 @@ stripped_text-none text u k = none-from text (stripped_text text) (stripped_text
 
 -- A text with a fault has no reading.
 pub FaultOf-no_reading : (text : List ℕ) (e : AddrFault) → FaultOf text e → HasNoReading text
-FaultOf-no_reading text (Unclosed at) h = stop_has_no_reading text opening at h
-FaultOf-no_reading text (StrayBracket at) h = stop_has_no_reading text closing at h
+FaultOf-no_reading text Unclosed h = stop_has_no_reading text opening h.0 h.1
+FaultOf-no_reading text StrayBracket h = stop_has_no_reading text closing h.0 h.1
 FaultOf-no_reading text NoMemory h = absurd h
 
--- A key of the text is no longer than it.
-pub read-shorter : (text key bare : List ℕ) → IsUtf8 text → IsUtf8 key → HasRead (chars text) (chars key) bare → length key ≤ length text
-read-shorter text key bare u v h = omega (arith, HasRead-size text key bare u v h)
-
 -- Where reading stops at a bracket, the text has its fault.
-pub FaultOf-from_read : (text key bare : List ℕ) (e : AddrFault) → IsUtf8 text → IsUtf8 key → HasRead (chars text) (chars key) bare
-    → BeginsNoPiece (chars key) → IsFaultAt e (length text - length key) (chars key) → FaultOf text e
-FaultOf-from_read text key bare (Unclosed at) u v h none bracket =
-    StopsAt-from_read text (chars key) bracket.1 bare opening at u h bracket.2 none (omega (arith, bracket.0, HasRead-size text key bare u v h))
-FaultOf-from_read text key bare (StrayBracket at) u v h none bracket =
-    StopsAt-from_read text (chars key) bracket.1 bare closing at u h bracket.2 none (omega (arith, bracket.0, HasRead-size text key bare u v h))
-FaultOf-from_read text key bare NoMemory u v h none bracket = absurd bracket
+pub FaultOf-from_read : (text rest bare : List ℕ) (e : AddrFault) → IsUtf8 text → HasRead (chars text) rest bare
+    → BeginsNoPiece rest → IsBracketOf e rest → FaultOf text e
+FaultOf-from_read text rest bare Unclosed u h none bracket = StopsBefore-from_read text rest bracket.0 bare opening u h bracket.1 none
+FaultOf-from_read text rest bare StrayBracket u h none bracket = StopsBefore-from_read text rest bracket.0 bare closing u h bracket.1 none
+FaultOf-from_read text rest bare NoMemory u h none bracket = absurd bracket
 
 -- A fault that is Unclosed.
-pub FaultOf-unclosed : {A : Type 0} (text : List ℕ) (e : AddrFault) (at : ℕ) → FaultOf text e
-    → ◌≡◌ {A = Result A AddrFault} (Err e) (Err (Unclosed at)) → StopsAt text opening at
-FaultOf-unclosed text (Unclosed n) at h is = let same : n ≡ at = cc in rw same at h
-FaultOf-unclosed text (StrayBracket n) at h is = cc
-FaultOf-unclosed text NoMemory at h is = absurd h
+pub FaultOf-unclosed : {A : Type 0} (text : List ℕ) (e : AddrFault) → FaultOf text e
+    → ◌≡◌ {A = Result A AddrFault} (Err e) (Err Unclosed) → StopsBefore text opening
+FaultOf-unclosed text Unclosed h is = h
+FaultOf-unclosed text StrayBracket h is = cc
+FaultOf-unclosed text NoMemory h is = absurd h
 
 -- A fault that is StrayBracket.
-pub FaultOf-stray : {A : Type 0} (text : List ℕ) (e : AddrFault) (at : ℕ) → FaultOf text e
-    → ◌≡◌ {A = Result A AddrFault} (Err e) (Err (StrayBracket at)) → StopsAt text closing at
-FaultOf-stray text (Unclosed n) at h is = cc
-FaultOf-stray text (StrayBracket n) at h is = let same : n ≡ at = cc in rw same at h
-FaultOf-stray text NoMemory at h is = absurd h
+pub FaultOf-stray : {A : Type 0} (text : List ℕ) (e : AddrFault) → FaultOf text e
+    → ◌≡◌ {A = Result A AddrFault} (Err e) (Err StrayBracket) → StopsBefore text closing
+FaultOf-stray text Unclosed h is = cc
+FaultOf-stray text StrayBracket h is = h
+FaultOf-stray text NoMemory h is = absurd h
 
 -- The text is read, since nothing of it is left.
 pub IsStripped-at_end : (text key grown bare : List ℕ) → IsUtf8 text → HasRead (chars text) (chars key) grown → length key ≡ 0
@@ -253,6 +246,6 @@ FaultOf-none text e u h = stripped_text-none text u (FaultOf-no_reading text e h
 -- So the fault tells that.
 pub GivesText-fault : (A : Type 0) (text : List ℕ) (e : AddrFault) → IsUtf8 text → FaultOf text e
     → GivesText {A = A} (Err e) (stripped_text text)
-GivesText-fault A text (Unclosed at) u h = FaultOf-none text (Unclosed at) u h
-GivesText-fault A text (StrayBracket at) u h = FaultOf-none text (StrayBracket at) u h
+GivesText-fault A text Unclosed u h = FaultOf-none text Unclosed u h
+GivesText-fault A text StrayBracket u h = FaultOf-none text StrayBracket u h
 GivesText-fault A text NoMemory u h = absurd h

@@ -1,9 +1,9 @@
 -- Where a text stops, and that a text has one reading or one stop at most.
-use Rattle.std.proofs.Common.{◌≡◌, ℕ, ◌+◌, ◌≤◌, List, [], ◌∷◌, ◌++◌, length, refl, sym, ap, ◌∙◌, arith, append_assoc, append-nil, length-append, drop}
+use Rattle.std.proofs.Common.{◌≡◌, ℕ, ◌+◌, ◌≤◌, List, [], ◌∷◌, ◌++◌, length, refl, sym, ap, ◌∙◌, arith, append_assoc, append-nil, drop}
 use Rattle.std.specs.Prelude.{IsUtf8, chars, encode_utf8_all}
 use Rattle.std.specs.List.{AllByRecursion}
 use Rattle.std.proofs.lemmas.Str.{encodes-append, encodes-chars, encodes_same, length-le-encodes}
-use Rattle.tfs_addr.specs.Address.{Piece, print_piece, print_pieces, IsPiece, BeginsNoPiece, StopsAt, ReadsPieces, HasNoReading, BeginsWithPieces}
+use Rattle.tfs_addr.specs.Address.{Piece, print_piece, print_pieces, IsPiece, BeginsNoPiece, StopsAt, StopsBefore, ReadsPieces, HasNoReading, BeginsWithPieces}
 use Rattle.std.proofs.Math.Seq.{drop-append_seam}
 use Rattle.tfs_addr.proofs.PieceLemmas.{print_piece-some, same_first, size-append, BeginsNoPiece-nil, AllByRecursion-append, print-one_more, HasRead}
 
@@ -25,34 +25,28 @@ pieces-longest (p ∷ ps) (q ∷ qs) xs ys hp hq none e =
     omega (arith, size-append (print_piece p) (print_pieces ps), size-append (print_piece q) (print_pieces qs))
 
 -- Where no piece begins, the text stops.
-pub StopsAt-from_pieces : (text more : List ℕ) (c at : ℕ) (pieces : List Piece) → AllByRecursion IsPiece pieces
-    → text ≡ encode_utf8_all (print_pieces pieces ++ c ∷ more) → BeginsNoPiece (c ∷ more)
-    → at ≡ length (encode_utf8_all (print_pieces pieces)) → StopsAt text c at
-StopsAt-from_pieces text more c at pieces valid e none size = record {
-  rest = more;
-  begins = record { pieces = pieces; valid = valid; printed = e; bytes = size };
-  longest =
-      λ n rest h.
-      let same = encodes_same (print_pieces pieces ++ c ∷ more) (print_pieces h.pieces ++ rest) (sym e ∙ h.printed) in
-      let shorter = pieces-longest pieces h.pieces (c ∷ more) rest valid h.valid none same in
-      omega (arith, h.bytes);
-}
+pub StopsBefore-from_pieces : (text more : List ℕ) (c : ℕ) (pieces : List Piece) → AllByRecursion IsPiece pieces
+    → text ≡ encode_utf8_all (print_pieces pieces ++ c ∷ more) → BeginsNoPiece (c ∷ more) → StopsBefore text c
+StopsBefore-from_pieces text more c pieces valid e none = (
+  length (encode_utf8_all (print_pieces pieces)),
+  record {
+    rest = more;
+    begins = record { pieces = pieces; valid = valid; printed = e; bytes = refl };
+    longest =
+        λ n rest h.
+        let same = encodes_same (print_pieces pieces ++ c ∷ more) (print_pieces h.pieces ++ rest) (sym e ∙ h.printed) in
+        let shorter = pieces-longest pieces h.pieces (c ∷ more) rest valid h.valid none same in
+        omega (arith, h.bytes);
+  },
+)
 
 -- The same of what has been read.
-pub StopsAt-from_read : (text rest more bare : List ℕ) (c at : ℕ) → IsUtf8 text → (h : HasRead (chars text) rest bare)
-    → rest ≡ c ∷ more → BeginsNoPiece rest → at ≡ length (encode_utf8_all (print_pieces h.pieces)) → StopsAt text c at
-StopsAt-from_read text rest more bare c at u h e none size =
-    StopsAt-from_pieces text more c at h.pieces h.valid
+pub StopsBefore-from_read : (text rest more bare : List ℕ) (c : ℕ) → IsUtf8 text → HasRead (chars text) rest bare
+    → rest ≡ c ∷ more → BeginsNoPiece rest → StopsBefore text c
+StopsBefore-from_read text rest more bare c u h e none =
+    StopsBefore-from_pieces text more c h.pieces h.valid
     (sym (encodes-chars text u) ∙ ap encode_utf8_all (h.printed ∙ ap (λ (t : List ℕ). print_pieces h.pieces ++ t) e))
-    (rw e at none) size
-
--- How much has been read is what the text has more than the rest.
-pub HasRead-size : (text rest bare : List ℕ) → IsUtf8 text → IsUtf8 rest → (h : HasRead (chars text) (chars rest) bare)
-    → length text ≡ length (encode_utf8_all (print_pieces h.pieces)) + length rest
-HasRead-size text rest bare u v h =
-    ap length (sym (encodes-chars text u) ∙ ap encode_utf8_all h.printed ∙ encodes-append (print_pieces h.pieces) (chars rest))
-    ∙ length-append (encode_utf8_all (print_pieces h.pieces)) (encode_utf8_all (chars rest))
-    ∙ ap (λ (t : List ℕ). length (encode_utf8_all (print_pieces h.pieces)) + length t) (encodes-chars rest v)
+    (rw e at none)
 
 -- ---- one reading, one stop
 

@@ -107,6 +107,10 @@ pub record StopsAt (text : List ℕ) (c at : ℕ) : Type 0 where
   pub begins : BeginsWithPieces text at (c ∷ rest)
   pub longest : (size : ℕ) (more : List ℕ) → BeginsWithPieces text size more → size ≤ at
 
+-- The character c stands at the first place where no piece begins.
+abbrev pub StopsBefore : List ℕ → ℕ → Type 0
+StopsBefore text c = (at : ℕ) × StopsAt text c at
+
 -- ---- the same as functions: each gives what stands at the front, and what follows it
 
 -- The key, where its bracket comes next.
@@ -161,8 +165,8 @@ stripped_text text =
 abbrev pub GivesText : {A : Type 0} → Result (String A) AddrFault → Option (List ℕ) → Type 0
 GivesText (Ok s) text = text ≡ Some (string_bytes s)
 GivesText (Err NoMemory) text = IsSome text
-GivesText (Err (Unclosed at)) text = text ≡ None
-GivesText (Err (StrayBracket at)) text = text ≡ None
+GivesText (Err Unclosed) text = text ≡ None
+GivesText (Err StrayBracket) text = text ≡ None
 
 -- ---- the addresses of a resource
 

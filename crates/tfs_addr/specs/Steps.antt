@@ -6,7 +6,7 @@ use Rattle.serde_json.specs.Data.{string}
 use Rattle.serde_json.specs.Written.{compact_text}
 use Rattle.tfs_addr.specs.declared.fault.AddrFault.{AddrFault}
 use Rattle.tfs_addr.specs.declared.fault.AddrFault.TheVariants.{Unclosed, StrayBracket, NoMemory}
-use Rattle.tfs_addr.specs.Address.{opening, closing, Piece, IsPiece, print_piece, bare_part, StopsAt, first_units, first_key}
+use Rattle.tfs_addr.specs.Address.{opening, closing, Piece, IsPiece, print_piece, bare_part, StopsBefore, first_units, first_key}
 
 -- Neither character is among these.
 abbrev pub HasNeither : ℕ → ℕ → List ℕ → Type 0
@@ -46,14 +46,14 @@ after_quote text = drop 1 (compact_text (string text))
 abbrev pub IsShown : List ℕ → List ℕ → Type 0
 IsShown bytes shown = (rest : List ℕ) → after_quote (bytes ++ rest) ≡ shown ++ after_quote rest
 
--- The fault of a text whose byte `at` is this bracket, which begins no key.
-abbrev pub IsFaultAt : AddrFault → ℕ → List ℕ → Type 0
-IsFaultAt (Unclosed found) at cs = (found ≡ at) × (rest : List ℕ) × (cs ≡ opening ∷ rest)
-IsFaultAt (StrayBracket found) at cs = (found ≡ at) × (rest : List ℕ) × (cs ≡ closing ∷ rest)
-IsFaultAt NoMemory at cs = ⊥
+-- The characters begin with the bracket of which the fault tells.
+abbrev pub IsBracketOf : AddrFault → List ℕ → Type 0
+IsBracketOf Unclosed cs = (rest : List ℕ) × (cs ≡ opening ∷ rest)
+IsBracketOf StrayBracket cs = (rest : List ℕ) × (cs ≡ closing ∷ rest)
+IsBracketOf NoMemory cs = ⊥
 
--- Where the text stops, for each fault of a text.
+-- Before which bracket the text stops, for each fault of a text.
 abbrev pub FaultOf : List ℕ → AddrFault → Type 0
-FaultOf text (Unclosed at) = StopsAt text opening at
-FaultOf text (StrayBracket at) = StopsAt text closing at
+FaultOf text Unclosed = StopsBefore text opening
+FaultOf text StrayBracket = StopsBefore text closing
 FaultOf text NoMemory = ⊥

@@ -1,13 +1,16 @@
 //! The addresses of a configuration block and of one of its instances.
 
-ghost use Rattle.std.specs.Prelude.{◌≡◌, ◌++◌, ℕ, Some, IfOk, OnOk, string_bytes, option_map, option_copied};
-ghost use Rattle.tfs_addr.specs.Address.{opening, closing, StopsAt, GivesText, configuration_address, instance_address, key_of, resource_part, key_part, deposed_part};
+ghost use Rattle.std.specs.Prelude.{◌≡◌, ◌++◌, Some, IfOk, OnOk, string_bytes, option_map, option_copied};
+ghost use Rattle.tfs_addr.specs.Address.{opening, closing, StopsBefore, GivesText, configuration_address, instance_address, key_of, module_part, resource_part, key_part, deposed_part};
 
 use crate::fault::AddrFault;
 use crate::json::push_json;
 use crate::resource::{Key, Mode};
 use crate::stripping::strip;
 use std::alloc::{AllocError, Global};
+
+/// The length of two dots and of `data.`.
+const DOTS_AND_MODE: usize = 7;
 
 /// The address of a configuration block, which `dependencies` name: the module's path without keys
 /// and a dot, `data.` before a data source, and the resource's type (`kind`) and name with a dot
@@ -24,10 +27,8 @@ pub fn config_text(
     name: &str,
 ) -> Result<String, AddrFault>
     ensures value { GivesText result (configuration_address «module».now mode kind.now name.now) }
-    ensures unclosed { (at : ℕ) → result ≡ Err (AddrFault.Unclosed at)
-        → StopsAt «module».now opening at }
-    ensures stray_bracket { (at : ℕ) → result ≡ Err (AddrFault.StrayBracket at)
-        → StopsAt «module».now closing at }
+    ensures unclosed { result ≡ Err AddrFault.Unclosed → StopsBefore «module».now opening }
+    ensures stray_bracket { result ≡ Err AddrFault.StrayBracket → StopsBefore «module».now closing }
 {
     let mut text = strip(alloc, module)?;
     if !module.is_empty() {
@@ -57,18 +58,65 @@ pub fn instance_text(
         ≡ instance_address «module».now mode kind.now name.now (option_map key_of key.entry)
         (option_copied deposed.entry)) }
 {
-    let mut text = String::from_str(alloc, module)?;
+    let mut text = front_text(alloc, module, mode, kind, name)?;
+    push_tail(&mut text, key, deposed)?;
+    Ok(text)
+}
+
+/// What the addresses of a resource's instances begin with: the module's path as it came and a dot,
+/// `data.` before a data source, type and name. It has no room to spare, but for seven bytes at most.
+pub fn front_text(
+    alloc: Global,
+    module: &str,
+    mode: Mode,
+    kind: &str,
+    name: &str,
+) -> Result<String, AllocError>
+    ensures value { IfOk result (λ text. string_bytes text
+        ≡ module_part «module».now «module».now ++ resource_part mode kind.now name.now) }
+{
+    let names = kind.len().saturating_add(name.len());
+    let room = module
+        .len()
+        .saturating_add(names)
+        .saturating_add(DOTS_AND_MODE);
+    let mut text = String::with_capacity(alloc, room)?;
+    text.push_str(module)?;
     if !module.is_empty() {
         text.push('.')?;
     }
     push_resource(&mut text, mode, kind, name)?;
+    Ok(text)
+}
+
+/// What the address of an instance ends with: its key in brackets, and ` (deposed KEY)` for a deposed
+/// object. It has no room to spare, unless a smaller place is refused.
+pub fn tail_text(
+    alloc: Global,
+    key: Option<Key>,
+    deposed: Option<&str>,
+) -> Result<String, AllocError>
+    ensures value { IfOk result (λ text. string_bytes text
+        ≡ key_part (option_map key_of key.entry) ++ deposed_part (option_copied deposed.entry)) }
+{
+    let mut text = String::new(alloc);
+    push_tail(&mut text, key, deposed)?;
+    text.shrink_to_fit();
+    Ok(text)
+}
+
+/// Appends the key in brackets, and the key of a deposed object.
+fn push_tail(text: &mut String, key: Option<Key>, deposed: Option<&str>) -> Result<(), AllocError>
+    ensures { OnOk result (string_bytes text.new ≡ string_bytes text.old
+        ++ key_part (option_map key_of key.entry) ++ deposed_part (option_copied deposed.entry)) }
+{
     if let Some(key) = key {
-        push_key(&mut text, key)?;
+        push_key(text, key)?;
     }
     if let Some(key) = deposed {
-        push_deposed(&mut text, key)?;
+        push_deposed(text, key)?;
     }
-    Ok(text)
+    Ok(())
 }
 
 /// Appends the resource within its module.

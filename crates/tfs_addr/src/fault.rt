@@ -6,18 +6,16 @@ ghost use Rattle.tfs_addr.specs.declared.fault.AddrFault.TheVariants.{NoMemory};
 use std::alloc::AllocError;
 use thiserror::Error;
 
-/// Why a text isn't stripped, in the order of the checks.
-///
-/// A fault of the text has its place: how many bytes the longest sequence of characters and keys
-/// has that the text begins with.
+/// Why a text isn't stripped. A fault of the text is told by its first bracket that belongs to no
+/// key, and comes before want of memory.
 #[derive(Clone, Copy, Debug, PartialEq, Eq, Error)]
 pub enum AddrFault {
-    /// The `[` at this byte begins no key.
-    #[error("the bracket at byte {0} is opened, and no key follows that ends")]
-    Unclosed(usize),
-    /// The `]` at this byte ends no key.
-    #[error("the bracket at byte {0} is closed, and was not opened")]
-    StrayBracket(usize),
+    /// That bracket is a `[`, which begins no key.
+    #[error("a bracket is opened, and no key follows that ends")]
+    Unclosed,
+    /// That bracket is a `]`, which ends no key.
+    #[error("a bracket is closed, and was not opened")]
+    StrayBracket,
     /// Memory ran out.
     #[error("out of memory")]
     NoMemory,

@@ -9,10 +9,8 @@ mod json;
 mod laws;
 mod resource;
 mod stripping;
-#[cfg(test)]
-mod tests;
 
-pub use address::{config_text, instance_text};
+pub use address::{config_text, front_text, instance_text, tail_text};
 pub use fault::AddrFault;
 pub use laws::{reads_once, reads_or_stops, stripped_text_agrees, strips_once};
 pub use resource::{Key, Mode};

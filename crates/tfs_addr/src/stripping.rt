@@ -1,9 +1,9 @@
 //! A text without its instance keys. The steps of a key take a few nanoseconds each, so they are
 //! compiled into the loops that take them.
 
-ghost use Rattle.std.specs.Prelude.{◌≡◌, ◌≢◌, ◌++◌, ◌*◌, ◌+◌, ◌<◌, ◌≤◌, ℕ, [], length, chars, IsUtf8, option_copied, IfOk, IfErr, IsOk, OnOk, OnErr, IsSome, IfSome, string_bytes, string_len, string_capacity, false};
-ghost use Rattle.tfs_addr.specs.Address.{opening, closing, IsStripped, StopsAt, HasNoReading, BeginsNoPiece, GivesText, stripped_text, quote, backslash};
-ghost use Rattle.tfs_addr.specs.Steps.{HasNeither, MayBeginWith, IsFaultAt, FaultOf, IsKeyThen, rest_after, units_rest, key_rest, without_digits};
+ghost use Rattle.std.specs.Prelude.{◌≡◌, ◌≢◌, ◌++◌, ◌*◌, ◌+◌, ◌<◌, ◌≤◌, [], length, chars, IsUtf8, option_copied, IfOk, IfErr, IsOk, OnOk, OnErr, IsSome, IfSome, string_bytes, string_len, string_capacity, false};
+ghost use Rattle.tfs_addr.specs.Address.{opening, closing, IsStripped, StopsBefore, HasNoReading, BeginsNoPiece, GivesText, stripped_text, quote, backslash};
+ghost use Rattle.tfs_addr.specs.Steps.{HasNeither, MayBeginWith, IsBracketOf, FaultOf, IsKeyThen, rest_after, units_rest, key_rest, without_digits};
 
 use crate::either::find_either;
 use crate::fault::AddrFault;
@@ -19,15 +19,13 @@ use std::alloc::{AllocError, Global};
 /// # Errors
 ///
 /// At the first place where neither a key nor another character stands, `Unclosed` for a `[` and
-/// `StrayBracket` for a `]`, with the place. `NoMemory` where the new text gets no memory; a fault
-/// of the text comes first.
+/// `StrayBracket` for a `]`. `NoMemory` where the new text gets no memory; a fault of the text
+/// comes first.
 pub fn strip(alloc: Global, text: &str) -> Result<String, AddrFault>
     ensures ok { IfOk result (λ bare. IsStripped text.now (string_bytes bare)) }
     ensures room { IfOk result (λ bare. 4 * string_capacity bare ≤ 5 * string_len bare) }
-    ensures unclosed { (at : ℕ) → result ≡ Err (AddrFault.Unclosed at)
-        → StopsAt text.now opening at }
-    ensures stray_bracket { (at : ℕ) → result ≡ Err (AddrFault.StrayBracket at)
-        → StopsAt text.now closing at }
+    ensures unclosed { result ≡ Err AddrFault.Unclosed → StopsBefore text.now opening }
+    ensures stray_bracket { result ≡ Err AddrFault.StrayBracket → StopsBefore text.now closing }
     ensures no_reading { IfErr result (λ e. e ≢ AddrFault.NoMemory → HasNoReading text.now) }
     ensures value { GivesText result (stripped_text text.now) }
     ensures empty { text.now ≡ [] → IsOk result }
@@ -58,7 +56,7 @@ fn bare_text(alloc: Global, text: &str) -> Result<String, AddrFault>
         if key.is_empty() {
             return Ok(fitted(bare)?);
         }
-        rest = after_key(key, text.len() - key.len())?;
+        rest = after_key(key)?;
     }
 }
 
@@ -109,7 +107,7 @@ fn check(text: &str) -> Result<(), AddrFault>
         if key.is_empty() {
             return Ok(());
         }
-        rest = after_key(key, text.len() - key.len())?;
+        rest = after_key(key)?;
     }
 }
 
@@ -125,15 +123,14 @@ fn split_at_bracket(text: &str) -> (&str, &str)
     text.split_at(at)
 }
 
-/// What follows the key that the text begins with, or else the fault of its bracket, which is the
-/// byte `at` of the whole text.
+/// What follows the key that the text begins with, or else the fault of its bracket.
 #[inline(always)]
-fn after_key(text: &str, at: usize) -> Result<&str, AddrFault>
+fn after_key(text: &str) -> Result<&str, AddrFault>
     requires some { 0 < length text.now }
     requires bracket { MayBeginWith opening closing (chars text.now) }
     ensures ok { IfOk result (λ rest. IsKeyThen (chars text.now) (chars rest.now)) }
     ensures err { OnErr result (BeginsNoPiece (chars text.now)) }
-    ensures fault { IfErr result (λ e. IsFaultAt e at (chars text.now)) }
+    ensures fault { IfErr result (λ e. IsBracketOf e (chars text.now)) }
 {
     if let Some(rest) = after_digit_key(text) {
         return Ok(rest);
@@ -141,7 +138,7 @@ fn after_key(text: &str, at: usize) -> Result<&str, AddrFault>
     if let Some(rest) = after_letter_key(text) {
         return Ok(rest);
     }
-    after_long_key(text, at)
+    after_long_key(text)
 }
 
 /// What follows a key of one digit, as most keys are.
@@ -170,19 +167,19 @@ fn after_letter_key(text: &str) -> Option<&str>
 
 /// The same as `after_key`, for a key of any length.
 #[inline(always)]
-fn after_long_key(text: &str, at: usize) -> Result<&str, AddrFault>
+fn after_long_key(text: &str) -> Result<&str, AddrFault>
     requires some { 0 < length text.now }
     requires bracket { MayBeginWith opening closing (chars text.now) }
     ensures ok { IfOk result (λ rest. IsKeyThen (chars text.now) (chars rest.now)) }
     ensures err { OnErr result (BeginsNoPiece (chars text.now)) }
-    ensures fault { IfErr result (λ e. IsFaultAt e at (chars text.now)) }
+    ensures fault { IfErr result (λ e. IsBracketOf e (chars text.now)) }
 {
     match text.as_bytes() {
         [b'[', key @ ..] => match after_opening(key) {
             Some(rest) => Ok(text.split_at(text.len() - rest.len()).1),
-            None => Err(AddrFault::Unclosed(at)),
+            None => Err(AddrFault::Unclosed),
         },
-        _ => Err(AddrFault::StrayBracket(at)),
+        _ => Err(AddrFault::StrayBracket),
     }
 }
 

@@ -21,6 +21,3 @@ pub use query::{Kind, Query, Texts};
 pub use refusal::{Methods, Refusal};
 pub use reply::Reply;
 pub use text::Text;
-
-#[cfg(test)]
-mod tests;

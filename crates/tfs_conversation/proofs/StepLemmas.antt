@@ -14,7 +14,7 @@ module _ {S T : Type 0} (step : S → Call → ReplyValue → S → Type 0) (oth
   answers_over : (old new : S) (r : RequestValue) (reply : ReplyValue) → AnswersRequest step old r reply new
       → AnswersRequest other (view old) r reply (view new)
   answers_over old new r reply (inl a) = inl (a.0, a.1, a.2, ap view a.3)
-  answers_over old new r reply (inr (inl a)) = inr (inl (a.0, ap view a.1))
+  answers_over old new r reply (inr (inl a)) = inr (inl (a.0, ap view a.1, a.2))
   answers_over old new r reply (inr (inr a)) = inr (inr (a.0, a.1, over old new a.0 reply a.2))
 
   -- The same of exchanges in turn.

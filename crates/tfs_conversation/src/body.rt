@@ -1,10 +1,11 @@
 //! A body that is read by itself, into the vector that its request keeps.
 
-ghost use Rattle.std.specs.Prelude.{◌≡◌, ◌≤◌, ◌<◌, ◌+◌, ◌++◌, List, ℕ, [], length, take, drop, Ok, IfOk, OnOk, OnErr, IfErr};
+ghost use Rattle.std.specs.Prelude.{◌≡◌, ◌≤◌, ◌<◌, ◌+◌, ◌++◌, List, ℕ, [], length, min, take, drop, Ok, Err, IfOk, OnOk, OnErr, IfErr};
 ghost use Rattle.std.specs.Io.KnownBytes.{Consumes, IsAtEnd, Keeps};
 ghost use Rattle.tfs_framing.specs.Request.{RequestValue};
 ghost use Rattle.tfs_framing.specs.Framing.{BeginsWith, FramesAll, IsSizedHead, body_size, body_start};
 ghost use Rattle.tfs_conversation.specs.Turns.{FailsReading};
+ghost use Rattle.tfs_conversation.specs.declared.fault.ServeFault.TheVariants.{TooManyReads};
 
 use crate::fault::ServeFault;
 use crate::input::PIECE_BYTES;
@@ -93,6 +94,7 @@ pub(crate) fn read_body<R: Read>(
     ensures kept { OnErr result ((filled ≤ length body.new.items) × (take filled body.new.items ≡ take filled body.old.items)
         × Keeps (R.remaining reader.old) (R.remaining reader.new)) }
     ensures fault { IfErr result (λ fault. (reads.old ≤ reads.new) × FailsReading fault reads.old reads.new) }
+    ensures spent { result ≡ Err TooManyReads → (reads.old ≡ 1048576) × (reads.new ≡ 1048576) }
 {
     if make_room(body, filled, size).is_err() {
         return Err(ServeFault::NoMemory);
@@ -112,6 +114,7 @@ fn make_room(body: &mut Vec<u8>, filled: usize, size: usize) -> Result<(), Alloc
     requires room { filled < size }
     requires fits { size ≤ 16777216 }
     ensures ok { OnOk result ((filled < length body.new.items) × (length body.new.items ≤ size) × (length body.new.items ≤ filled + 65536)) }
+    ensures all { OnOk result (length body.new.items ≡ min size (filled + 65536)) }
     ensures kept { take filled body.new.items ≡ take filled body.old.items }
     ensures within { filled ≤ length body.new.items }
 {

@@ -49,27 +49,27 @@ pub fn converse<R: Read, W: Write, D: Desk>(
         × ComesInReads bytes reads.old reads.new
         × BreaksOff D.step desk.old desk.new bytes text fault reads.old reads.new) }
 {
-    let Ok(mut line) = Line::new(alloc) else {
+    let Ok(mut connection) = Connection::new(alloc) else {
         return Err(ServeFault::NoMemory);
     };
-    run(alloc, &mut line, reader, writer, desk, reads)
+    run(alloc, &mut connection, reader, writer, desk, reads)
 }
 
 /// What a conversation keeps of its own.
 #[derive(Drop)]
-struct Line {
+struct Connection {
     routes: Routes,
     input: Input,
     /// Where the text of a reply is put together. It has room for what is written at once, and keeps it.
     text: Vec<u8>,
 }
 
-impl Line {
+impl Connection {
     /// No bytes were read yet.
-    fn new(alloc: Global) -> Result<Line, AllocError>
-        ensures { IfOk result (λ line. line.input ≡ []) }
+    fn new(alloc: Global) -> Result<Connection, AllocError>
+        ensures { IfOk result (λ connection. connection.input ≡ []) }
     {
-        Ok(Line {
+        Ok(Connection {
             routes: Routes::new(alloc)?,
             input: Input::new(alloc)?,
             text: Vec::with_capacity(alloc, JOINED_BYTES)?,
@@ -80,19 +80,19 @@ impl Line {
 /// Takes turns until the conversation ends.
 fn run<R: Read, W: Write, D: Desk>(
     alloc: Global,
-    line: &mut Line,
+    connection: &mut Connection,
     reader: &mut R,
     writer: &mut W,
     desk: &mut D,
     reads: &mut Reads,
 ) -> Result<Ended, ServeFault>
-    ensures ended { IfOk result (HasEnded D.step (moment desk.old (R.remaining reader.old) (W.contents writer.old) reads.old line.old.input)
-        (moment desk.new (R.remaining reader.new) (W.contents writer.new) reads.new line.new.input)) }
-    ensures fault { IfErr result (HasBroken D.step (moment desk.old (R.remaining reader.old) (W.contents writer.old) reads.old line.old.input)
-        (moment desk.new (R.remaining reader.new) (W.contents writer.new) reads.new line.new.input)) }
+    ensures ended { IfOk result (HasEnded D.step (moment desk.old (R.remaining reader.old) (W.contents writer.old) reads.old connection.old.input)
+        (moment desk.new (R.remaining reader.new) (W.contents writer.new) reads.new connection.new.input)) }
+    ensures fault { IfErr result (HasBroken D.step (moment desk.old (R.remaining reader.old) (W.contents writer.old) reads.old connection.old.input)
+        (moment desk.new (R.remaining reader.new) (W.contents writer.new) reads.new connection.new.input)) }
 {
     loop {
-        match turn(alloc, line, reader, writer, desk, reads) {
+        match turn(alloc, connection, reader, writer, desk, reads) {
             Ok(end) => {
                 if let Some(ended) = end {
                     return Ok(ended);
@@ -107,21 +107,22 @@ fn run<R: Read, W: Write, D: Desk>(
 /// does.
 fn turn<R: Read, W: Write, D: Desk>(
     alloc: Global,
-    line: &mut Line,
+    connection: &mut Connection,
     reader: &mut R,
     writer: &mut W,
     desk: &mut D,
     reads: &mut Reads,
 ) -> Result<Option<Ended>, ServeFault>
-    ensures went { result ≡ Ok None → Went D.step (moment desk.old (R.remaining reader.old) (W.contents writer.old) reads.old line.old.input)
-        (moment desk.new (R.remaining reader.new) (W.contents writer.new) reads.new line.new.input) }
-    ensures less { result ≡ Ok None → work_left reads.new line.new.input < work_left reads.old line.old.input }
-    ensures ended { IfOk result (λ end. IfSome end (HasEnded D.step (moment desk.old (R.remaining reader.old) (W.contents writer.old) reads.old line.old.input)
-        (moment desk.new (R.remaining reader.new) (W.contents writer.new) reads.new line.new.input))) }
-    ensures fault { IfErr result (HasBroken D.step (moment desk.old (R.remaining reader.old) (W.contents writer.old) reads.old line.old.input)
-        (moment desk.new (R.remaining reader.new) (W.contents writer.new) reads.new line.new.input)) }
+    ensures went { result ≡ Ok None → Went D.step (moment desk.old (R.remaining reader.old) (W.contents writer.old) reads.old connection.old.input)
+        (moment desk.new (R.remaining reader.new) (W.contents writer.new) reads.new connection.new.input) }
+    ensures less { result ≡ Ok None → work_left reads.new connection.new.input < work_left reads.old connection.old.input }
+    ensures ended { IfOk result (λ end. IfSome end (HasEnded D.step
+        (moment desk.old (R.remaining reader.old) (W.contents writer.old) reads.old connection.old.input)
+        (moment desk.new (R.remaining reader.new) (W.contents writer.new) reads.new connection.new.input))) }
+    ensures fault { IfErr result (HasBroken D.step (moment desk.old (R.remaining reader.old) (W.contents writer.old) reads.old connection.old.input)
+        (moment desk.new (R.remaining reader.new) (W.contents writer.new) reads.new connection.new.input)) }
 {
-    let arrived = match arrive(alloc, &mut line.input, reader, reads) {
+    let arrived = match arrive(alloc, &mut connection.input, reader, reads) {
         Ok(Some(arrived)) => arrived,
         Ok(None) => return Ok(None),
         Err(fault) => return Err(fault),
@@ -129,14 +130,14 @@ fn turn<R: Read, W: Write, D: Desk>(
     match arrived {
         Arrived::Message(request) => {
             let asks_to_close = request.form().close;
-            match reply_to(alloc, line, writer, desk, request) {
+            match reply_to(alloc, connection, writer, desk, request) {
                 Ok(()) => Ok(end_after(asks_to_close)),
                 Err(fault) => Err(fault),
             }
         }
         Arrived::Refused(refusal) => {
             let reply = Reply::Refused(refusal);
-            match send(alloc, &mut line.text, writer, &reply, CLOSING) {
+            match send(alloc, &mut connection.text, writer, &reply, CLOSING) {
                 Ok(()) => Ok(Some(Ended::Refused)),
                 Err(fault) => Err(fault),
             }
@@ -159,7 +160,7 @@ fn end_after(asks_to_close: bool) -> Option<Ended>
 /// Answers a request, and writes the text of the reply.
 fn reply_to<W: Write, D: Desk>(
     alloc: Global,
-    line: &mut Line,
+    connection: &mut Connection,
     writer: &mut W,
     desk: &mut D,
     request: Request,
@@ -169,11 +170,11 @@ fn reply_to<W: Write, D: Desk>(
         × Appends (W.contents writer.old) (W.contents writer.new) (reply_text reply (form_of request))) }
     ensures err { IfErr result (λ fault. (reply : ReplyValue) × AnswersRequest D.step desk.old request reply desk.new
         × WritesPart (W.contents writer.old) (W.contents writer.new) (reply_text reply (form_of request)) fault) }
-    ensures input { line.new.input ≡ line.old.input }
+    ensures input { connection.new.input ≡ connection.old.input }
 {
     let form = request.form();
-    let reply = answer(alloc, &line.routes, desk, request);
-    if let Err(fault) = send(alloc, &mut line.text, writer, &reply, form) {
+    let reply = answer(alloc, &connection.routes, desk, request);
+    if let Err(fault) = send(alloc, &mut connection.text, writer, &reply, form) {
         return Err(fault);
     }
     Ok(())

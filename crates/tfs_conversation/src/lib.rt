@@ -28,6 +28,3 @@ pub use reads::{MAX_READS, Reads};
 pub use rebase::run_rebase;
 pub use run_fault::RunFault;
 pub use table_desk::{TableDesk, converse_over_table};
-
-#[cfg(test)]
-mod tests;

@@ -1,10 +1,10 @@
 //! Writes texts to a writer.
 
-ghost use Rattle.std.specs.Prelude.{◌≡◌, ◌++◌, OnOk, IfErr};
+ghost use Rattle.std.specs.Prelude.{◌≡◌, ◌≤◌, ◌+◌, ◌++◌, Err, length, OnOk, IfErr};
 ghost use Rattle.std.specs.Io.KnownBytes.{Appends};
 ghost use Rattle.tfs_conversation.specs.Check.{WritesFront};
 ghost use Rattle.tfs_conversation.specs.Turns.{WritesPart};
-ghost use Rattle.tfs_conversation.specs.declared.fault.ServeFault.TheVariants.{Write as WriteFault};
+ghost use Rattle.tfs_conversation.specs.declared.fault.ServeFault.TheVariants.{Write as WriteFault, NoMemory};
 
 use crate::fault::ServeFault;
 use std::io::Write;
@@ -21,6 +21,7 @@ pub(crate) fn write_joined<W: Write>(
 ) -> Result<(), ServeFault>
     ensures ok { OnOk result (Appends (W.contents writer.old) (W.contents writer.new) (text.old.items ++ more.now)) }
     ensures err { IfErr result (WritesPart (W.contents writer.old) (W.contents writer.new) (text.old.items ++ more.now)) }
+    ensures memory { result ≡ Err NoMemory → length text.old.items + length more.now ≤ 16384 }
 {
     if JOINED_BYTES.saturating_sub(text.len()) < more.len() {
         return write_both(writer, text.as_slice(), more);

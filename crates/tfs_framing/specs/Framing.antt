@@ -118,6 +118,17 @@ FramesOrWants bytes (Framed.Want wanted known) = AreWanted bytes wanted × IsKno
 FramesOrWants bytes (Framed.Got r used) = BeginsWith bytes r used
 FramesOrWants bytes (Framed.Fault refusal) = framing_refusal bytes refusal
 
+-- What is known tells the head, where the bytes have one.
+abbrev pub KnowsHead : List ℕ → Known → Type 0
+KnowsHead bytes (Known.Sought search) = HasNoHead bytes
+KnowsHead bytes (Known.Headed headed) = Unit {0}
+
+-- Where more bytes are wanted, the head that is there is known.
+abbrev pub KeepsHead : List ℕ → Framed → Type 0
+KeepsHead bytes (Framed.Want wanted known) = KnowsHead bytes known
+KeepsHead bytes (Framed.Got r used) = Unit {0}
+KeepsHead bytes (Framed.Fault refusal) = Unit {0}
+
 -- The head that is there with the length that it says of its body.
 abbrev pub with_length : Headed → BodyLength → Option SizedHead
 with_length headed Absent = None

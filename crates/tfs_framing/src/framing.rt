@@ -5,7 +5,7 @@ ghost use Rattle.httparse.specs.Grammar.{RequestHead};
 ghost use Rattle.tfs_framing.specs.Body.{SpellsBody, refusal_of};
 ghost use Rattle.tfs_framing.specs.Lines.{IsToldBy};
 ghost use Rattle.tfs_framing.specs.Sought.{IsSought};
-ghost use Rattle.tfs_framing.specs.Framing.{BeginsWith, Frames, IsHeaded, IsKnown, IsSizedHead, body_start, body_size, FramesAll, FramesOrWants};
+ghost use Rattle.tfs_framing.specs.Framing.{BeginsWith, Frames, IsHeaded, IsKnown, IsSizedHead, body_start, body_size, FramesAll, FramesOrWants, KeepsHead};
 ghost use Rattle.tfs_framing.specs.Request.{RequestValue, request_of};
 
 use crate::body::{Extent, body_end, read_body};
@@ -38,6 +38,7 @@ pub fn take(alloc: Global, bytes: &[u8]) -> Result<Take, AllocError>
 pub fn frame(alloc: Global, bytes: &[u8], known: Known) -> Result<Framed, AllocError>
     requires known { IsKnown bytes.now known }
     ensures ok { IfOk result (FramesOrWants bytes.now) }
+    ensures head { IfOk result (KeepsHead bytes.now) }
     ensures memory { OnErr result ((request : RequestValue) × (used : ℕ) × BeginsWith bytes.now request used) }
 {
     match known {
@@ -50,6 +51,7 @@ pub fn frame(alloc: Global, bytes: &[u8], known: Known) -> Result<Framed, AllocE
 fn frame_from(alloc: Global, bytes: &[u8], search: Search) -> Result<Framed, AllocError>
     requires { IsSought bytes.now search }
     ensures ok { IfOk result (FramesOrWants bytes.now) }
+    ensures head { IfOk result (KeepsHead bytes.now) }
     ensures memory { OnErr result ((request : RequestValue) × (used : ℕ) × BeginsWith bytes.now request used) }
 {
     let (head, rest) = match find_head(bytes, search) {
@@ -87,6 +89,7 @@ fn frame_from(alloc: Global, bytes: &[u8], search: Search) -> Result<Framed, All
 fn frame_behind(alloc: Global, bytes: &[u8], headed: Headed) -> Result<Framed, AllocError>
     requires { IsHeaded bytes.now headed }
     ensures ok { IfOk result (FramesOrWants bytes.now) }
+    ensures head { IfOk result (KeepsHead bytes.now) }
     ensures memory { OnErr result ((request : RequestValue) × (used : ℕ) × BeginsWith bytes.now request used) }
 {
     let (_, text) = bytes.split_at(headed.skipped);

@@ -20,8 +20,6 @@ mod part;
 mod passing;
 mod request;
 mod taken;
-#[cfg(test)]
-mod tests;
 
 pub use decoded::{ChunkedBody, FramedChunks, frame_chunks};
 pub use form::Form;

@@ -102,6 +102,18 @@ body_of (state d) = d.bytes
 body_of (impact d chosen position) = impact_body d chosen position
 body_of (refused refusal) = refusal_body refusal
 
+-- The body of a refusal is printed: it isn't the holder's information, which is lent.
+abbrev pub IsNamed : RefusalValue → Type 0
+IsNamed (locked info) = ⊥
+IsNamed refusal = Unit {0}
+
+-- The body is printed, so that memory is asked for. The bytes of a state and the holder's information are lent.
+abbrev pub IsPrinted : ReplyValue → Type 0
+IsPrinted (done position) = ⊥
+IsPrinted (state d) = ⊥
+IsPrinted (impact d chosen position) = Unit {0}
+IsPrinted (refused refusal) = IsNamed refusal
+
 -- The status line, the fields and the empty line, of a status, its line of methods, a form and a body.
 abbrev pub head_text : ℕ → List ℕ → Form → List ℕ → List ℕ
 head_text status allow form body = status_line status ++ allow ++ close_line form ++ type_line body ++ length_line body ++ line []

@@ -7,8 +7,6 @@ mod laws;
 mod query;
 mod reply;
 mod routes;
-#[cfg(test)]
-mod tests;
 
 pub use laws::{each_status_has_its_phrase, what_becomes_of_a_request_is_one_thing};
 pub use reply::{body_of, write_head, write_reply};

@@ -4,7 +4,7 @@ ghost use Rattle.std.specs.Prelude.{◌≡◌, ◌++◌, take, vec_len, OnOk, On
 ghost use Rattle.std.specs.Cow.{cow_slice_items};
 ghost use Rattle.tfs_calls.specs.Refusal.{refusal_value};
 ghost use Rattle.tfs_calls.specs.Reply.{reply_value};
-ghost use Rattle.tfs_http.specs.ReplyText.{phrase_of, status_of, status_line, allow_line, close_line, type_line, head_text, body_of, refusal_body, name_body, reply_text};
+ghost use Rattle.tfs_http.specs.ReplyText.{phrase_of, status_of, status_line, allow_line, close_line, type_line, head_text, body_of, refusal_body, name_body, reply_text, IsNamed, IsPrinted};
 
 use crate::answer::impact_body;
 use itoa::Buffer;
@@ -46,6 +46,7 @@ pub fn write_reply(
 /// information as it came.
 pub fn body_of<'r>(alloc: Global, reply: &'r Reply) -> Result<CowSlice<'r, u8>, AllocError>
     ensures ok { IfOk result (λ body. cow_slice_items body ≡ body_of (reply_value reply.now)) }
+    ensures memory { OnErr result (IsPrinted (reply_value reply.now)) }
 {
     match reply {
         Reply::Done(_) => Ok(CowSlice::Borrowed(b"")),
@@ -57,7 +58,8 @@ pub fn body_of<'r>(alloc: Global, reply: &'r Reply) -> Result<CowSlice<'r, u8>, 
 
 /// The body of a refusal.
 fn refusal_body<'r>(alloc: Global, refusal: &'r Refusal) -> Result<CowSlice<'r, u8>, AllocError>
-    ensures { IfOk result (λ body. cow_slice_items body ≡ refusal_body (refusal_value refusal.now)) }
+    ensures ok { IfOk result (λ body. cow_slice_items body ≡ refusal_body (refusal_value refusal.now)) }
+    ensures memory { OnErr result (IsNamed (refusal_value refusal.now)) }
 {
     if let Refusal::Locked(info) = refusal {
         return Ok(CowSlice::Borrowed(info.bytes()));

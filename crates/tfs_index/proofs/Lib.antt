@@ -4,5 +4,4 @@ pub mod ImpactLemmas
 pub mod IndexLemmas
 pub mod LawLemmas
 pub mod LinkLemmas
-pub mod PlainLemmas
 pub mod ReachLemmas

@@ -9,13 +9,8 @@ mod index;
 mod laws;
 mod links;
 mod names;
-#[cfg(test)]
-mod plain;
 mod version;
 
 pub use fault::ImpactFault;
 pub use laws::impact_follows_names_and_walks;
 pub use version::Version;
-
-#[cfg(test)]
-mod tests;

@@ -8,6 +8,3 @@ mod reading;
 pub use fault::JsonFault;
 pub use members::{list_at, member_at, optional_text_at, text_at, whole_number_at};
 pub use reading::read_value;
-
-#[cfg(test)]
-mod tests;

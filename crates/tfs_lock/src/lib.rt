@@ -11,6 +11,3 @@ pub use fault::LockFault;
 pub use id::{Id, MAX_ID_BYTES};
 pub use laws::bytes_spell_lock_info_or_have_a_fault;
 pub use lock_info::{LockInfo, MAX_LOCK_BYTES};
-
-#[cfg(test)]
-mod tests;

@@ -4,7 +4,6 @@ pub mod CountLemmas
 pub mod KernelLemmas
 pub mod NextLemmas
 pub mod PlacingLemmas
-pub mod PlainLemmas
 pub mod PlaneLemmas
 pub mod RelationLemmas
 pub mod RoundLemmas

@@ -1,4 +1,3 @@
-pub mod Plain
 pub mod Plane
 pub mod Relation
 pub mod Rounds

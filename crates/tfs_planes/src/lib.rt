@@ -13,13 +13,9 @@ mod closure;
 mod kernels;
 mod order;
 mod placing;
-#[cfg(test)]
-mod plain;
 mod plane;
 mod row;
 mod size;
-#[cfg(test)]
-mod tests;
 
 /// The largest size of a row or a plane, which `is_size` pins.
 pub const MAX: usize = 4096;

@@ -44,14 +44,16 @@ tells_change opening copy newest token update change position is book changes ne
 -- What a publisher keeps, by equal parts.
 pub publisher_along : (book : Book) (opening : Journal) (newest : TokenValue) (next next' : Option TokenValue) (shown shown' : Option CopyView)
     (queued queued' : Option (List Operation))
-    → IsPublisher book opening newest next shown queued → next ≡ next' → shown ≡ shown' → queued ≡ queued' → IsPublisher book opening newest next' shown' queued'
+    → IsPublisher book opening newest next shown queued → next ≡ next' → shown ≡ shown' → queued ≡ queued'
+    → IsPublisher book opening newest next' shown' queued'
 publisher_along book opening newest next next' shown shown' queued queued' publisher is_next is_shown is_queued =
     subst (λ (n : Option TokenValue). IsPublisher book opening newest n shown' queued') is_next
     (subst (λ (s : Option CopyView). IsPublisher book opening newest next s queued') is_shown
     (subst (λ (q : Option (List Operation)). IsPublisher book opening newest next shown q) is_queued publisher))
 
 -- The newest token of a publisher is of its book.
-pub publisher_book : (book : Book) (opening : Journal) (newest : TokenValue) (next : Option TokenValue) (shown : Option CopyView) (queued : Option (List Operation))
+pub publisher_book : (book : Book) (opening : Journal) (newest : TokenValue) (next : Option TokenValue) (shown : Option CopyView)
+    (queued : Option (List Operation))
     → IsPublisher book opening newest next shown queued → newest.book ≡ book
 publisher_book book opening newest next shown queued publisher = sym (ap (λ (t : TokenValue). t.book) publisher.newest_is) ∙ publisher.stands.same_book
 

@@ -14,7 +14,8 @@ use Rattle.tfs_published.specs.declared.view.CopyView.{CopyView}
 
 -- What is seen in a copy that stands for a journal of the book, if anything.
 pub seen_of : (book : Book) (opening : Journal) (copy : CopyView) (earlier : TokenValue) (name : List ℕ) (snapshot : Option Snapshot)
-    → StandsFor book opening copy → earlier.book ≡ book → IfSome snapshot (λ s. IsSnapshot copy earlier name s) → IfSome snapshot (λ s. IsSeen opening earlier name s)
+    → StandsFor book opening copy → earlier.book ≡ book → IfSome snapshot (λ s. IsSnapshot copy earlier name s)
+    → IfSome snapshot (λ s. IsSeen opening earlier name s)
 seen_of book opening copy earlier name None stands same sees = tt
 seen_of book opening copy earlier name (Some s) stands same sees = record {
   same_book = ap (λ (t : TokenValue). t.book) sees.all ∙ (stands.same_book ∙ sym same);

@@ -1,6 +1,6 @@
 //! Published copies, and how they take in a change.
 
-ghost use Rattle.std.specs.Prelude.{◌≡◌, ◌<◌, IfSome, IfOk, map, vec_len};
+ghost use Rattle.std.specs.Prelude.{◌≡◌, ◌<◌, IfSome, IfNone, IfOk, length, map, vec_len};
 ghost use Rattle.std.specs.List.{range_with_len};
 ghost use Rattle.tfs_records.specs.Journal.{position_of};
 ghost use Rattle.tfs_published.specs.Place.{place_view};
@@ -109,6 +109,7 @@ impl Published {
     pub(crate) fn snapshot(&self, token: &Token, name: &Name) -> Option<Snapshot>
         requires book { token.now.book ≡ self.now.token.book }
         ensures value { IfSome result (λ snapshot. IsSnapshot self.now token.now name.now snapshot) }
+        ensures none { IfNone result (length self.now.token.changes < length token.now.changes) }
     {
         if !self.token.begins_with(token) {
             return None;

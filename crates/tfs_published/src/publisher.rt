@@ -76,7 +76,8 @@ impl<J: Naming> Publisher<J> {
         let (history, newest) = opened.named::<J>();
         let first = Published::of(alloc, table, &newest)?;
         let second = Published::of(alloc, table, &newest)?;
-        table.len();
+        // The opening journal is lawful.
+        table.is_kept();
         let writer: CopyWriter<J> = Writer::new(alloc, first, second, number)?;
         let writer = with_room(rt, writer)?;
         Ok(Publisher {
@@ -103,11 +104,13 @@ impl<J: Naming> Publisher<J> {
         Some(Reader::new(reader, token, position))
     }
 
-    /// What readers are shown stands for what is published, which begins with the opening journal.
+    /// What readers are shown stands for what is published, which begins with the opening journal. The call computes nothing: it is a law
+    /// of all publishers.
     pub fn shows(&self)
         ensures value { Shows self.now }
         ensures begins { BeginsWith self.now.journal J.opening }
     {
+        // The invariant is known where the publisher is read.
         let _position = self.position;
     }
 

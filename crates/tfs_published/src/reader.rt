@@ -23,7 +23,7 @@ pub struct Reader<J: Naming> {
 }
 
 impl<J: Naming> Model for Reader<J> {
-    ghost use Rattle.std.specs.Prelude.{◌≡◌};
+    ghost use Rattle.std.specs.Prelude.{◌≡◌, IsSome};
     ghost use Rattle.tfs_records.specs.Journal.{Journal, position_of};
     ghost use Rattle.tfs_published.specs.Change.{journal_after};
 
@@ -31,7 +31,7 @@ impl<J: Naming> Model for Reader<J> {
 
     ghost view = { λ v. journal_after J.opening v.token.changes };
 
-    ghost invariant = { λ v. (v.token.book ≡ J.book) × (v.position ≡ position_of (journal_after J.opening v.token.changes)) };
+    ghost invariant = { λ v. (v.token.book ≡ J.book) × (v.position ≡ position_of (journal_after J.opening v.token.changes)) × IsSome v.copies };
 }
 
 impl<J: Naming> Reader<J> {

@@ -68,8 +68,8 @@ pub(crate) fn publish<J: Naming, R: Wait>(rt: &R, writer: CopyWriter<J>) -> Copy
         → result.desk.shown.value ≡ updated writer.desk.shown.value queued.update }
     ensures pending { drop result.behind result.log.items ≡ [] }
 {
-    let (writer, outcome) = writer.publish_as::<Sees<J>, R>(rt);
-    let _ = outcome;
+    // The outcome is no error: a copy absorbs each operation.
+    let (writer, _outcome) = writer.publish_as::<Sees<J>, R>(rt);
     writer
 }
 
@@ -92,8 +92,8 @@ fn publish_same<J: Naming, R: Wait>(rt: &R, writer: CopyWriter<J>) -> CopyWriter
     ensures shown { result.desk.shown.value ≡ writer.desk.shown.value }
     ensures pending { drop result.behind result.log.items ≡ [] }
 {
-    let (writer, outcome) = writer.publish_as::<Sees<J>, R>(rt);
-    let _ = outcome;
+    // The outcome is no error: a copy absorbs each operation.
+    let (writer, _outcome) = writer.publish_as::<Sees<J>, R>(rt);
     writer
 }
 

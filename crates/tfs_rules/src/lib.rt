@@ -17,6 +17,3 @@ pub use laws::{
 pub use name::{MAX_NAME_BYTES, Name};
 pub use record::Record;
 pub use verdict::Verdict;
-
-#[cfg(test)]
-mod tests;

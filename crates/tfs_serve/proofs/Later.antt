@@ -27,7 +27,7 @@ later_then a b c p q = record {
 }
 
 -- A journal that is another has what begins the other.
-begins_as : (j k : Journal) → k ≡ j → BeginsWith k j
+pub begins_as : (j k : Journal) → k ≡ j → BeginsWith k j
 begins_as j k is = subst (λ (l : Journal). BeginsWith l j) (sym is) (begins_with_itself j)
 
 -- The journal after an act begins with that before it.

@@ -25,7 +25,7 @@ heard_as : (a b : Option (List Event)) (xs ys : List Event) → xs ≡ ys → He
 heard_as a b xs ys is h = subst (Hears a b) is h
 
 -- Answers, and more of them.
-gives_then : (a b c : SessionView) (xs ys : List Answer) → Gives a xs b → Gives b ys c → Gives a (xs ++ ys) c
+pub gives_then : (a b c : SessionView) (xs ys : List Answer) → Gives a xs b → Gives b ys c → Gives a (xs ++ ys) c
 gives_then a b c [] ys p q = subst (λ (v : SessionView). Gives v ys c) p q
 gives_then a b c (x ∷ xs) ys p q = (p.0, p.1, gives_then p.0 b c xs ys p.2 q)
 

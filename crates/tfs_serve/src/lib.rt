@@ -1,17 +1,23 @@
 //! Workers: conversations over the sessions of a shared table, on connections to one listener.
 #![tactic(auto)]
 
+mod accepting;
 mod connection;
 mod gate;
 mod gated;
+mod laws;
+mod run;
 mod serving;
 mod session_desk;
 mod worker;
 
+pub use accepting::{AcceptFault, PAUSE_MILLISECONDS, Remedy, remedy_of};
 pub use connection::{MAX_REQUEST_SECONDS, MAX_WAIT_SECONDS};
 pub use gate::{Gate, Open};
 pub use gated::Gated;
-pub use serving::{AcceptFault, work};
+pub use laws::accepted_changes_stand_in_the_last_journal;
+pub use run::{Obstacle, Run, Served, Unserved, serve};
+pub use serving::work;
 pub use session_desk::{MAX_BYTES_AT_ONCE, Service, SessionDesk};
 pub use tfs_conversation::{
     Desk, Ended, MAX_READS, Reads, RunFault, ServeFault, TableDesk, bytes_have_an_output,
@@ -19,6 +25,3 @@ pub use tfs_conversation::{
     run_check, run_rebase,
 };
 pub use worker::{Worker, work_all};
-
-#[cfg(test)]
-mod tests;

@@ -5,28 +5,24 @@ ghost use Rattle.tfs_serve.specs.Gate.{IsClosed, asked};
 ghost use Rattle.tfs_serve.specs.Session.{IsLater};
 ghost use Rattle.tfs_serve.specs.Working.{HasAnswered, HasWorked};
 
+use crate::accepting::{AcceptFault, accepted};
 use crate::connection::{Incoming, Outgoing, limit};
 use crate::gate::Gate;
 use crate::gated::Gated;
 use crate::session_desk::{Service, SessionDesk};
 use std::cell::Cell;
-use std::io::{ErrorKind, Read, Write};
+use std::io::{Read, Write};
 use std::net::{OpenListener, TcpStream};
 use std::sync::Wait;
 use std::time::Clock;
 use tfs_conversation::{Reads, converse};
 use tfs_records::Sink;
 use tfs_shared::{Naming, Session};
-use thiserror::Error;
-
-/// The listener gave no connection.
-#[derive(Clone, Copy, Debug, PartialEq, Eq, Error)]
-#[error("no connection could be taken")]
-pub struct AcceptFault;
 
 /// Takes connections one after the other while the gate admits, and has a conversation over the session on each. A fault of a
-/// connection ends that connection alone; so does one that the client gave up before it was taken. Afterwards the session has seen
-/// all that it had seen before; what became of it came of the calls that it answered, and the gate has heard of all of these.
+/// connection ends that connection alone; one that was gone before it was taken is passed over, and the gate isn't asked again for it.
+/// Afterwards the session has seen all that it had seen before; what became of it came of the calls that it answered, and the gate has
+/// heard of all of these.
 #[tactic(auto, using(crate::proofs::Later::later_itself, crate::proofs::Later::later_then))]
 pub fn work<L: OpenListener<Stream = TcpStream>, J: Naming, K: Sink, G: Gate, R: Wait + Clock>(
     service: &Service<'_, J, K, R>,
@@ -43,14 +39,11 @@ pub fn work<L: OpenListener<Stream = TcpStream>, J: Naming, K: Sink, G: Gate, R:
         if !gate.admit() {
             return Ok(());
         }
-        match listener.accept() {
-            Ok((stream, _)) => serve(service, &stream, gate, session),
-            Err(error) => {
-                if error.kind() != ErrorKind::ConnectionAborted {
-                    return Err(AcceptFault);
-                }
-            }
-        }
+        let stream = match accepted(service.rt, listener) {
+            Ok(stream) => stream,
+            Err(fault) => return Err(fault),
+        };
+        serve(service, &stream, gate, session);
     }
     unreachable!()
 }

@@ -34,8 +34,6 @@ pub fn gather<J: Naming, K: Sink, R: Wait>(
     shared: Shared<J, K>,
     sessions: Vec<Session<J>>,
 ) -> Result<Table<K>, Strangers<J, K>>
-    requires parts { J.parts ≡ J.sessions }
-    requires some { 1 ≤ J.sessions }
     ensures whole { IfOk result (λ table. length sessions.items ≡ J.sessions) }
     ensures opening { IfOk result (λ table. BeginsWith table.journal J.opening) }
     ensures seen { IfOk result (λ table. All (λ session. BeginsWith table.journal session.journal) sessions.items) }
@@ -60,6 +58,7 @@ pub fn gather<J: Naming, K: Sink, R: Wait>(
         opened,
     } = shared;
     let locked_state = locked_state.into_inner();
+    // The journal begins with the opening one.
     locked_state.is_kept();
     if locked_state.covers_all(sessions.as_slice()) {
         return Ok(locked_state.end(rt, sessions));

@@ -18,6 +18,3 @@ pub use shared::Shared;
 pub use sharing::{Cause, Unshared, share};
 pub use tfs_published::{Naming, Opened};
 pub use threads::{a_session_is_send, a_shared_table_is_sync};
-
-#[cfg(test)]
-mod tests;

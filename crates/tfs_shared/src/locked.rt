@@ -25,7 +25,8 @@ pub(crate) fn change<J: Naming, K: Sink, R: Wait>(
     ensures more { OnOk result (length table.new.journal.entries ≡ length table.old.journal.entries + 1) }
     ensures kept { OnErr result (table.new.journal ≡ table.old.journal) }
 {
-    table.len();
+    // The journal is lawful before the change.
+    table.is_kept();
     let ready = table.ready(prepared)?;
     publisher.stage(&ready)?;
     let number = ready.number();

@@ -1,11 +1,14 @@
 //! What lies under the lock.
 
-ghost use Rattle.std.specs.Prelude.{◌≡◌, ◌⊎◌, ◌+◌, ◌≤◌, ℕ, List, true, false, All, Any, None, length, sum_by, OnOk, OnErr, MatchResult};
+ghost use Rattle.std.specs.Prelude.{◌≡◌, ◌⊎◌, ◌+◌, ◌≤◌, ◌<◌, ℕ, List, true, false, All, Any, None, length, sum_by, OnOk, OnErr, MatchResult};
 ghost use Rattle.tfs_rules.specs.Act.{ActValue};
 ghost use Rattle.std.specs.Arc.{arc_value};
-ghost use Rattle.tfs_calls.specs.Refusal.{refusal_value};
+ghost use Rattle.tfs_calls.specs.Refusal.{refusal_value, no_copy, out_of_memory};
+ghost use Rattle.tfs_calls.specs.Transition.{AnswersAct, answer_of, open_model};
+ghost use Rattle.tfs_records.specs.Journal.{position_of};
+ghost use Rattle.tfs_calls.specs.declared.call.Call.TheVariants.{Read};
 ghost use Rattle.tfs_calls.specs.Reply.{state, refused};
-ghost use Rattle.tfs_table.specs.Table.{IsTable, change_reply};
+ghost use Rattle.tfs_table.specs.Table.{IsTable, model_of, change_reply};
 ghost use Rattle.tfs_published.specs.Publisher.{Shows};
 ghost use Rattle.tfs_shared.specs.LockedState.{IsLockedState};
 ghost use Rattle.tfs_shared.specs.Locked.{AnswersChange, AnswersRead, HasNoCopy, IsAhead};
@@ -59,14 +62,15 @@ impl<J: Naming, K: Sink> LockedState<J, K> {
     }
 
     /// What is kept whenever the lock is free: the table's invariant, with a lawful journal; what readers are shown stands for that
-    /// journal; and it has as many entries beyond the opening ones as changes were accepted.
+    /// journal; and it has as many entries beyond the opening ones as changes were accepted. The call computes nothing: it is a law.
     pub fn is_kept(&self)
         ensures table { IsTable self.now.table }
         ensures shown { Shows self.now.publisher }
         ensures locked_state { IsLockedState J.opening self.now }
         ensures begins { BeginsWith self.now.table.journal J.opening }
     {
-        self.table.len();
+        // The two parts' own laws.
+        self.table.is_kept();
         self.publisher.shows();
     }
 
@@ -79,9 +83,12 @@ impl<J: Naming, K: Sink> LockedState<J, K> {
     ) -> Result<u64, Refusal>
         ensures answered { HasNoCopy J.opening session.old session.new (change_reply result)
             ⊎ AnswersChange prepared.name prepared.act session.old session.new (change_reply result) }
+        ensures over { ((change_reply result ≡ refused no_copy) × (position_of self.old.table.journal < position_of session.old.journal))
+            ⊎ AnswersAct (model_of self.old.table) prepared.name prepared.act (change_reply result) (model_of self.new.table) }
         ensures accepted { OnOk result (session.new.accepted ≡ session.old.accepted + 1) }
         ensures refused { OnErr result (session.new.accepted ≡ session.old.accepted) }
     {
+        // What is published is the table's journal, which is lawful.
         self.is_kept();
         if !session.is_covered(&self.publisher) {
             return Err(Refusal::NoCopy);
@@ -89,7 +96,8 @@ impl<J: Naming, K: Sink> LockedState<J, K> {
         let answer = change(rt, &mut self.table, &mut self.publisher, prepared);
         session.see(&self.publisher);
         if answer.is_ok() {
-            self.table.len();
+            // There are at most 65,536 entries, so the count has room.
+            self.table.is_kept();
             session.count(&mut self.book);
         }
         answer
@@ -106,8 +114,11 @@ impl<J: Naming, K: Sink> LockedState<J, K> {
     pub(crate) fn lack_memory(&self, session: &mut Session<J>) -> Refusal
         ensures answered { (name : List ℕ) (act : ActValue) → HasNoCopy J.opening session.old session.new (refused (refusal_value result))
             ⊎ AnswersChange name act session.old session.new (refused (refusal_value result)) }
+        ensures over { ((refusal_value result ≡ no_copy) × (position_of self.now.table.journal < position_of session.old.journal))
+            ⊎ (refusal_value result ≡ out_of_memory) }
         ensures accepted { session.new.accepted ≡ session.old.accepted }
     {
+        // What is published is the table's journal, which is lawful.
         self.is_kept();
         if !session.is_covered(&self.publisher) {
             return Refusal::NoCopy;
@@ -122,8 +133,14 @@ impl<J: Naming, K: Sink> LockedState<J, K> {
             (λ doc. AnswersRead name.now session.old session.new (state (arc_value doc)))
             (λ refusal. HasNoCopy J.opening session.old session.new (refused (refusal_value refusal))
             ⊎ AnswersRead name.now session.old session.new (refused (refusal_value refusal))) }
+        ensures over { MatchResult result
+            (λ doc. state (arc_value doc) ≡ answer_of (open_model self.now.table.journal) (Read name.now))
+            (λ refusal. ((refusal_value refusal ≡ no_copy) × (position_of self.now.table.journal < position_of session.old.journal))
+            ⊎ ((refused (refusal_value refusal) ≡ answer_of (open_model self.now.table.journal) (Read name.now))
+            ⊎ (refusal_value refusal ≡ out_of_memory))) }
         ensures accepted { session.new.accepted ≡ session.old.accepted }
     {
+        // What is published is the table's journal, which is lawful.
         self.is_kept();
         if !session.is_covered(&self.publisher) {
             return Err(Refusal::NoCopy);
@@ -162,7 +179,9 @@ impl<J: Naming, K: Sink> LockedState<J, K> {
     fn covers(&self, session: &Session<J>) -> bool
         ensures yes { result ≡ true → BeginsWith self.now.table.journal session.now.journal }
         ensures no { result ≡ false → IsAhead J.opening session.now }
+        ensures lower { result ≡ false → position_of self.now.table.journal < position_of session.now.journal }
     {
+        // What is published is the table's journal.
         self.is_kept();
         session.is_covered(&self.publisher)
     }

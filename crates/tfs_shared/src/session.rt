@@ -21,7 +21,7 @@ use tfs_published::{Lookup, Naming, Publisher, Reader};
 use tfs_records::Sink;
 use tfs_rules::Name;
 use tfs_state::Doc;
-use tfs_table::{Parts, Prepared};
+use tfs_table::{DeferredDrop, Prepared};
 
 /// A caller's own side of a shared table. Contracts see the journal that it has seen, and how many of its changes were accepted.
 #[derive(Drop)]
@@ -86,7 +86,7 @@ impl<J: Naming> Session<J> {
         ensures accepted { OnOk result (self.new.accepted ≡ self.old.accepted + 1) }
         ensures refused { OnErr result (self.new.accepted ≡ self.old.accepted) }
     {
-        let Ok((prepared, parts)) = with_parts(shared.alloc(), name, draft) else {
+        let Ok((prepared, deferred)) = with_deferred_drop(shared.alloc(), name, draft) else {
             let locked_state = shared.lock(rt);
             let refusal = locked_state.lack_memory(self);
             MutexGuard::unlock(locked_state);
@@ -97,7 +97,7 @@ impl<J: Naming> Session<J> {
         let replaced = locked_state.take_replaced();
         MutexGuard::unlock(locked_state);
         drop(replaced);
-        drop(parts);
+        drop(deferred);
         answer
     }
 
@@ -175,10 +175,14 @@ impl<J: Naming> Session<J> {
 }
 
 /// A change that no table has judged yet, and one more reference to each part of it that may be long.
-fn with_parts(alloc: Global, name: Name, draft: Draft) -> Result<(Prepared, Parts), AllocError>
+fn with_deferred_drop(
+    alloc: Global,
+    name: Name,
+    draft: Draft,
+) -> Result<(Prepared, DeferredDrop), AllocError>
     ensures value { IfOk result (λ made. made.0 ≡ record { name = name; act = draft }) }
 {
     let prepared = Prepared::new(alloc, name, draft)?;
-    let parts = prepared.parts()?;
-    Ok((prepared, parts))
+    let deferred = prepared.deferred_drop()?;
+    Ok((prepared, deferred))
 }

@@ -1,6 +1,6 @@
 //! Shared tables.
 
-ghost use Rattle.std.specs.Prelude.{◌≡◌};
+ghost use Rattle.std.specs.Prelude.{◌≡◌, ◌≤◌};
 ghost use Rattle.tfs_records.specs.Journal.{position_of};
 ghost use Rattle.tfs_published.specs.Beginning.{BeginsWith};
 
@@ -21,14 +21,15 @@ pub struct Shared<J: Naming, K: Sink> {
 }
 
 impl<J: Naming, K: Sink> Model for Shared<J, K> {
-    ghost use Rattle.std.specs.Prelude.{◌≡◌, ℕ};
+    ghost use Rattle.std.specs.Prelude.{◌≡◌, ◌≤◌, ℕ};
     ghost use Rattle.tfs_records.specs.Journal.{position_of};
 
     ghost Value = { ℕ };
 
     ghost view = { λ s. s.number };
 
-    ghost invariant = { λ s. (s.number ≡ J.sessions) × (s.opened ≡ position_of J.opening) };
+    ghost invariant = { λ s. (s.number ≡ J.sessions) × (s.opened ≡ position_of J.opening)
+        × (J.parts ≡ J.sessions) × (1 ≤ J.sessions) };
 }
 
 impl<J: Naming, K: Sink> Shared<J, K> {
@@ -41,6 +42,8 @@ impl<J: Naming, K: Sink> Shared<J, K> {
     ) -> Shared<J, K>
         requires number { number ≡ J.sessions }
         requires opened { opened ≡ position_of J.opening }
+        requires parts { J.parts ≡ J.sessions }
+        requires some { 1 ≤ J.sessions }
         ensures value { result ≡ number }
     {
         Shared {
@@ -69,6 +72,7 @@ impl<J: Naming, K: Sink> Shared<J, K> {
             opened: _,
         } = self;
         let locked_state = locked_state.into_inner();
+        // The journal begins with the opening one.
         locked_state.is_kept();
         locked_state.close(rt)
     }

@@ -15,7 +15,6 @@ mod numbers;
 mod packed;
 mod resource;
 mod tables;
-mod texts;
 
 pub use address::Address;
 pub use digest::text_digest;
@@ -23,6 +22,3 @@ pub use doc::{Doc, MAX_STATE_BYTES};
 pub use fault::StateFault;
 pub use laws::{bytes_spell_a_document_or_have_a_fault, faults_are_first_by_position};
 pub use numbers::Numbers;
-
-#[cfg(test)]
-mod tests;

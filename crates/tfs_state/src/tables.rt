@@ -14,10 +14,9 @@ use crate::fault::StateFault;
 use crate::instance::instance_parts;
 use crate::names::Names;
 use crate::resource::{ResourceParts, resource_parts};
-use crate::texts::{front_text, tail_text};
 use serde_json::Value;
 use std::alloc::{AllocError, Global};
-use tfs_addr::{AddrFault, config_text, strip};
+use tfs_addr::{AddrFault, config_text, front_text, strip, tail_text};
 
 /// What the instances of one resource share: what their addresses begin with, and their configuration address with its number,
 /// both texts with their digests.
@@ -122,7 +121,13 @@ fn read_block(
         Err(AddrFault::NoMemory) => return Err(StateFault::NoMemory),
         Err(_) => return Err(StateFault::Resource(i)),
     };
-    let front = front_text(alloc, resource)?;
+    let front = front_text(
+        alloc,
+        resource.path,
+        resource.mode,
+        resource.kind,
+        resource.name,
+    )?;
     // The copy has no room to spare.
     let copy = config.clone()?;
     let number = names.number(config)?;

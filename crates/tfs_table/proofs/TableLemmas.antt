@@ -54,12 +54,13 @@ told_more (Some bytes) None j e told more = more
 told_more (Some bytes) (Some all) j e told more = more ∙ ap (λ t. t ++ record_text e) told ∙ sym (text_more j e)
 
 -- After a fault.
-pub told_part : (old new : Option (List ℕ)) (j : Journal) (e : EntryValue) → IsTold false j old → AppendsPart old new (record_text e)
-    → IsTold true j new
-told_part None new j e told part = absurd told
-told_part (Some bytes) None j e told part = part.appended
-told_part (Some bytes) (Some all) j e told part = record {
+pub told_part : (old new : Option (List ℕ)) (j : Journal) (e : EntryValue) → IsEntry e → IsTold false j old
+    → AppendsPart old new (record_text e) → IsTold true j new
+told_part None new j e read told part = absurd told
+told_part (Some bytes) None j e read told part = part.appended
+told_part (Some bytes) (Some all) j e read told part = record {
   entry = e;
+  read = read;
   front = part.front;
   rest = part.rest;
   parts = part.parts;

@@ -18,7 +18,7 @@ pub record IsPrepared (e : EntryValue) (own_name : List ℕ) (own_act : ActValue
     pub text : bytes ≡ record_text e
 
 -- What callers see of the parts of a change that may be long: the text of its record, and the document that it pushes.
-pub record PartsValue : Type 0 where
+pub record DeferredDropValue : Type 0 where
   pub text : List ℕ
   pub pushed : Option Document
 

@@ -1,8 +1,10 @@
 -- What a table is to its callers, and what it keeps.
 use Rattle.std.specs.Prelude.{◌≡◌, ℕ, List, ◌++◌, All, Bool, true, false, Option, Some, None, Result, Ok, Err, ◌+◌}
 use Rattle.std.specs.Arc.{arc_value}
-use Rattle.tfs_records.specs.Journal.{Journal, EntryValue, IsEntry, IsBase}
+use Rattle.std.specs.Io.KnownBytes.{Appends}
+use Rattle.tfs_records.specs.Journal.{Journal, EntryValue, IsEntry, IsBase, position_of, with_entry}
 use Rattle.tfs_records.specs.Format.{journal_text, record_text}
+use Rattle.tfs_records.specs.Sink.{AppendsPart}
 use Rattle.tfs_table.specs.Lawful.{IsLawful}
 use Rattle.tfs_calls.specs.Refusal.{refusal_value}
 use Rattle.tfs_calls.specs.Reply.{ReplyValue, done, impact, refused}
@@ -27,6 +29,7 @@ model_of t = record { journal = t.journal; stopped = t.stopped }
 -- The bytes are the text of the journal and some first bytes of one record more, perhaps none or all of them.
 pub record TellsPart (j : Journal) (bytes : List ℕ) : Type 0 where
   pub entry : EntryValue
+  pub read : IsEntry entry
   pub front : List ℕ
   pub rest : List ℕ
   pub parts : record_text entry ≡ front ++ rest
@@ -65,6 +68,20 @@ pub record IsFault (old new : TableValue) : Type 0 where
   pub stopped : new.stopped ≡ true
   pub tells : new.tells ≡ old.tells
   pub faults : new.faults ≡ old.faults + 1
+
+-- A change was finished: the journal has its entry, which is the last of the acts up to this position, the table isn't stopped, and
+-- the sink was told the entry's record.
+pub record IsFinished (old new : TableValue) (e : EntryValue) (position : ℕ) : Type 0 where
+  pub position_is : position ≡ position_of old.journal + 1
+  pub entered : new.journal ≡ with_entry old.journal e
+  pub running : new.stopped ≡ false
+  pub tells : new.tells ≡ old.tells
+  pub told : Appends old.told new.told (record_text e)
+
+-- The sink has failed at the record of an entry, of which it was told a part.
+pub record IsFaultAt (old new : TableValue) (e : EntryValue) : Type 0 where
+  pub fault : IsFault old new
+  pub part : AppendsPart old.told new.told (record_text e)
 
 -- The reply to a change.
 abbrev pub change_reply : Result ℕ Refusal → ReplyValue

@@ -4,7 +4,7 @@ ghost use Rattle.std.specs.Prelude.{◌≡◌, ◌≢◌, ◌⊎◌, None, Some,
 ghost use Rattle.std.specs.Arc.{arc_value};
 ghost use Rattle.tfs_rules.specs.Act.{act_value};
 ghost use Rattle.tfs_rules.specs.Verdict.{verdict_over};
-ghost use Rattle.tfs_rules.specs.declared.verdict.Verdict.TheVariants.{Accept};
+ghost use Rattle.tfs_rules.specs.declared.verdict.Verdict.TheVariants.{Accept, Locked};
 ghost use Rattle.tfs_records.specs.Journal.{Journal};
 ghost use Rattle.tfs_calls.specs.Refusal.{refusal_value, out_of_memory};
 ghost use Rattle.tfs_calls.specs.Transition.{act_refusal, open_model, refusal_of, full_refusal};
@@ -36,6 +36,8 @@ pub(crate) fn judge(
         → act_refusal (open_model j) name.now (act_value act.now) ≡ Some (refusal_value refusal))) }
     ensures refusing { OnErr result ((j : Journal) → AreWorkspacesOf j workspaces.now → length j.entries ≡ count
         → act_refusal (open_model j) name.now (act_value act.now) ≢ None) }
+    ensures memory { IfErr result (λ refusal. refusal_value refusal ≡ out_of_memory
+        → verdict_over (standing_at name.now workspaces.now) (act_value act.now) ≡ Locked) }
 {
     let place = place_of(workspaces, name);
     judge_by_rules(workspaces, name, place, act)?;
@@ -58,7 +60,10 @@ fn judge_by_rules(
         (verdict_over (standing_at name.now workspaces.now) (act_value act.now)) ≡ Some (refusal_value refusal))) }
     ensures refusing { OnErr result (refusal_of (standing_at name.now workspaces.now).holder
         (verdict_over (standing_at name.now workspaces.now) (act_value act.now)) ≢ None) }
+    ensures memory { IfErr result (λ refusal. refusal_value refusal ≡ out_of_memory
+        → verdict_over (standing_at name.now workspaces.now) (act_value act.now) ≡ Locked) }
 {
+    // The name stands in the contract alone: the place is its workspace's.
     let _ = name;
     match place {
         Ok(place) => {
@@ -75,6 +80,7 @@ fn heed(verdict: Verdict, holder: Option<&Arc<LockInfo>>) -> Result<(), Refusal>
     ensures refused { IfErr result (λ refusal. (refusal_value refusal ≡ out_of_memory)
         ⊎ (refusal_of (option_map (λ info. arc_value info.now) holder.entry) verdict ≡ Some (refusal_value refusal))) }
     ensures refusing { OnErr result (refusal_of (option_map (λ info. arc_value info.now) holder.entry) verdict ≢ None) }
+    ensures memory { IfErr result (λ refusal. refusal_value refusal ≡ out_of_memory → verdict ≡ Locked) }
 {
     match verdict {
         Verdict::Accept => Ok(()),
@@ -93,6 +99,7 @@ fn heed(verdict: Verdict, holder: Option<&Arc<LockInfo>>) -> Result<(), Refusal>
 fn judge_by_limits(names: usize, is_new: bool, entries: usize) -> Result<(), Refusal>
     ensures accepted { OnOk result (full_refusal names is_new entries ≡ None) }
     ensures refused { IfErr result (λ refusal. full_refusal names is_new entries ≡ Some (refusal_value refusal)) }
+    ensures memory { IfErr result (λ refusal. refusal_value refusal ≢ out_of_memory) }
 {
     if MAX_NAMES <= names && is_new {
         return Err(Refusal::TableFull);

@@ -4,8 +4,8 @@
 mod fault;
 mod judge;
 mod laws;
+mod making;
 mod open;
-mod prepare;
 mod prepared;
 mod ready;
 mod rebase;
@@ -19,7 +19,7 @@ mod workspaces;
 
 pub use fault::OpenFault;
 pub use laws::{journals_are_lawful_entry_by_entry, lawful_journals_keep_the_history_laws};
-pub use prepared::{Parts, Prepared};
+pub use prepared::{DeferredDrop, Prepared};
 pub use ready::Ready;
 pub use replay::first_unlawful;
 pub use table::Table;
@@ -35,6 +35,3 @@ pub const MAX_ENTRIES: usize = 65_536;
 
 // The definitions have these limits as numbers.
 const _: () = prove!(MAX_NAMES == 1_024 && MAX_ENTRIES == 65_536);
-
-#[cfg(test)]
-mod tests;

@@ -46,7 +46,7 @@ impl Ready {
     pub fn name(&self) -> &Name
         ensures value { result.now ≡ self.now.entry.name }
     {
-        self.entry.name()
+        &self.entry.name
     }
 
     /// The entry that is to come.

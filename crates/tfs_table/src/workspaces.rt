@@ -1,6 +1,6 @@
 //! Workspaces by their names.
 
-ghost use Rattle.std.specs.Prelude.{◌≡◌, ◌∷◌, [], ◌++◌, ◌<◌, ◌⊎◌, All, length, None, Some, option_map, vec_len};
+ghost use Rattle.std.specs.Prelude.{◌≡◌, ◌≢◌, ◌∷◌, [], ◌++◌, ◌<◌, ◌⊎◌, All, length, None, Some, option_map, vec_len};
 ghost use Rattle.std.specs.Prelude.{IfOk, IfErr, IfSome, is_some, OnOk, OnErr, slice_get, vec_capacity, false};
 ghost use Rattle.std.specs.List.{find};
 ghost use Rattle.std.specs.Arc.{arc_value};
@@ -84,6 +84,7 @@ pub(crate) fn state_at(workspaces: &[Workspace], name: &Name) -> Result<Arc<Doc>
     ensures found { IfOk result (λ doc. (standing_at name.now workspaces.now).state ≡ Some (arc_value doc)) }
     ensures absent { IfErr result (λ refusal. (refusal_value refusal ≡ out_of_memory)
         ⊎ ((refusal_value refusal ≡ no_state) × ((standing_at name.now workspaces.now).state ≡ None))) }
+    ensures memory { IfErr result (λ refusal. refusal_value refusal ≡ out_of_memory → (standing_at name.now workspaces.now).state ≢ None) }
 {
     let Ok(place) = place_of(workspaces, name) else {
         return Err(Refusal::NoState);

@@ -4,17 +4,18 @@ use crate::fault::{end_with, end_without_file};
 use std::process::ExitCode;
 use std::{fs, io};
 use tfs_conversation::run_rebase;
+use tfs_ends::Fault;
 use tfs_records::FileSink;
 
 /// Reads the old file, makes the new one, and writes the journal that goes on from the old one's. Gives the program's status.
 pub(crate) fn run(rt: &HostRuntime, old: &str, new: &str) -> ExitCode {
     let bytes = match fs::read(rt, old) {
         Ok(bytes) => bytes,
-        Err(error) => return end_without_file(rt, "CannotRead", &error),
+        Err(error) => return end_without_file(rt, Fault::CannotRead, &error),
     };
     let sink = match FileSink::create_new(rt, new) {
         Ok(sink) => sink,
-        Err(error) => return end_without_file(rt, "CannotCreate", &error),
+        Err(error) => return end_without_file(rt, Fault::CannotCreate, &error),
     };
     let mut writer = io::writer(rt);
     match run_rebase(rt.alloc(), bytes.as_slice(), sink, &mut writer) {

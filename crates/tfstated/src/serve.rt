@@ -1,23 +1,21 @@
 //! The command `serve`: workers that answer connections, and the file of a journal.
 
-ghost use Rattle.std.specs.Prelude.{◌≡◌, ◌≤◌};
+ghost use Rattle.std.specs.Prelude.{◌≡◌, ◌≤◌, length, IfOk};
 
 use crate::command::Serving;
-use crate::fault::{end_with, end_without_file, print_fault};
+use crate::fault::{end_by, end_with, end_without_file};
 use std::alloc::AllocError;
 use std::fs::{self, File, Files};
 use std::io::{self, Write};
-use std::marker::Brand;
 use std::net::{Net, TcpListener, TcpStream};
 use std::process::ExitCode;
 use std::sync::Wait;
-use std::sync::ledger::Blank;
 use std::thread::Threads;
 use std::time::Clock;
 use tfs_conversation::RunFault;
+use tfs_ends::Fault;
 use tfs_records::FileSink;
-use tfs_serve::{Open, Worker, work_all};
-use tfs_shared::{Cause, Naming, Opened, Session, Shared, share};
+use tfs_serve::{Obstacle, Open, serve};
 use tfs_table::Table;
 
 /// Reads the old journal, if there is one, makes the new file, goes on from the old journal in it, and has workers answer connections.
@@ -37,8 +35,15 @@ pub(crate) fn run<
         Ok(table) => table,
         Err(status) => return status,
     };
-    let blank = Blank::new(asked.workers as u64);
-    serve::<Brand, R>(rt, asked, table, blank, Opened::new())
+    let Ok(gates) = gates_of(rt, asked.workers) else {
+        return end_by(rt, Fault::NoMemory);
+    };
+    let address = asked.address.as_str();
+    let fault = match serve(rt, rt.alloc(), table, gates, || listen(rt, address)) {
+        Ok(_run) => Fault::AcceptFault,
+        Err(unserved) => fault_of(unserved.why),
+    };
+    end_by(rt, fault)
 }
 
 /// The table over the new file.
@@ -49,13 +54,13 @@ fn table_of<R: AllocGlobal + Files<File = File> + Eprint>(
     let old = match &asked.old {
         Some(old) => match fs::read(rt, old.as_str()) {
             Ok(bytes) => Some(bytes),
-            Err(error) => return Err(end_without_file(rt, "CannotRead", &error)),
+            Err(error) => return Err(end_without_file(rt, Fault::CannotRead, &error)),
         },
         None => None,
     };
     let sink = match FileSink::create_new(rt, asked.new.as_str()) {
         Ok(sink) => sink,
-        Err(error) => return Err(end_without_file(rt, "CannotCreate", &error)),
+        Err(error) => return Err(end_without_file(rt, Fault::CannotCreate, &error)),
     };
     let made = match old {
         Some(bytes) => match Table::open(rt.alloc(), bytes.as_slice(), sink) {
@@ -70,80 +75,29 @@ fn table_of<R: AllocGlobal + Files<File = File> + Eprint>(
     }
 }
 
-/// Shares the table among as many sessions as there are workers.
-fn serve<
-    J: Naming + Send + Sync,
-    R: AllocGlobal
-        + Net<Stream = TcpStream, Listener = TcpListener>
-        + Print
-        + Eprint
-        + Threads
-        + Wait
-        + Clock
-        + Sync,
->(rt: &R, asked: &Serving, table: Table<FileSink>, blank: Blank, opened: Opened) -> ExitCode
-    requires sessions { (asked.now.workers ≡ J.sessions) × (J.parts ≡ J.sessions) }
-    requires ledger { (blank.name ≡ J.name) × (blank.parts ≡ J.parts) }
-    requires book { opened ≡ J.book }
-    requires opening { table.journal ≡ J.opening }
+/// A gate for each worker, which admits every connection.
+fn gates_of(rt: &impl AllocGlobal, number: usize) -> Result<Vec<Open>, AllocError>
+    ensures as_many { IfOk result (λ gates. length gates.items ≡ number) }
 {
-    let made = share::<J, FileSink, R>(rt, rt.alloc(), table, asked.workers, blank, opened);
-    let (shared, sessions) = match made {
-        Ok(made) => made,
-        Err(unshared) => {
-            print_fault(rt, name_of(unshared.why));
-            return ExitCode::FAILURE;
-        }
-    };
-    let name = answer(rt, asked, &shared, sessions);
-    shared.close(rt);
-    print_fault(rt, name);
-    ExitCode::FAILURE
+    let mut gates = Vec::with_capacity(rt.alloc(), number)?;
+    for made in 0..number {
+        gates.push(Open)?;
+    }
+    Ok(gates)
 }
 
-/// Listens, says so, and has the sessions work until they have ended. Gives the name of the fault that ends it.
-fn answer<
-    J: Naming + Send + Sync,
-    R: AllocGlobal
-        + Net<Stream = TcpStream, Listener = TcpListener>
-        + Print
-        + Threads
-        + Wait
-        + Clock
-        + Sync,
->(
+/// Listens, and says so.
+fn listen<R: Net<Stream = TcpStream, Listener = TcpListener> + Print>(
     rt: &R,
-    asked: &Serving,
-    shared: &Shared<J, FileSink>,
-    sessions: Vec<Session<J>>,
-) -> &'static str {
-    let Ok(listener) = TcpListener::bind(rt, asked.address.as_str()) else {
-        return "CannotBind";
+    address: &str,
+) -> Result<TcpListener, Fault> {
+    let Ok(listener) = TcpListener::bind(rt, address) else {
+        return Err(Fault::CannotBind);
     };
-    let Ok(mut workers) = workers_of(rt, sessions) else {
-        return "NoMemory";
-    };
-    if tell(rt, asked.address.as_str()).is_err() {
-        return "Write";
+    match tell(rt, address) {
+        Ok(()) => Ok(listener),
+        Err(_) => Err(Fault::Write),
     }
-    work_all(rt, rt.alloc(), &listener, workers.as_mut_slice(), shared);
-    "AcceptFault"
-}
-
-/// A worker for each session.
-fn workers_of<J: Naming>(
-    rt: &impl AllocGlobal,
-    sessions: Vec<Session<J>>,
-) -> Result<Vec<Worker<J, Open>>, AllocError> {
-    let mut workers = Vec::with_capacity(rt.alloc(), sessions.len())?;
-    for session in sessions {
-        workers.push(Worker {
-            gate: Open,
-            session,
-            failed: false,
-        })?;
-    }
-    Ok(workers)
 }
 
 /// Tells where it listens.
@@ -153,10 +107,12 @@ fn tell(rt: &impl Print, address: &str) -> io::Result<()> {
     writer.flush()
 }
 
-/// The name of what keeps a table from being shared.
-fn name_of(cause: Cause) -> &'static str {
-    match cause {
-        Cause::NoMemory => "NoMemory",
-        Cause::NoPlace => "NoPlace",
+/// What ends a run, as the program tells it. A run that may lack what a worker had seen has ended with its workers.
+fn fault_of(why: Obstacle<Fault>) -> Fault {
+    match why {
+        Obstacle::NoMemory => Fault::NoMemory,
+        Obstacle::NoPlace => Fault::NoPlace,
+        Obstacle::NoListener(fault) => fault,
+        Obstacle::NoCopy => Fault::AcceptFault,
     }
 }

@@ -1,11 +1,10 @@
 //! The command `stdio`: a conversation over standard input and output.
 
-ghost use Rattle.std.specs.Prelude.{◌≡◌};
-ghost use Rattle.tfstated.specs.Status.{status_of};
-
+use crate::fault::end_by;
 use std::io;
 use std::process::ExitCode;
-use tfs_conversation::{Ended, Reads, ServeFault, converse_over_table};
+use tfs_conversation::{Reads, converse_over_table};
+use tfs_ends::{Fault, status_of};
 use tfs_records::Discard;
 use tfs_table::Table;
 
@@ -16,31 +15,11 @@ pub(crate) fn run(rt: &(impl AllocGlobal + Input + Print + Eprint)) -> ExitCode 
     let mut writer = io::writer(rt);
     // A discarded journal has no fault of its sink.
     let Ok(mut table) = Table::new(alloc, Discard) else {
-        print_fault(rt, ServeFault::NoMemory);
-        return ExitCode::FAILURE;
+        return end_by(rt, Fault::NoMemory);
     };
     let mut reads = Reads::new();
     match converse_over_table(alloc, &mut reader, &mut writer, &mut table, &mut reads) {
         Ok(ended) => ExitCode::from(status_of(ended)),
-        Err(fault) => {
-            print_fault(rt, fault);
-            ExitCode::FAILURE
-        }
+        Err(fault) => end_by(rt, Fault::from(fault)),
     }
-}
-
-/// The status for the end of a conversation.
-fn status_of(ended: Ended) -> u8
-    ensures { result ≡ status_of ended }
-{
-    match ended {
-        Ended::Clean | Ended::Asked => 0,
-        Ended::Cut => 3,
-        Ended::Refused => 4,
-    }
-}
-
-/// Tells the name of a fault on standard error. Where that can't be written, nothing else can be told.
-fn print_fault(rt: &impl Eprint, fault: ServeFault) {
-    let _ = eprintln!(rt; "tfstated: {fault:?}");
 }

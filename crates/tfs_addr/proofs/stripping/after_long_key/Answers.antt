@@ -1,5 +1,5 @@
 -- A key that ends is passed, and a bracket without one is its fault.
-use Rattle.std.proofs.Common.{◌≡◌, ◌≢◌, List, ℕ, ◌∷◌, length, get_or, refl, sym, ap, ◌∙◌, arith}
+use Rattle.std.proofs.Common.{◌≡◌, ◌≢◌, List, ℕ, ◌∷◌, length, get_or, sym, ap, ◌∙◌, arith}
 use Rattle.std.proofs.lemmas.Bool.Decides.{nat_tests}
 use Rattle.tfs_addr.specs.Address.{opening}
 use Rattle.tfs_addr.proofs.KeyLemmas.{KeyEnds-from_rest, KeyEnds-shorter, KeyEnds-boundary, KeyEnds-back, front_byte, opens-no_piece, opens-bracket, closes, closes-no_piece}
@@ -33,7 +33,7 @@ returns-in-None c =
     record {
       ok = tt;
       err = opens-no_piece _ _ c.utf8.text split none;
-      fault = (refl, bracket.0, bracket.1);
+      fault = bracket;
     }
 
 pub returns-in_default : goal.returns-in_default
@@ -48,5 +48,5 @@ returns-in_default c =
     record {
       ok = tt;
       err = closes-no_piece _ bracket;
-      fault = (refl, bracket.0, bracket.1);
+      fault = bracket;
     }

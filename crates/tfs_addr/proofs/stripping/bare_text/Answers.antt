@@ -4,7 +4,7 @@ use Rattle.std.proofs.lemmas.Bool.{false≢true}
 use Rattle.std.proofs.lemmas.Bool.Decides.{Decides-eqb}
 use Rattle.std.proofs.lemmas.Result.{err_from_is_err_and}
 use Rattle.tfs_addr.proofs.PieceLemmas.{HasRead-front, HasRead-key}
-use Rattle.tfs_addr.proofs.ReadingLemmas.{read-shorter, nothing_read, FaultOf-from_read, IsStripped-at_end}
+use Rattle.tfs_addr.proofs.ReadingLemmas.{nothing_read, FaultOf-from_read, IsStripped-at_end}
 use Rattle.tfs_addr.proofs.stripping.bare_text.Goals as goal
 
 pub returns-then-is_empty-clause-ok : goal.returns-then-is_empty-clause-ok
@@ -14,17 +14,11 @@ returns-then-is_empty-clause-ok c =
     let none = (Decides-eqb _ 0).0 (sym c.if-is_empty.ensures) in
     IsStripped-at_end _ _ _ _ c.utf8.text front none (c.in_ok-fitted.ensures.kept ∙ c.in_ok-keep.ensures.bytes)
 
-pub overflow_sub-text : goal.overflow_sub-text
-overflow_sub-text c =
-    let cut = c.split_at_bracket.ensures in
-    let front = HasRead-front _ _ _ _ _ c.loop-bare.invariant.1 cut.texts.0 cut.front cut.whole in
-    read-shorter _ _ _ c.utf8.text cut.texts.1 front
-
 pub returns-in_err-rest-clause-err : goal.returns-in_err-rest-clause-err
 returns-in_err-rest-clause-err c =
     let cut = c.split_at_bracket.ensures in
     let front = HasRead-front _ _ _ _ _ c.loop-bare.invariant.1 cut.texts.0 cut.front cut.whole in
-    let fault = FaultOf-from_read _ _ _ c.in_err-rest.field-0.0 c.utf8.text cut.texts.1 front c.in_err-rest.ensures.err c.in_err-rest.ensures.fault in
+    let fault = FaultOf-from_read _ _ _ c.in_err-rest.field-0.0 c.utf8.text front c.in_err-rest.ensures.err c.in_err-rest.ensures.fault in
     let p = err_from_is_err_and c.from_residual-in_err-rest.result c.from_residual-in_err-rest.ensures.1 in
     rw (p.1, p.2) (λ _. fault)
 

@@ -27,8 +27,8 @@ returns-in-Err c =
     record {
       ok = tt;
       room = tt;
-      unclosed = λ at. FaultOf-unclosed _ c.in-Err.fault at fault;
-      stray_bracket = λ at. FaultOf-stray _ c.in-Err.fault at fault;
+      unclosed = FaultOf-unclosed _ c.in-Err.fault fault;
+      stray_bracket = FaultOf-stray _ c.in-Err.fault fault;
       no_reading = λ _. FaultOf-no_reading _ c.in-Err.fault fault;
       value = GivesText-fault Global _ c.in-Err.fault c.utf8.text fault;
       empty = c.in-Err.ensures.empty;

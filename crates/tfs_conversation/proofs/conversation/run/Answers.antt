@@ -12,8 +12,8 @@ pub returns-in-Some-clause-ended : goal.returns-in-Some-clause-ended
 returns-in-Some-clause-ended g c =
     went_then_ended g.D.Desk.step _ _ _ c.in-Some.ended c.loop-end.invariant
     (subst (λ (e : Option Ended). IfSome e (HasEnded g.D.Desk.step
-    (moment c.loop-end.desk (g.R.Read.remaining c.loop-end.reader) (g.W.Write.contents c.loop-end.writer) c.loop-end.reads c.loop-end.line.input)
-    (moment c.turn.new.desk (g.R.Read.remaining c.turn.new.reader) (g.W.Write.contents c.turn.new.writer) c.turn.new.reads c.turn.new.line.input)))
+    (moment c.loop-end.desk (g.R.Read.remaining c.loop-end.reader) (g.W.Write.contents c.loop-end.writer) c.loop-end.reads c.loop-end.connection.input)
+    (moment c.turn.new.desk (g.R.Read.remaining c.turn.new.reader) (g.W.Write.contents c.turn.new.writer) c.turn.new.reads c.turn.new.connection.input)))
     c.in-Some.is c.in-Ok.ensures.ended)
 
 pub loop-end-preserved : goal.loop-end-preserved

@@ -1,23 +1,15 @@
--- A connection that was admitted: the session goes on, and has answered calls on one connection more, or none on it.
+-- A connection that was admitted: the session goes on, and has answered calls on one connection more, or none was taken.
 use Rattle.tfs_serve.proofs.Later.{later_then}
 use Rattle.tfs_serve.proofs.Working.{worked_on, worked_without}
 use Rattle.tfs_serve.proofs.serving.work.Goals as goal
 
-pub loop-preserved-in-Ok : goal.loop-preserved-in-Ok
-loop-preserved-in-Ok g c = (
+pub loop-preserved : goal.loop-preserved
+loop-preserved g c = (
   tt,
   tt,
   later_then _ _ _ c.loop.invariant.2 c.serve.ensures.later,
   worked_on _ _ _ _ _ _ _ c.loop.invariant.3 c.if-not-admit.ensures.heard c.serve.ensures.answered,
 )
 
-pub loop-preserved : goal.loop-preserved
-loop-preserved g c = (
-  tt,
-  tt,
-  c.loop.invariant.2,
-  worked_without _ _ _ _ _ c.loop.invariant.3 c.if-not-admit.ensures.heard,
-)
-
-pub returns-then-ne-clause-broken : goal.returns-then-ne-clause-broken
-returns-then-ne-clause-broken g c = worked_without _ _ _ _ _ c.loop.invariant.3 c.if-not-admit.ensures.heard
+pub returns-in-Err-clause-broken : goal.returns-in-Err-clause-broken
+returns-in-Err-clause-broken g c = worked_without _ _ _ _ _ c.loop.invariant.3 c.if-not-admit.ensures.heard

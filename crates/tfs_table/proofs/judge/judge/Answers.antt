@@ -31,3 +31,8 @@ returns-in_err-judge_by_limits-clause-refusing c =
     rw p.1 (λ j are long. refused_by_any _ _ (judged_by_limits j _ _ _ _ _ _ are long
     (c.is_err.ensures.value ∙ new_in_gap _ _ _ c.place_of-place.ensures)
     c.in_ok-judge_by_rules.ensures.accepted c.in_err-judge_by_limits.ensures.refused))
+
+pub returns-in_err-judge_by_limits-clause-memory : goal.returns-in_err-judge_by_limits-clause-memory
+returns-in_err-judge_by_limits-clause-memory c =
+    let p = err_from_is_err_and c.from_residual-in_err-judge_by_limits.result c.from_residual-in_err-judge_by_limits.ensures.1 in
+    rw (p.1, p.2) (λ is. absurd (c.in_err-judge_by_limits.ensures.memory is))

@@ -1,5 +1,5 @@
 -- The workspace at the place of the name has what the name has.
-use Rattle.std.proofs.Common.{subst}
+use Rattle.std.proofs.Common.{subst, sym}
 use Rattle.tfs_rules.specs.Act.{act_value}
 use Rattle.tfs_table.specs.Workspaces.{IsFound}
 use Rattle.tfs_table.proofs.WorkspaceLemmas.{standing_at_place}
@@ -23,3 +23,8 @@ returns-in-Ok-clause-refusing c =
     let place = subst (IsFound c.args.name.now c.args.workspaces.now) c.in-Ok.is c.requires in
     rw (heeded _ _ (act_value c.args.act.now) _ _ (standing_at_place _ _ _ c.index-workspaces-place.result place) c.holder.ensures.value
     c.verdict.ensures.over_standing) c.heed.ensures.refusing
+
+pub returns-in-Ok-clause-memory : goal.returns-in-Ok-clause-memory
+returns-in-Ok-clause-memory c =
+    let place = subst (IsFound c.args.name.now c.args.workspaces.now) c.in-Ok.is c.requires in
+    rw (standing_at_place _ _ _ c.index-workspaces-place.result place, sym c.verdict.ensures.over_standing) c.heed.ensures.memory

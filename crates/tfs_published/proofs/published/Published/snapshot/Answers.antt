@@ -16,4 +16,5 @@ returns c =
         lookup = λ j are. subst (λ (n : List ℕ). IsLookup c.find.result (state_of (acts_of n j))) c.text.ensures.value
             (c.find.ensures.value j (rw (c.as_slice.ensures.value, places) are));
       };
+      none = tt;
     }

@@ -13,7 +13,8 @@ invariant_of-self-2 g c =
     let after = c.publish.result in
     let was = sym c.take-2.ensures.value ∙ c.in-Some-take.is in
     let is = sym c.replace-none.ensures.after in
-    let publisher = publisher_along book opening inside.newest inside.next (Some token) _ (Some writer.desk.shown.value) _ (Some (drop writer.behind writer.log.items))
+    let publisher = publisher_along book opening inside.newest inside.next (Some token) _ (Some writer.desk.shown.value) _
+    (Some (drop writer.behind writer.log.items))
     c.self.invariant.1 (sym c.take.ensures.value ∙ c.in-Some.is) (ap (option_map (λ w. w.desk.shown.value)) was)
     (ap (option_map (λ w. drop w.behind w.log.items)) was) in
     let done = publisher_published book opening inside.newest token (Some token) writer.desk.shown.value after.desk.shown.value

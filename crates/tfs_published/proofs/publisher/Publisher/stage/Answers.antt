@@ -29,7 +29,8 @@ invariant_of-self-2 g c =
     let journal = c.requires.journal ∙ sym (ap (λ v. v.journal) c.self.view_is) in
     let state = ap (λ (j : Journal). state_of (acts_of entry.name (with_entry j entry))) journal in
     let at = subst (λ (j : Journal). slice_get (names_of (with_entry j entry)) number ≡ Some entry.name) journal c.number.ensures.value in
-    let done = publisher_staged book opening inside.newest token writer.desk.shown.value (drop writer.behind writer.log.items) (drop after.behind after.log.items)
+    let done = publisher_staged book opening inside.newest token writer.desk.shown.value (drop writer.behind writer.log.items)
+    (drop after.behind after.log.items)
     update (change_of ready) inside.position publisher c.in_ok-queue.ensures.ok c.in-Some-with.ensures.book c.in-Some-with.ensures.changes refl place refl
     c.self.invariant.0 at c.number.ensures.most state in (
       c.self.invariant.0,

@@ -9,5 +9,6 @@ pub returns-clause-later : goal.returns-clause-later
 returns-clause-later g c =
     let before = c.self.inside.token in
     let seen =
-    subst (λ (o : Option Snapshot). IfSome o (λ snapshot. IsSeen g.J.Naming.opening before c.args.name.now snapshot)) c.in-Some.is c.enter-reader.ensures.value in
+    subst (λ (o : Option Snapshot). IfSome o (λ snapshot. IsSeen g.J.Naming.opening before c.args.name.now snapshot)) c.in-Some.is
+    c.enter-copies.ensures.value in
     rw (← c.self.view_is) (later_begins g.J.Naming.opening before.changes c.in-Some.snapshot.token.changes seen.begins)

@@ -1,6 +1,0 @@
--- The pairs with the second numbers so far.
-use Rattle.tfs_index.proofs.PlainLemmas.{ArePairsMore}
-use Rattle.tfs_index.proofs.plain.push_dependents.Given as goal
-
-abbrev pub invariant-loop-u : goal.invariant-loop-u
-invariant-loop-u l = ArePairsMore l.doc l.v l.u l.initial.pairs.items l.pairs.items

@@ -1,0 +1,51 @@
+//! The answers of tfs_addr for a few texts. A call that gets no memory answers `out of memory`, and the calls after it are made all the
+//! same.
+
+use anyhow::Result;
+use tfs_addr::{AddrFault, Key, Mode, config_text, instance_text, strip};
+
+/// Module paths: texts that read, with keys and without, and texts with a fault.
+const MODULES: [&str; 8] = [
+    "",
+    "module.m",
+    "module.m[7]",
+    "module.m[\"p.q]\"].module.n[0]",
+    "[0]",
+    "module.m]",
+    "module.m[7",
+    "module.m[\"p\"]]",
+];
+
+/// Keys of instances, and deposed keys.
+const KEYS: [(Option<Key<'static>>, Option<&'static str>); 4] = [
+    (None, None),
+    (Some(Key::Number(12)), None),
+    (Some(Key::Text("a \"quoted\" \\ key\n")), Some("ab12")),
+    (None, Some("")),
+];
+
+/// Prints the answers of all three calls.
+pub(crate) fn print_answers(rt: &(impl AllocGlobal + Print)) -> Result<()> {
+    for module in MODULES {
+        print_answer(rt, "strip", strip(rt.alloc(), module))?;
+        let config = config_text(rt.alloc(), module, Mode::DataSource, "aws_ami", "base");
+        print_answer(rt, "config", config)?;
+    }
+    for (key, deposed) in KEYS {
+        for module in ["", "module.m[7]"] {
+            let mode = Mode::Managed;
+            let text = instance_text(rt.alloc(), module, mode, "aws_vpc", "main", key, deposed);
+            print_answer(rt, "instance", text.map_err(AddrFault::from))?;
+        }
+    }
+    Ok(())
+}
+
+/// Prints one answer on a line.
+fn print_answer(rt: &impl Print, call: &str, answer: Result<String, AddrFault>) -> Result<()> {
+    match answer {
+        Ok(text) => println!(rt; "{call}: {text}")?,
+        Err(fault) => println!(rt; "{call}: {fault}")?,
+    }
+    Ok(())
+}

@@ -1,0 +1,35 @@
+//! Names and pushes out of texts.
+
+use anyhow::{Result, bail};
+use std::alloc::Global;
+use tfs_calls::{Bytes, Draft, Raw, Text};
+use tfs_rules::Name;
+use tfs_state::MAX_STATE_BYTES;
+
+/// The text of bytes.
+pub(crate) fn text_of(bytes: &[u8]) -> Result<&str> {
+    match str::from_utf8(bytes) {
+        Ok(text) => Ok(text),
+        Err(_) => bail!("the input is no UTF-8"),
+    }
+}
+
+/// The push of a state, with the identifier of a lock where there is one.
+pub(crate) fn push_of(alloc: Global, id: Option<Text>, state: &[u8]) -> Result<Draft> {
+    if MAX_STATE_BYTES < state.len() {
+        bail!("the state is too long");
+    }
+    let body = Bytes::new(state.to_vec(alloc)?);
+    match Draft::read(alloc, Raw::Push(id, body)) {
+        Ok(draft) => Ok(draft),
+        Err(refusal) => bail!("the push is no draft: {}", refusal.name()),
+    }
+}
+
+/// A workspace's name.
+pub(crate) fn name_of(alloc: Global, text: &str) -> Result<Name> {
+    match Name::read(String::from_str(alloc, text)?) {
+        Some(name) => Ok(name),
+        None => bail!("the name is none"),
+    }
+}

@@ -1,0 +1,56 @@
+//! The reading of a state, its index, and queries.
+
+use anyhow::{Result, bail};
+use std::alloc::Global;
+use std::sync::Arc;
+use tfs_index::Version;
+use tfs_state::{Doc, MAX_STATE_BYTES};
+
+/// Reads a state, and prints how many instances it has.
+pub(crate) fn print_count(rt: &(impl AllocGlobal + Print), state: &str) -> Result<()> {
+    let doc = doc_of(rt.alloc(), state)?;
+    println!(rt; "{} instances", doc.len())?;
+    Ok(())
+}
+
+/// Reads the state that is the first line, builds its index, and asks it for any and all of the addresses that are the other lines.
+pub(crate) fn print_answers(rt: &(impl AllocGlobal + Print), text: &str) -> Result<()> {
+    let Some((state, addresses)) = text.split_once('\n') else {
+        bail!("there are no addresses");
+    };
+    print_impacts(rt, state, addresses)
+}
+
+/// The same of a state and of addresses that are lines.
+pub(crate) fn print_impacts(
+    rt: &(impl AllocGlobal + Print),
+    state: &str,
+    addresses: &str,
+) -> Result<()> {
+    let doc = doc_of(rt.alloc(), state)?;
+    println!(rt; "read")?;
+    let version = Version::build(rt.alloc(), Arc::new(rt.alloc(), doc)?)?;
+    println!(rt; "built")?;
+    let mut texts = Vec::new(rt.alloc());
+    for line in addresses.lines() {
+        texts.push(line)?;
+    }
+    print_numbers(rt, "any", version.any(rt.alloc(), texts.as_slice())?)?;
+    print_numbers(rt, "all", version.all(rt.alloc(), texts.as_slice())?)
+}
+
+/// Prints a line for each number.
+fn print_numbers(rt: &impl Print, word: &str, numbers: Vec<usize>) -> Result<()> {
+    for number in numbers {
+        println!(rt; "{word} {number}")?;
+    }
+    Ok(())
+}
+
+/// The document of a text.
+fn doc_of(alloc: Global, text: &str) -> Result<Doc> {
+    if MAX_STATE_BYTES < text.len() {
+        bail!("the state is too long");
+    }
+    Ok(Doc::read(alloc, text.as_bytes().to_vec(alloc)?)?)
+}

@@ -1,0 +1,66 @@
+-- Sessions that have made no calls.
+use Rattle.std.proofs.Common.{◌≡◌, ◌+◌, ◌<◌, ◌↔◌, ℕ, zero, suc, Bool, true, if◌then◌else◌, List, [], ◌∷◌, ◌++◌, length, get_or, sum_by, All, Any, refl, sym, ◌∙◌, ap, subst, arith, append-nil, length-append}
+use Rattle.std.proofs.lemmas.List.{nil_from_length, length_push, get_or_append_left, get_or_push}
+use Rattle.std.proofs.lemmas.List.Sums.{sum_by-append}
+use Rattle.tfs_records.specs.Journal.{Journal, BaseValue, EntryValue, position_of}
+use Rattle.tfs_published.specs.Beginning.{BeginsWith}
+use Rattle.tfs_shared.specs.View.{SessionView}
+use Rattle.tfs_shared.specs.Locked.{IsAhead}
+use Rattle.tfs_shared.specs.declared.gathering.Lack.{Lack}
+use Rattle.tfs_shared.specs.declared.gathering.Lack.TheVariants.{Missing, NoCopy}
+
+-- A session that has seen a journal, and made no changes.
+abbrev pub IsNew : Journal → SessionView → Type 0
+IsNew j s = s ≡ record { journal = j; accepted = 0 }
+
+-- New sessions have no accepted changes.
+none_accepted : (j : Journal) (sessions : List SessionView) → All (IsNew j) sessions → sum_by (λ (s : SessionView). s.accepted) sessions ≡ 0
+none_accepted j [] new = refl
+none_accepted j (s ∷ rest) new =
+    let first = ap (λ (v : SessionView). v.accepted) (new 0 s (omega arith)) in
+    let others = none_accepted j rest (λ k d within. new (suc k) d (omega (arith, within))) in
+    let parts = sum_by-append (λ (v : SessionView). v.accepted) (s ∷ []) rest in
+    omega (arith, first, others, parts)
+
+-- A journal that begins with another one, and isn't longer, is that one.
+begins_whole : (j k : Journal) → BeginsWith j k → length j.entries ≡ length k.entries → j ≡ k
+begins_whole j k begins same =
+    let none : begins.entries.0 ≡ [] = nil_from_length begins.entries.0
+    (omega (arith, same, length-append k.entries begins.entries.0, ap length begins.entries.1)) in
+    ap (λ (b : BaseValue). record { base = b; entries = j.entries }) begins.base
+    ∙ ap (λ (es : List EntryValue). record { base = k.base; entries = es })
+    (sym begins.entries.1 ∙ ap (λ (es : List EntryValue). k.entries ++ es) none ∙ append-nil k.entries)
+
+-- The table of new sessions has the opening journal.
+pub taken_back : (opening last : Journal) (sessions : List SessionView) → All (IsNew opening) sessions → BeginsWith last opening
+    → length last.entries ≡ length opening.entries + sum_by (λ (s : SessionView). s.accepted) sessions → last ≡ opening
+taken_back opening last sessions new begins counted =
+    begins_whole last opening begins (omega (arith, counted, none_accepted opening sessions new))
+
+-- No new session keeps a table from being gathered where all are there.
+pub no_strangers : (opening : Journal) (sessions : List SessionView) (number : ℕ) (why : Lack) → length sessions ≡ number
+    → All (IsNew opening) sessions → ((why ≡ Missing) ↔ (length sessions < number)) → (why ≡ NoCopy → Any (IsAhead opening) sessions) → ⊥
+no_strangers opening sessions number Missing all new missing ahead = let fewer = missing.0 refl in omega (arith, fewer, all)
+no_strangers opening sessions number NoCopy all new missing ahead =
+    let one = ahead refl in
+    let is = sym one.3 ∙ new one.0 one.1 one.2 in
+    let seen = ap (λ (v : SessionView). position_of v.journal) is in
+    let base = ap (λ (b : BaseValue). b.position) one.4.begins.base in
+    let entries = ap length one.4.begins.entries.1 in
+    let lower = one.4.lower in
+    omega (arith, seen, base, entries, lower, length-append opening.entries one.4.begins.entries.0)
+
+-- What was pushed stands at the end.
+pub pushed : {X R : Type 0} (result : R) (ok : R → Bool) (items xs : List X) (x : X) → items ≡ (if ok result then xs ++ x ∷ [] else xs)
+    → ok result ≡ true → items ≡ xs ++ x ∷ []
+pushed result ok items xs x is well = is ∙ ap (λ (b : Bool). if b then xs ++ x ∷ [] else xs) well
+
+-- What holds of each element holds of those that stay and of the one that was popped.
+pub popped : {X : Type 0} (P : X → Type 0) (xs ys : List X) (x : X) → xs ≡ ys ++ x ∷ [] → All P xs → All P ys × P x
+popped P xs ys x is all = (
+  λ k d within. subst P (get_or_append_left ys (x ∷ []) d k within) (whole k d (omega (arith, within, length_push ys x))),
+  subst P (get_or_push ys x x (length ys) refl) (whole (length ys) x (omega (arith, length_push ys x))),
+)
+  where
+    whole : All P (ys ++ x ∷ [])
+    whole = subst (All P) is all

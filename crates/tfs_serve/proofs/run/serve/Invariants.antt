@@ -1,0 +1,9 @@
+-- The names of the history and of the ledger that were just opened, and the journal that the table has.
+use Rattle.std.proofs.Common.{length}
+use Rattle.tfs_serve.proofs.run.serve.Given as goal
+
+abbrev pub ghosts-serve_named-J-Naming : goal.ghosts-serve_named-J-Naming
+ghosts-serve_named-J-Naming g a = record { book = a.opened; opening = a.table.journal; sessions = length a.gates.items }
+
+abbrev pub ghosts-serve_named-J-Ledger : goal.ghosts-serve_named-J-Ledger
+ghosts-serve_named-J-Ledger g a = record { name = a.blank.name; parts = a.blank.parts }

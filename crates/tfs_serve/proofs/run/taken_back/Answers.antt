@@ -1,0 +1,9 @@
+-- New sessions keep nobody from gathering, and the table is as it was.
+use Rattle.tfs_serve.proofs.Returning as returning
+use Rattle.tfs_serve.proofs.run.taken_back.Goals as goal
+
+pub unreachable-requires : goal.unreachable-requires
+unreachable-requires g c = returning.no_strangers _ _ _ _ c.requires.whole c.requires.new c.in-Err.ensures.missing c.in-Err.ensures.ahead
+
+pub returns : goal.returns
+returns g c = record { journal = returning.taken_back _ _ _ c.requires.new c.in-Ok.ensures.opening c.in-Ok.ensures.counted }

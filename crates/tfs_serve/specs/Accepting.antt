@@ -1,0 +1,34 @@
+-- What an error of accepting a connection asks for (accept(2) and errno(3) of Linux).
+use Rattle.std.specs.Prelude.{◌≡◌, ℕ, ℤ, pos, Option, Some, None, List, [], ◌∷◌, if◌then◌else◌}
+use Rattle.std.specs.List.{list_any}
+use Rattle.std.specs.Ordering.{int_eq}
+use Rattle.std.specs.declared.io.ErrorKind.{ErrorKind}
+use Rattle.std.specs.declared.io.ErrorKind.TheVariants as kind
+use Rattle.tfs_serve.specs.declared.accepting.Remedy.{Remedy}
+use Rattle.tfs_serve.specs.declared.accepting.Remedy.TheVariants.{Again, Pause, End}
+
+-- Numbers of errors that the network told of one connection: ENONET, EPROTO, ENOPROTOOPT, EOPNOTSUPP, EHOSTDOWN.
+abbrev pub numbers_of_a_connection : List ℤ
+numbers_of_a_connection = pos 64 ∷ pos 71 ∷ pos 92 ∷ pos 95 ∷ pos 112 ∷ []
+
+-- Numbers of errors where descriptors or memory lack: ENFILE, EMFILE, ENOBUFS.
+abbrev pub numbers_of_lack : List ℤ
+numbers_of_lack = pos 23 ∷ pos 24 ∷ pos 105 ∷ []
+
+-- By its number alone.
+abbrev pub remedy_by_number : Option ℤ → Remedy
+remedy_by_number None = End
+remedy_by_number (Some code) = if list_any (int_eq code) numbers_of_a_connection then Again
+    else (if list_any (int_eq code) numbers_of_lack then Pause else End)
+
+-- By its kind or, where that has none, by its number.
+abbrev pub remedy_for : ErrorKind → Option ℤ → Remedy
+remedy_for kind.ConnectionAborted code = Again
+remedy_for kind.Interrupted code = Again
+remedy_for kind.WouldBlock code = Again
+remedy_for kind.PermissionDenied code = Again
+remedy_for kind.NetworkDown code = Again
+remedy_for kind.NetworkUnreachable code = Again
+remedy_for kind.HostUnreachable code = Again
+remedy_for kind.OutOfMemory code = Pause
+remedy_for unsaid code = remedy_by_number code

@@ -1,0 +1,131 @@
+//! Making a change ready: all that it needs before it is made.
+
+ghost use Rattle.std.specs.Prelude.{◌≡◌, ◌<◌, All, None, Some, IfOk, OnOk, option_map, slice_get, vec_len, vec_capacity};
+ghost use Rattle.std.specs.Arc.{arc_value};
+ghost use Rattle.tfs_rules.specs.Act.{ActValue, act_value};
+ghost use Rattle.tfs_rules.specs.History.{state_after};
+ghost use Rattle.tfs_records.specs.Journal.{Journal, names_of, with_entry};
+ghost use Rattle.tfs_calls.specs.Pushed.{pushed_by};
+ghost use Rattle.tfs_calls.specs.Transition.{act_refusal, open_model};
+ghost use Rattle.tfs_table.specs.Lawful.{IsLawful};
+ghost use Rattle.tfs_table.specs.Workspaces.{standing_at, IsFound, AreWorkspacesOf, HasVersion};
+
+use crate::prepared::Prepared;
+use crate::ready::Ready;
+use crate::workspace::Workspace;
+use std::alloc::AllocError;
+use std::snapshot::Snapshot;
+use std::sync::Arc;
+use tfs_index::Version;
+use tfs_records::{Base, Entry};
+use tfs_rules::{Act, Name};
+
+/// Makes room for one more entry and one more workspace.
+pub(crate) fn make_room(
+    entries: &mut Vec<Entry>,
+    workspaces: &mut Vec<Workspace>,
+) -> Result<(), AllocError>
+    ensures entries { entries.new.items ≡ entries.old.items }
+    ensures workspaces { workspaces.new.items ≡ workspaces.old.items }
+    ensures room { OnOk result (vec_len entries.new < vec_capacity entries.new) }
+    ensures place { OnOk result (vec_len workspaces.new < vec_capacity workspaces.new) }
+{
+    entries.reserve(1)?;
+    workspaces.reserve(1)?;
+    Ok(())
+}
+
+/// The ready change, with all that is to be entered, of a prepared one that the journal accepts.
+pub(crate) fn make_ready(
+    base: &Base,
+    entries: &Vec<Entry>,
+    workspaces: &[Workspace],
+    place: Result<usize, usize>,
+    prepared: Prepared,
+) -> Result<Ready, AllocError>
+    requires found { IsFound prepared.name workspaces.now place }
+    requires workspaces { AreWorkspacesOf (record { base = base.now; entries = entries.now.items }) workspaces.now }
+    requires versions { All HasVersion workspaces.now }
+    requires lawful { IsLawful (record { base = base.now; entries = entries.now.items }) }
+    requires accepted { act_refusal (open_model (record { base = base.now; entries = entries.now.items })) prepared.name prepared.act ≡ None }
+    ensures value { IfOk result (λ ready. ready ≡ record {
+      journal = record { base = base.now; entries = entries.now.items };
+      entry = prepared;
+    }) }
+{
+    let Prepared {
+        entry,
+        name,
+        act,
+        pushed,
+        text,
+    } = prepared;
+    let number = number_after(workspaces, &name, place);
+    let version = version_after(workspaces, &name, place, &act, pushed)?;
+    Ok(Ready {
+        entry,
+        name,
+        number,
+        act,
+        version,
+        text,
+        base: Snapshot::of(base),
+        entries: Snapshot::of(entries),
+    })
+}
+
+/// The number that a name has among the names once it has one entry more.
+fn number_after(workspaces: &[Workspace], name: &Name, place: Result<usize, usize>) -> usize
+    requires { IsFound name.now workspaces.now place }
+    ensures { (j : Journal) (act : ActValue) → AreWorkspacesOf j workspaces.now
+        → slice_get (names_of (with_entry j (record { name = name.now; act = act }))) result ≡ Some name.now }
+{
+    // The name stands in the contract alone: the place is its workspace's.
+    let _ = name;
+    match place {
+        Ok(place) => workspaces[place].number,
+        Err(_) => workspaces.len(),
+    }
+}
+
+/// The version that a name has after an act, where it has a state then.
+fn version_after(
+    workspaces: &[Workspace],
+    name: &Name,
+    place: Result<usize, usize>,
+    act: &Act,
+    pushed: Option<Arc<Version>>,
+) -> Result<Option<Arc<Version>>, AllocError>
+    requires found { IsFound name.now workspaces.now place }
+    requires versions { All HasVersion workspaces.now }
+    requires pushed { option_map arc_value pushed ≡ pushed_by (act_value act.now) }
+    ensures value { IfOk result (λ version. option_map arc_value version
+        ≡ state_after (standing_at name.now workspaces.now).state (act_value act.now)) }
+{
+    match act {
+        Act::Push(..) => Ok(pushed),
+        Act::Delete(_) => Ok(None),
+        Act::Lock(_) | Act::Unlock(_) => version_at(workspaces, name, place),
+    }
+}
+
+/// The version that a name has.
+fn version_at(
+    workspaces: &[Workspace],
+    name: &Name,
+    place: Result<usize, usize>,
+) -> Result<Option<Arc<Version>>, AllocError>
+    requires found { IsFound name.now workspaces.now place }
+    requires versions { All HasVersion workspaces.now }
+    ensures value { IfOk result (λ version. option_map arc_value version ≡ (standing_at name.now workspaces.now).state) }
+{
+    // The name stands in the contract alone: the place is its workspace's.
+    let _ = name;
+    let Ok(place) = place else {
+        return Ok(None);
+    };
+    match &workspaces[place].version {
+        Some(version) => Ok(Some(version.clone()?)),
+        None => Ok(None),
+    }
+}

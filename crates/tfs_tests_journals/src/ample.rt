@@ -1,0 +1,119 @@
+//! Each call of a table once, with ample memory: that it answers, no clause says.
+
+use crate::helpers::{draft_of, name_of};
+use crate::journals::journal_bytes;
+use std::alloc::{AllocError, Global};
+use std::process::Abort;
+use std::test::Fail;
+use tfs_journal::decode;
+use tfs_records::Discard;
+use tfs_table::{Kind, Prepared, Query, Ready, Table, Text, Texts, first_unlawful};
+
+/// Two instances, of which the second depends on the first.
+const TWO: &str = "{\"version\":4,\"serial\":2,\"lineage\":\"L1\",\"resources\":[\
+{\"mode\":\"managed\",\"type\":\"t\",\"name\":\"a\",\"instances\":[{}]},\
+{\"mode\":\"managed\",\"type\":\"t\",\"name\":\"b\",\"instances\":[{\"dependencies\":[\"t.a\"]}]}]}";
+
+/// A change of `a`.
+fn prepared_of(rt: &(impl Alloc<A = Global> + Abort), change: &str) -> Result<Prepared, Fail> {
+    let draft = draft_of(rt, change)?.ok().expect(rt, "a draft");
+    Ok(Prepared::new(rt.alloc(), name_of(rt, "a")?, draft)?)
+}
+
+/// Whether a ready change is of `a`, the first name, which has a version of this serial afterwards.
+fn is_of_serial(ready: &Ready, serial: u64) -> bool {
+    let is_it = match ready.version() {
+        Some(version) => version.doc().serial() == serial,
+        None => false,
+    };
+    is_it && ready.number() == 0 && ready.name().text() == "a"
+}
+
+/// The position of a change that is made in its two halves, where its version is of this serial.
+fn finished(table: &mut Table<Discard>, prepared: Prepared, serial: u64) -> Option<u64> {
+    match table.ready(prepared) {
+        Ok(ready) => {
+            if !is_of_serial(&ready, serial) {
+                return None;
+            }
+            table.finish(ready).ok()
+        }
+        Err(_) => None,
+    }
+}
+
+/// Makes a change in its two halves.
+fn make(
+    rt: &(impl Alloc<A = Global> + Abort),
+    table: &mut Table<Discard>,
+    change: &str,
+    position: u64,
+    serial: u64,
+) -> Result<(), Fail> {
+    let prepared = prepared_of(rt, change)?;
+    assert!(rt;
+        finished(table, prepared, serial) == Some(position),
+        "{change}"
+    );
+    Ok(())
+}
+
+/// A table of `a` with TWO and its lock.
+fn table_of_two(rt: &(impl Alloc<A = Global> + Abort)) -> Result<Table<Discard>, Fail> {
+    let mut table = Table::new(rt.alloc(), Discard).ok().expect(rt, "a table");
+    let push = format!(in rt.alloc(); "push - {TWO}")?;
+    make(rt, &mut table, "push - S1", 1, 1)?;
+    make(rt, &mut table, push.as_str(), 2, 2)?;
+    make(rt, &mut table, "lock B", 3, 2)?;
+    Ok(table)
+}
+
+/// The query for all that a change of one address reaches.
+fn query_of(rt: &impl Alloc<A = Global>, text: &str) -> Result<Query, AllocError> {
+    let mut texts = Vec::new(rt.alloc());
+    texts.push(Text::new(String::from_str(rt.alloc(), text)?))?;
+    Ok(Query {
+        kind: Kind::Any,
+        texts: Texts::new(texts),
+    })
+}
+
+/// How many instances a query for one address chooses in the state of `a`.
+fn chosen(
+    rt: &(impl Alloc<A = Global> + Abort),
+    table: &Table<Discard>,
+    text: &str,
+) -> Result<usize, Fail> {
+    let impact = table.impact(&name_of(rt, "a")?, &query_of(rt, text)?);
+    let impact = impact.ok().expect(rt, "an answer");
+    assert!(rt; impact.position == 3);
+    Ok(impact.chosen.as_slice().len())
+}
+
+/// Whether a table is rebased to this position.
+fn is_rebased(rt: &impl Abort, table: &Table<Discard>, position: u64) -> bool {
+    let rebased = table.rebase(Discard).ok().expect(rt, "a table");
+    rebased.position() == position && rebased.len() == 0
+}
+
+#[test]
+fn each_call_answers_with_ample_memory(rt: HostRuntime) -> Result<(), Fail> {
+    let table = table_of_two(&rt)?;
+    assert!(rt; chosen(&rt, &table, "t.a")? == 1);
+    assert!(rt; chosen(&rt, &table, "t.b")? == 0);
+    assert!(rt; is_rebased(&rt, &table, 3));
+    Ok(())
+}
+
+/// The first record of bytes that isn't lawful.
+fn unlawful_in(rt: &impl Alloc<A = Global>, bytes: &[u8]) -> Result<Option<u64>, AllocError> {
+    let read = decode(rt.alloc(), bytes)?;
+    first_unlawful(rt.alloc(), &read.base, read.entries.as_slice())
+}
+
+#[test]
+fn a_lawful_journal_is_judged_with_ample_memory(rt: HostRuntime) -> Result<(), Fail> {
+    let bytes = journal_bytes(&rt, "192")?;
+    assert!(rt; unlawful_in(&rt, bytes.as_slice())? == None);
+    Ok(())
+}

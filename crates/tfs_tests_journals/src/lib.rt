@@ -1,0 +1,24 @@
+//! Tests of workspaces and their journals: verdicts, records, sinks, calls, readings and tables. Each takes its cases from a text of
+//! lines, whose words the helpers turn into values.
+#![tactic(auto)]
+
+#[cfg(test)]
+mod ample;
+#[cfg(test)]
+mod files;
+#[cfg(test)]
+mod helpers;
+#[cfg(test)]
+mod journals;
+#[cfg(test)]
+mod opened;
+#[cfg(test)]
+mod records;
+#[cfg(test)]
+mod refusals;
+#[cfg(test)]
+mod rules;
+#[cfg(test)]
+mod sinks;
+#[cfg(test)]
+mod tables;

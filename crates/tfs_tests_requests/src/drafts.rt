@@ -1,0 +1,65 @@
+//! Names, changes and queries of the state in which `t.b` depends on `t.a`, and `t.c` on `t.b`.
+
+use std::alloc::Global;
+use std::process::Abort;
+use tfs_calls::{Bytes, Draft, Kind, Query, Raw, Text, Texts};
+use tfs_rules::Name;
+use tfs_state::MAX_STATE_BYTES;
+
+/// The resources of the chain, with one instance each.
+const FIRST: &str =
+    r#"{"mode":"managed","type":"t","name":"a","instances":[{"dependencies":["x.y"]}]}"#;
+
+const SECOND: &str =
+    r#"{"mode":"managed","type":"t","name":"b","instances":[{"dependencies":["t.a"]}]}"#;
+
+const THIRD: &str =
+    r#"{"mode":"managed","type":"t","name":"c","instances":[{"dependencies":["t.b"]}]}"#;
+
+/// The name `a`.
+pub(crate) fn name_of(rt: &(impl Alloc<A = Global> + Abort)) -> Name {
+    let text = String::from_str(rt.alloc(), "a").ok().expect(rt, "a text");
+    Name::read(text).expect(rt, "a name")
+}
+
+/// The chain with a serial.
+fn chain_of(rt: &(impl Alloc<A = Global> + Abort), serial: u64) -> String {
+    let text = format!(in rt.alloc();
+        "{{\"version\":4,\"serial\":{serial},\"lineage\":\"L1\",\"resources\":[{FIRST},{SECOND},{THIRD}]}}"
+    );
+    text.ok().expect(rt, "a state")
+}
+
+/// The bytes of the chain with a serial.
+fn bytes_of(rt: &(impl Alloc<A = Global> + Abort), serial: u64) -> Vec<u8> {
+    let text = chain_of(rt, serial);
+    text.as_bytes().to_vec(rt.alloc()).ok().expect(rt, "bytes")
+}
+
+/// The push of the chain with a serial.
+pub(crate) fn push_of(rt: &(impl Alloc<A = Global> + Abort), serial: u64) -> Draft {
+    let bytes = bytes_of(rt, serial);
+    assert!(rt; bytes.len() <= MAX_STATE_BYTES);
+    let draft = Draft::read(rt.alloc(), Raw::Push(None, Bytes::new(bytes)));
+    draft.ok().expect(rt, "a draft")
+}
+
+/// An unlock by nobody, which takes what lock there is.
+pub(crate) fn unlock_of(rt: &(impl Alloc<A = Global> + Abort)) -> Draft {
+    let body = Bytes::new(Vec::new(rt.alloc()));
+    let draft = Draft::read(rt.alloc(), Raw::Unlock(body, None));
+    draft.ok().expect(rt, "a draft")
+}
+
+/// A query for what `t.a` reaches.
+pub(crate) fn query_of(rt: &(impl Alloc<A = Global> + Abort)) -> Query {
+    let text = String::from_str(rt.alloc(), "t.a")
+        .ok()
+        .expect(rt, "a text");
+    let mut texts = Vec::new(rt.alloc());
+    assert!(rt; texts.push(Text::new(text)).is_ok());
+    Query {
+        kind: Kind::Any,
+        texts: Texts::new(texts),
+    }
+}

@@ -1,0 +1,131 @@
+//! What sessions of a shared table are answered. No call is refused: no copy is behind or has lost its version.
+
+use crate::drafts::{name_of, push_of, query_of, unlock_of};
+use std::alloc::Global;
+use std::process::Abort;
+use std::sync::Wait;
+use std::thread;
+use std::thread::Threads;
+use tfs_records::Sink;
+use tfs_shared::{Naming, Session, Shared};
+
+/// The position of a push of the chain with a serial, where it is accepted.
+pub(crate) fn push<J: Naming, K: Sink, R: Wait + Abort + Alloc<A = Global>>(
+    rt: &R,
+    shared: &Shared<J, K>,
+    session: &mut Session<J>,
+    serial: u64,
+) -> Option<u64> {
+    let draft = push_of(rt, serial);
+    session.submit(rt, shared, name_of(rt), draft).ok()
+}
+
+/// The position of an unlock, where it is accepted.
+pub(crate) fn unlock<J: Naming, K: Sink, R: Wait + Abort + Alloc<A = Global>>(
+    rt: &R,
+    shared: &Shared<J, K>,
+    session: &mut Session<J>,
+) -> Option<u64> {
+    let draft = unlock_of(rt);
+    session.submit(rt, shared, name_of(rt), draft).ok()
+}
+
+/// The serial of the state that is read under the lock.
+pub(crate) fn read<J: Naming, K: Sink, R: Wait + Abort + Alloc<A = Global>>(
+    rt: &R,
+    shared: &Shared<J, K>,
+    session: &mut Session<J>,
+) -> u64 {
+    let name = name_of(rt);
+    let state = session.state(rt, shared, &name).ok();
+    state.expect(rt, "a state").serial()
+}
+
+/// The position of the answer to what `t.a` reaches, which is the other two, and the serial of the state that it is about.
+pub(crate) fn ask<J: Naming, K: Sink, R: Abort + Alloc<A = Global>>(
+    rt: &R,
+    shared: &Shared<J, K>,
+    session: &mut Session<J>,
+) -> (u64, u64) {
+    let name = name_of(rt);
+    let query = query_of(rt);
+    let answer = session.impact(shared, &name, &query).ok();
+    let answer = answer.expect(rt, "an answer");
+    assert!(rt; answer.chosen.as_slice() == [1, 2].as_slice());
+    (answer.position, answer.version.doc().serial())
+}
+
+/// Each call once: a push of the state that is there, a read and a query.
+fn call_once<J: Naming, K: Sink, R: Wait + Abort + Alloc<A = Global>>(
+    rt: &R,
+    shared: &Shared<J, K>,
+    session: &mut Session<J>,
+) {
+    assert!(rt; push(rt, shared, session, 1).is_some());
+    assert!(rt; read(rt, shared, session) == 1);
+    let (position, serial) = ask(rt, shared, session);
+    assert!(rt; position == session.seen() && serial == 1);
+}
+
+/// Each session makes each call once, one session after another.
+pub(crate) fn turns<J: Naming, K: Sink, R: Wait + Abort + Alloc<A = Global>>(
+    rt: &R,
+    shared: &Shared<J, K>,
+    sessions: &mut [Session<J>],
+) {
+    for session in sessions {
+        call_once(rt, shared, session);
+    }
+}
+
+/// Makes each call 25 times.
+fn call_often<J: Naming, K: Sink, R: Wait + Abort + Alloc<A = Global>>(
+    rt: &R,
+    shared: &Shared<J, K>,
+    session: &mut Session<J>,
+) {
+    for _turn in 0..25 {
+        call_once(rt, shared, session);
+    }
+}
+
+/// Each session makes each call 25 times, in a thread of its own.
+pub(crate) fn busy<
+    J: Naming + Send + Sync,
+    K: Sink + Send,
+    R: Threads + Wait + Abort + Alloc<A = Global> + Sync,
+>(rt: &R, shared: &Shared<J, K>, sessions: &mut [Session<J>]) {
+    thread::for_each_mut(
+        rt,
+        sessions,
+        16,
+        &|_, session| { call_often(rt, shared, session) },
+    );
+}
+
+/// Each push of the first session is seen by the second one, which reads the state under the lock; one of a lower serial is refused.
+pub(crate) fn reads<J: Naming, K: Sink, R: Wait + Abort + Alloc<A = Global>>(
+    rt: &R,
+    shared: &Shared<J, K>,
+    first: &mut Session<J>,
+    second: &mut Session<J>,
+) {
+    for serial in 2..10 {
+        assert!(rt; push(rt, shared, first, serial) == Some(serial));
+        assert!(rt; push(rt, shared, first, 1) == None);
+        assert!(rt; read(rt, shared, second) == serial && second.seen() == serial);
+    }
+}
+
+/// Each push of the first session is seen by the second one, which asks without the lock.
+pub(crate) fn asks<J: Naming, K: Sink, R: Wait + Abort + Alloc<A = Global>>(
+    rt: &R,
+    shared: &Shared<J, K>,
+    first: &mut Session<J>,
+    second: &mut Session<J>,
+) {
+    for serial in 2..10 {
+        assert!(rt; push(rt, shared, first, serial) == Some(serial));
+        assert!(rt; ask(rt, shared, second) == (serial, serial) && second.seen() == serial);
+    }
+}

@@ -1,0 +1,169 @@
+//! Sessions of shared tables. None of their calls is refused without a cause, and all of them gather.
+
+ghost use Rattle.std.specs.Prelude.{◌≡◌, ◌≤◌, [], IfSome};
+
+use crate::drafts::{name_of, push_of};
+use crate::sessions::{asks, busy, reads, turns};
+use crate::waiting::ask_meanwhile;
+use std::alloc::Global;
+use std::marker::Brand;
+use std::process::Abort;
+use std::sync::Wait;
+use std::sync::atomic::AtomicU64;
+use std::sync::ledger::Blank;
+use std::test::Fail;
+use std::thread::Threads;
+use std::time::Clock;
+use tfs_records::{Discard, Sink};
+use tfs_shared::{Naming, Opened, Session, Shared, Strangers, gather, share};
+use tfs_table::Table;
+
+/// What is done with the sessions of a shared table.
+#[derive(Clone, Copy)]
+pub(crate) enum Scene<'f> {
+    /// Each session makes each call once, one session after another.
+    Turns,
+    /// Each session makes each call 25 times, in a thread of its own.
+    Busy,
+    /// The first session pushes, and the second one reads.
+    Reads,
+    /// The first session pushes, and the second one asks.
+    Asks,
+    /// The first session's change waits in the sink until the second one was answered.
+    Waits(&'f AtomicU64),
+}
+
+/// How many entries the table has that is gathered after a scene with so many sessions.
+pub(crate) fn played<
+    K: Sink + Send + Drop,
+    R: Threads + Wait + Clock + Abort + Alloc<A = Global> + Sync,
+>(rt: &R, table: Table<K>, number: usize, scene: Scene<'_>) -> usize
+    requires { (1 ≤ number) × (number ≤ 16) }
+{
+    let blank = Blank::new(number as u64);
+    play::<Brand, K, R>(rt, table, number, scene, blank, Opened::new())
+}
+
+fn play<
+    J: Naming + Send + Sync,
+    K: Sink + Send + Drop,
+    R: Threads + Wait + Clock + Abort + Alloc<A = Global> + Sync,
+>(rt: &R, table: Table<K>, number: usize, scene: Scene<'_>, blank: Blank, opened: Opened) -> usize
+    requires number { (1 ≤ number) × (number ≤ 16) }
+    requires sessions { (number ≡ J.sessions) × (J.parts ≡ J.sessions) }
+    requires ledger { (blank.name ≡ J.name) × (blank.parts ≡ J.parts) }
+    requires book { opened ≡ J.book }
+    requires opening { table.journal ≡ J.opening }
+{
+    let made = share::<J, K, R>(rt, rt.alloc(), table, number, blank, opened);
+    let (shared, mut sessions) = made.ok().expect(rt, "a shared table");
+    act(rt, &shared, sessions.as_mut_slice(), scene);
+    entries_of(rt, shared, sessions)
+}
+
+/// How many entries the table has that is gathered.
+fn entries_of<J: Naming, K: Sink + Drop, R: Wait + Abort>(
+    rt: &R,
+    shared: Shared<J, K>,
+    sessions: Vec<Session<J>>,
+) -> usize
+    requires parts { J.parts ≡ J.sessions }
+    requires some { 1 ≤ J.sessions }
+{
+    match gather(rt, shared, sessions) {
+        Ok(table) => table.len(),
+        Err(strangers) => {
+            let Strangers {
+                shared,
+                sessions: _sessions,
+                why: _,
+            } = strangers;
+            assert!(rt; false, "all sessions are there");
+            shared.close(rt).len()
+        }
+    }
+}
+
+/// Plays a scene.
+fn act<
+    J: Naming + Send + Sync,
+    K: Sink + Send,
+    R: Threads + Wait + Clock + Abort + Alloc<A = Global> + Sync,
+>(rt: &R, shared: &Shared<J, K>, sessions: &mut [Session<J>], scene: Scene<'_>) {
+    match scene {
+        Scene::Turns => turns(rt, shared, sessions),
+        Scene::Busy => busy(rt, shared, sessions),
+        Scene::Waits(flag) => ask_meanwhile(rt, shared, sessions, flag),
+        Scene::Reads | Scene::Asks => match sessions {
+            [first, second] => in_two(rt, shared, first, second, scene),
+            _ => panic!(rt; "two sessions"),
+        },
+    }
+}
+
+/// Plays a scene of two sessions.
+fn in_two<J: Naming, K: Sink, R: Wait + Abort + Alloc<A = Global>>(
+    rt: &R,
+    shared: &Shared<J, K>,
+    first: &mut Session<J>,
+    second: &mut Session<J>,
+    scene: Scene<'_>,
+) {
+    match scene {
+        Scene::Reads => reads(rt, shared, first, second),
+        _ => asks(rt, shared, first, second),
+    }
+}
+
+/// A table over a sink that nothing went to, with a push of the chain with serial 1 to `a`.
+pub(crate) fn table_of<K: Sink + Drop>(rt: &(impl Alloc<A = Global> + Abort), sink: K) -> Table<K>
+    requires open { K.faults sink ≡ 0 }
+    requires untold { IfSome (K.told sink) (λ bytes. bytes ≡ []) }
+{
+    let mut table = Table::new(rt.alloc(), sink).ok().expect(rt, "a table");
+    let done = table.apply(name_of(rt), push_of(rt, 1));
+    assert!(rt; done.ok() == Some(1));
+    table
+}
+
+/// The table that goes on from it at position 1, with a base.
+fn later_table(rt: &(impl Alloc<A = Global> + Abort)) -> Table<Discard> {
+    let table = table_of(rt, Discard);
+    table.rebase(Discard).ok().expect(rt, "a rebased table")
+}
+
+#[test]
+fn all_sessions_gather(rt: HostRuntime) -> Result<(), Fail> {
+    for number in 1..17 {
+        assert!(rt;
+            played(&rt, table_of(&rt, Discard), number, Scene::Turns) == 1 + number,
+            "{number}"
+        );
+        assert!(rt;
+            played(&rt, later_table(&rt), number, Scene::Turns) == number,
+            "{number}"
+        );
+    }
+    Ok(())
+}
+
+#[test]
+fn a_shared_table_takes_a_push_and_answers(rt: HostRuntime) -> Result<(), Fail> {
+    assert_eq!(rt;
+        played(&rt, table_of(&rt, Discard), 16, Scene::Busy),
+        1 + 16 * 25
+    );
+    Ok(())
+}
+
+#[test]
+fn a_later_locked_read_sees_the_push(rt: HostRuntime) -> Result<(), Fail> {
+    assert_eq!(rt; played(&rt, table_of(&rt, Discard), 2, Scene::Reads), 9);
+    Ok(())
+}
+
+#[test]
+fn a_push_of_another_session_is_seen_without_a_lock(rt: HostRuntime) -> Result<(), Fail> {
+    assert_eq!(rt; played(&rt, table_of(&rt, Discard), 2, Scene::Asks), 9);
+    Ok(())
+}

@@ -1,0 +1,54 @@
+//! The calls on records, journals and sinks.
+
+use super::name_a;
+use std::alloc::AllocError;
+use std::test::Fail;
+use tfs_journal::{
+    Decoded, Discard, End, Entries, Entry, MemorySink, Out, Sink, SinkFault, decode, encode,
+};
+use tfs_rules::Act;
+
+#[test]
+fn records_of_entries(rt: HostRuntime) -> Result<(), Fail> {
+    let entry: Entry = Entry {
+        name: name_a(&rt),
+        act: Act::Unlock(None),
+    };
+    let text: Result<Vec<u8>, AllocError> = encode(rt.alloc(), &entry);
+    let mut bytes = "TFJ1\n".as_bytes().to_vec(rt.alloc())?;
+    bytes.extend_from_slice(text?.as_slice())?;
+    let decoded: Result<Decoded, AllocError> = decode(rt.alloc(), bytes.as_slice());
+    let Decoded {
+        format: _,
+        base: _,
+        entries,
+        end,
+    } = decoded?;
+    let entries: Entries = entries;
+    let end: End = end;
+    assert!(rt; end == End::Whole && entries.as_slice().len() == 1);
+    Ok(())
+}
+
+#[test]
+fn ends_of_journals(rt: HostRuntime) -> Result<(), Fail> {
+    let torn = decode(rt.alloc(), b"TFJ")?.end;
+    assert!(rt; torn == End::Torn(0));
+    let damaged = decode(rt.alloc(), b"XXXX\n")?.end;
+    assert!(rt; damaged == End::Damaged(0));
+    Ok(())
+}
+
+#[test]
+fn sinks_in_memory(rt: HostRuntime) {
+    let mut sink: MemorySink = MemorySink::new(rt.alloc(), 2, 1);
+    let taken: Result<usize, SinkFault> = sink.write(b"abc");
+    assert!(rt; taken == Ok(2) && sink.bytes() == b"ab".as_slice());
+}
+
+#[test]
+fn appends(rt: HostRuntime) {
+    let mut out: Out<Discard> = Out::new(Discard);
+    let appended: Result<(), SinkFault> = out.append(b"abc");
+    assert!(rt; appended == Ok(()));
+}

@@ -1,0 +1,262 @@
+//! The calls on shared tables, conversations and workers.
+
+ghost use Rattle.std.specs.Prelude.{◌≡◌, ◌≤◌};
+
+use super::name_a;
+use std::alloc::Global;
+use std::marker::Brand;
+use std::net::{Net, TcpListener, TcpStream};
+use std::process::Abort;
+use std::sync::ledger::Blank;
+use std::sync::{Arc, Mutex, Wait};
+use std::test::Fail;
+use std::thread::Threads;
+use std::time::Clock;
+use tfs_journal::Discard;
+use tfs_serve::{
+    AcceptFault, Desk, Ended, Gate, Gated, Reads, RunFault, ServeFault, Service, SessionDesk,
+    TableDesk, Worker, converse, run_check, work, work_all,
+};
+use tfs_shared::{Lack, Naming, Opened, Session, Shared, Strangers, Unshared, gather, share};
+use tfs_state::Doc;
+use tfs_table::{Bytes, Call, Draft, Impact, Kind, Query, Raw, Refusal, Reply, Table, Texts};
+
+const READ: &[u8] = b"GET /state/a HTTP/1.1\r\nHost: h\r\n\r\n";
+
+/// A gate that admits nobody.
+#[derive(Drop)]
+struct Closed;
+
+impl Gate for Closed {
+    ghost use Rattle.std.specs.Prelude.{None};
+
+    ghost told = { λ gate. None };
+
+    fn admit(&mut self) -> bool {
+        false
+    }
+
+    fn before(&mut self, _call: &Call) {}
+
+    fn after(&mut self, _reply: &Reply) {}
+}
+
+#[test]
+fn conversations(rt: HostRuntime) -> Result<(), Fail> {
+    let mut table = Table::new(rt.alloc(), Discard).ok().expect(&rt, "a table");
+    let mut desk: TableDesk<'_, Discard> = TableDesk {
+        alloc: rt.alloc(),
+        table: &mut table,
+    };
+    let mut reader = READ;
+    let mut writer = Vec::new(rt.alloc());
+    let mut reads: Reads = Reads::new();
+    let ended: Result<Ended, ServeFault> = converse(
+        rt.alloc(),
+        &mut reader,
+        &mut writer,
+        &mut desk,
+        &mut reads,
+    );
+    assert!(rt; ended == Ok(Ended::Clean));
+    let used: u64 = reads.used();
+    assert!(rt; used == 2);
+    Ok(())
+}
+
+#[test]
+fn checks_of_journals(rt: HostRuntime) -> Result<(), Fail> {
+    let mut writer = Vec::new(rt.alloc());
+    let status: Result<u8, RunFault> = run_check(rt.alloc(), b"TFJ1\n", &mut writer);
+    assert!(rt; status.ok() == Some(0) && writer.as_slice() == b"whole\n".as_slice());
+    Ok(())
+}
+
+#[test]
+fn shared_tables(rt: HostRuntime) -> Result<(), Fail> {
+    let table = Table::new(rt.alloc(), Discard).ok().expect(&rt, "a table");
+    shared_by_one(&rt, table, Blank::new(1), Opened::new());
+    Ok(())
+}
+
+/// A table that one session shares with itself.
+fn shared_by_one<
+    R: Threads
+        + Wait
+        + Clock
+        + Abort
+        + Alloc<A = Global>
+        + Net<Stream = TcpStream, Listener = TcpListener>
+        + Sync,
+>(rt: &R, table: Table<Discard>, blank: Blank, opened: Opened)
+    requires { blank.parts ≡ 1 }
+{
+    named::<Brand, R>(rt, table, blank, opened)
+}
+
+fn named<
+    J: Naming + Send + Sync,
+    R: Threads
+        + Wait
+        + Clock
+        + Abort
+        + Alloc<A = Global>
+        + Net<Stream = TcpStream, Listener = TcpListener>
+        + Sync,
+>(rt: &R, table: Table<Discard>, blank: Blank, opened: Opened)
+    requires sessions { (1 ≡ J.sessions) × (J.parts ≡ J.sessions) }
+    requires ledger { (blank.name ≡ J.name) × (blank.parts ≡ J.parts) }
+    requires book { opened ≡ J.book }
+    requires opening { table.journal ≡ J.opening }
+{
+    let made: Result<(Shared<J, Discard>, Vec<Session<J>>), Unshared<Discard>> = share(
+        rt,
+        rt.alloc(),
+        table,
+        1,
+        blank,
+        opened,
+    );
+    let (shared, mut sessions) = made.ok().expect(rt, "a shared table");
+    let before: u64 = shared.opened();
+    assert!(rt; before == 0);
+    for session in sessions.as_mut_slice() {
+        calls(rt, &shared, session);
+        desks(rt, &shared, session);
+    }
+    let sessions = worked(rt, &shared, sessions);
+    let gathered: Result<Table<Discard>, Strangers<J, Discard>> = gather(rt, shared, sessions);
+    is_gathered(rt, gathered);
+}
+
+/// The table has one entry.
+fn is_gathered<J: Naming, R: Wait + Abort>(
+    rt: &R,
+    gathered: Result<Table<Discard>, Strangers<J, Discard>>,
+) {
+    match gathered {
+        Ok(table) => assert!(rt; table.len() == 1),
+        Err(strangers) => {
+            let Strangers {
+                shared,
+                sessions: _sessions,
+                why,
+            } = strangers;
+            shared.close(rt);
+            assert!(rt; why == Lack::Missing && false, "all sessions are there");
+        }
+    }
+}
+
+/// A session's calls.
+fn calls<J: Naming, R: Wait + Abort + Alloc<A = Global>>(
+    rt: &R,
+    shared: &Shared<J, Discard>,
+    session: &mut Session<J>,
+) {
+    let body = Bytes::new(Vec::new(rt.alloc()));
+    let draft = Draft::read(rt.alloc(), Raw::Unlock(body, None))
+        .ok()
+        .expect(rt, "a draft");
+    let submitted: Result<u64, Refusal> = session.submit(rt, shared, name_a(rt), draft);
+    assert!(rt; submitted.ok() == Some(1));
+    let state: Result<Arc<Doc>, Refusal> = session.state(rt, shared, &name_a(rt));
+    assert!(rt; state.is_err());
+    let query = Query {
+        kind: Kind::All,
+        texts: Texts::new(Vec::new(rt.alloc())),
+    };
+    let impact: Result<Impact, Refusal> = session.impact(shared, &name_a(rt), &query);
+    assert!(rt; impact.is_err());
+    let (accepted, seen): (u64, u64) = (session.accepted(), session.seen());
+    assert!(rt; accepted == 1 && seen == 1);
+}
+
+/// A session's desk behind a gate.
+fn desks<J: Naming, R: Wait + Abort + Alloc<A = Global>>(
+    rt: &R,
+    shared: &Shared<J, Discard>,
+    session: &mut Session<J>,
+) {
+    let turn = Mutex::new(());
+    let service = Service {
+        rt,
+        alloc: rt.alloc(),
+        shared,
+        turn: &turn,
+    };
+    asks(rt, &service, session);
+}
+
+/// A call through a desk behind a gate.
+fn asks<J: Naming, R: Wait + Abort + Alloc<A = Global>>(
+    rt: &R,
+    service: &Service<'_, J, Discard, R>,
+    session: &mut Session<J>,
+) {
+    let desk: SessionDesk<'_, '_, '_, J, Discard, R> = SessionDesk { service, session };
+    let mut gate = Closed;
+    let mut gated: Gated<'_, SessionDesk<'_, '_, '_, J, Discard, R>, Closed> = Gated {
+        desk,
+        gate: &mut gate,
+    };
+    let reply: Reply = gated.answer(Call::Read(name_a(rt)));
+    assert!(rt; matches!(reply, Reply::Refused(Refusal::NoState)));
+}
+
+/// A session that works alone, behind a gate that admits nobody.
+fn works<
+    J: Naming,
+    R: Wait + Clock + Abort + Alloc<A = Global> + Net<Stream = TcpStream, Listener = TcpListener>,
+>(rt: &R, shared: &Shared<J, Discard>, listener: &TcpListener, session: &mut Session<J>) {
+    let turn = Mutex::new(());
+    let service = Service {
+        rt,
+        alloc: rt.alloc(),
+        shared,
+        turn: &turn,
+    };
+    let worked: Result<(), AcceptFault> = work(&service, listener, &mut Closed, session);
+    assert!(rt; worked == Ok(()));
+}
+
+/// Sessions that have worked, alone and as workers, behind gates that admit nobody.
+fn worked<
+    J: Naming + Send + Sync,
+    R: Threads
+        + Wait
+        + Clock
+        + Abort
+        + Alloc<A = Global>
+        + Net<Stream = TcpStream, Listener = TcpListener>
+        + Sync,
+>(rt: &R, shared: &Shared<J, Discard>, sessions: Vec<Session<J>>) -> Vec<Session<J>> {
+    let listener: TcpListener = TcpListener::bind(rt, "127.0.0.1:0")
+        .ok()
+        .expect(rt, "a listener");
+    let mut workers = Vec::new(rt.alloc());
+    for mut session in sessions {
+        works(rt, shared, &listener, &mut session);
+        let worker: Worker<J, Closed> = Worker {
+            gate: Closed,
+            session,
+            failed: true,
+        };
+        assert!(rt; workers.push(worker).is_ok());
+    }
+    work_all(rt, rt.alloc(), &listener, workers.as_mut_slice(), shared);
+    idle(rt, workers)
+}
+
+/// The sessions of workers whose listener gave connections.
+fn idle<J: Naming>(
+    rt: &(impl Alloc<A = Global> + Abort),
+    workers: Vec<Worker<J, Closed>>,
+) -> Vec<Session<J>> {
+    let mut sessions = Vec::new(rt.alloc());
+    for worker in workers {
+        assert!(rt; !worker.failed);
+        assert!(rt; sessions.push(worker.session).is_ok());
+    }
+    sessions
+}

@@ -1,0 +1,121 @@
+//! The calls on tables, requests and replies.
+
+use super::{LOCK, bytes_of, name_a};
+use std::alloc::{AllocError, Global};
+use std::process::Abort;
+use std::sync::Arc;
+use std::test::Fail;
+use tfs_http::{Form, Request, Routes, Take, call_of, take, write_reply};
+use tfs_journal::{Discard, End, Entry};
+use tfs_lock::LockInfo;
+use tfs_state::Doc;
+use tfs_table::{
+    Bytes, Call, Chosen, Draft, Impact, Kind, OpenFault, Query, Raw, Refusal, Reply, Table, Text,
+    Texts, first_unlawful,
+};
+
+/// A new table.
+fn table_of(rt: &(impl Alloc<A = Global> + Abort)) -> Table<Discard> {
+    let made: Result<Table<Discard>, OpenFault> = Table::new(rt.alloc(), Discard);
+    made.ok().expect(rt, "a table")
+}
+
+/// The draft of a lock.
+fn lock_of(rt: &(impl Alloc<A = Global> + Abort)) -> Result<Draft, AllocError> {
+    let body: Bytes = Bytes::new(bytes_of(rt, LOCK)?);
+    let draft: Result<Draft, Refusal> = Draft::read(rt.alloc(), Raw::Lock(body));
+    Ok(draft.ok().expect(rt, "a draft"))
+}
+
+/// A query of one text.
+fn query_of(rt: &impl Alloc<A = Global>) -> Result<Query, AllocError> {
+    let mut texts: Vec<Text> = Vec::new(rt.alloc());
+    texts.push(Text::new(String::from_str(rt.alloc(), "t.a")?))?;
+    let texts: Texts = Texts::new(texts);
+    let kind: Kind = Kind::Any;
+    Ok(Query { kind, texts })
+}
+
+#[test]
+fn changes_and_reads(rt: HostRuntime) -> Result<(), Fail> {
+    let mut table = table_of(&rt);
+    let applied: Result<u64, Refusal> = table.apply(name_a(&rt), lock_of(&rt)?);
+    assert!(rt; applied.ok() == Some(1));
+    let state: Result<Arc<Doc>, Refusal> = table.state(&name_a(&rt));
+    is_no_state(&rt, state.err());
+    let impact: Result<Impact, Refusal> = table.impact(&name_a(&rt), &query_of(&rt)?);
+    is_no_state(&rt, impact.err());
+    Ok(())
+}
+
+/// The refusal for a name that has no state.
+fn is_no_state(rt: &impl Abort, refusal: Option<Refusal>) {
+    let refusal = refusal.expect(rt, "a refusal");
+    assert!(rt; refusal.name() == "NoState" && refusal.status() == 404 && refusal.number() == 20);
+}
+
+#[test]
+fn looks_at_a_table(rt: HostRuntime) -> Result<(), Fail> {
+    let mut table = table_of(&rt);
+    assert!(rt; table.apply(name_a(&rt), lock_of(&rt)?).is_ok());
+    let len: usize = table.len();
+    assert!(rt; len == 1);
+    let entry: &Entry = table.entry(0);
+    assert!(rt; entry.name.text() == "a");
+    let holder: Option<&Arc<LockInfo>> = table.holder(&name_a(&rt));
+    assert!(rt; holder.is_some());
+    let stopped: bool = table.stopped();
+    assert!(rt; !stopped);
+    let _sink: &Discard = table.sink();
+    Ok(())
+}
+
+#[test]
+fn tables_are_opened(rt: HostRuntime) -> Result<(), Fail> {
+    let opened: Result<(Table<Discard>, End), OpenFault> = Table::open(
+        rt.alloc(),
+        b"TFJ1\n",
+        Discard,
+    );
+    let (table, end) = opened.ok().expect(&rt, "a table");
+    assert!(rt; end == End::Whole);
+    let found: Result<Option<u64>, AllocError> = first_unlawful(rt.alloc(), table.base(), &[]);
+    assert!(rt; found? == None);
+    Ok(())
+}
+
+#[test]
+fn requests_and_replies(rt: HostRuntime) -> Result<(), Fail> {
+    let taken: Result<Take, AllocError> = take(
+        rt.alloc(),
+        b"GET /state/a HTTP/1.1\r\nHost: h\r\n\r\n",
+    );
+    let Take::Got(request, used) = taken? else {
+        assert!(rt; false, "a request");
+        return Ok(());
+    };
+    let used: usize = used;
+    assert!(rt; used == 34);
+    is_read(&rt, request)
+}
+
+/// A request of the state of `a`, and the reply that there is none.
+fn is_read(rt: &(impl Alloc<A = Global> + Abort), request: Request) -> Result<(), Fail> {
+    let form: Form = request.form();
+    assert!(rt; !form.close && !form.bare);
+    let routes: Routes = Routes::new(rt.alloc())?;
+    let call: Result<Call, Refusal> = call_of(rt.alloc(), &routes, request);
+    assert!(rt; matches!(call, Ok(Call::Read(_))));
+    let mut out: Vec<u8> = Vec::new(rt.alloc());
+    let reply: Reply = Reply::Refused(Refusal::NoState);
+    let written: Result<(), AllocError> = write_reply(rt.alloc(), &reply, form, &mut out);
+    written?;
+    assert!(rt; out.as_slice().starts_with(b"HTTP/1.1 404 Not Found\r\n"));
+    Ok(())
+}
+
+#[test]
+fn chosen_instances(rt: HostRuntime) {
+    let chosen: Chosen = Chosen::new(Vec::new(rt.alloc()));
+    assert!(rt; chosen.as_slice().is_empty());
+}

@@ -1,0 +1,2 @@
+pub mod PlainImpactLemmas
+pub mod PlainWalksLemmas

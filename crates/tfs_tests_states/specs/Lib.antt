@@ -1,0 +1,2 @@
+-- What the plain programs look for.
+pub mod PlainWalks

@@ -1,0 +1,85 @@
+//! Which bytes spell a JSON value, and what stands at its members, by hand from RFC 8259.
+
+use super::rows::parts_of;
+use serde_json::Value;
+use std::alloc::Global;
+use std::process::Abort;
+use std::test::Fail;
+use tfs_json::{
+    JsonFault, list_at, member_at, optional_text_at, read_value, text_at, whole_number_at,
+};
+
+/// An object with members of each kind, of which one is there twice.
+const OBJECT: &str =
+    r#"{"n":18446744073709551615,"t":"\u00e9\n","f":4.0,"m":-1,"e":"","x":1e0,"z":null,"l":[{}],"v":[],"l":[1,null]}"#;
+
+/// A member each: its name, the whole number, the text, the text that may be absent, how long the list is that may be absent,
+/// and whether it is there.
+const MEMBERS: &str = r#"n => Some(18446744073709551615) None None None true
+t => None Some("é\n") Some(Some("é\n")) None true
+f => None None None None true
+m => None None None None true
+e => None Some("") Some(Some("")) None true
+x => None None None None true
+z => None None Some(None) Some(0) false
+l => None None None Some(2) true
+v => None None None Some(0) true
+q => None None Some(None) Some(0) false
+N => None None Some(None) Some(0) false"#;
+
+/// What each call says of a member.
+fn answers_at(rt: &impl Alloc<A = Global>, value: &Value, name: &str) -> Result<String, Fail> {
+    let number = whole_number_at(value, name);
+    let text = text_at(value, name);
+    let optional = optional_text_at(value, name);
+    let length = list_at(value, name).map(|list| list.len());
+    let is_there = member_at(value, name).is_some();
+    Ok(format!(in rt.alloc(); "{number:?} {text:?} {optional:?} {length:?} {is_there}")?)
+}
+
+/// Compares what is said of a row's member.
+fn expect_member(
+    rt: &(impl Alloc<A = Global> + Abort),
+    value: &Value,
+    row: &str,
+) -> Result<(), Fail> {
+    let (name, wanted) = parts_of(rt, row);
+    let found = answers_at(rt, value, name)?;
+    assert!(rt; found.as_str() == wanted, "{found} at {name}");
+    Ok(())
+}
+
+#[test]
+fn members_are_read(rt: HostRuntime) -> Result<(), Fail> {
+    let value = read_value(rt.alloc(), OBJECT.as_bytes())?;
+    for row in MEMBERS.lines() {
+        expect_member(&rt, &value, row)?;
+    }
+    Ok(())
+}
+
+/// Looks at whether bytes spell a value; those that spell none are no JSON text.
+fn expect_value(rt: &(impl Alloc<A = Global> + Abort), bytes: &[u8], is_one: bool) {
+    match read_value(rt.alloc(), bytes) {
+        Ok(_) => assert!(rt; is_one, "{bytes:?}"),
+        Err(fault) => assert!(rt; !is_one && fault == JsonFault::NotJson, "{bytes:?}"),
+    }
+}
+
+#[test]
+fn bytes_that_are_no_utf8_spell_no_value(rt: HostRuntime) {
+    expect_value(&rt, b"\"L\xc3\xa9\"", true);
+    expect_value(&rt, b"\xff", false);
+    expect_value(&rt, b"\"L\xff\"", false);
+    expect_value(&rt, b"\"L\xc3\"", false);
+    expect_value(&rt, b"\"\xed\xa0\x80\"", false);
+}
+
+#[test]
+fn white_space_stands_between_tokens_and_at_both_ends(rt: HostRuntime) {
+    expect_value(&rt, b" \t\r\n{ \"L\"\n:\r1\t} \r\n\t", true);
+    expect_value(&rt, b"", false);
+    expect_value(&rt, b"\"L\n1\"", false);
+    expect_value(&rt, b"\x0b{}", false);
+    expect_value(&rt, b"\xef\xbb\xbf{}", false);
+}

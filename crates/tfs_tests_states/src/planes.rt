@@ -1,0 +1,243 @@
+//! Rows and planes: worked values, long chains, and closures that the plain search finds too.
+ghost use Rattle.std.specs.Prelude.{◌≡◌, ◌≤◌, IfOk};
+
+use super::plain_walks::reached;
+use super::shapes::{ACYCLIC, CYCLIC, Shape, has, pairs_of, plane_of, relate};
+use std::alloc::{AllocError, Global};
+use std::process::Abort;
+use tfs_planes::{MAX, Plane, Row, count_words, equal_words, is_size, meet_words, union_words};
+
+#[test]
+fn sizes_go_up_to_4096(rt: HostRuntime) {
+    assert_eq!(rt; MAX, 4096);
+    assert!(rt; is_size(0) && is_size(4096) && !is_size(4097) && !is_size(8192));
+}
+
+#[test]
+fn kernels_give_the_worked_values(rt: HostRuntime) {
+    let mut words = [1u64, 0];
+    union_words(&mut words, &[2, 4]);
+    assert!(rt; words == [3, 4]);
+    let mut words = [3u64, 4];
+    meet_words(&mut words, &[2, 5]);
+    assert!(rt; words == [2, 4]);
+    assert!(rt; count_words(&[3, 4]) == 2 + 1 && count_words(&[]) == 0);
+    assert!(rt; count_words(&[u64::MAX; 17]) == 17 * 64);
+}
+
+#[test]
+fn nine_words_that_differ_in_one_are_not_equal(rt: HostRuntime) {
+    let words = [7u64; 9];
+    assert!(rt; equal_words(&words, &[7; 9]));
+    assert!(rt; !equal_words(&words, &[7, 7, 7, 7, 7, 7, 7, 7, 6]));
+    assert!(rt; !equal_words(&words, &[6, 7, 7, 7, 7, 7, 7, 7, 7]));
+}
+
+/// Makes a number a member that is below the size.
+fn set(row: &mut Row, i: usize)
+    ensures { row.new.size ≡ row.old.size }
+{
+    if i < row.size() {
+        row.set(i);
+    }
+}
+
+/// A row of this size with the members of a list.
+fn row_of(alloc: Global, size: usize, members: &[usize]) -> Result<Row, AllocError>
+    requires { size ≤ 4096 }
+    ensures { IfOk result (λ row. row.size ≡ size) }
+{
+    let mut row = Row::new(alloc, size)?;
+    for i in members {
+        set(&mut row, *i);
+    }
+    Ok(row)
+}
+
+/// Compares the members of a row with a list, and their number.
+fn expect_members(
+    rt: &(impl Alloc<A = Global> + Abort),
+    row: &Row,
+    wanted: &[usize],
+) -> Result<(), AllocError> {
+    let members = row.members(rt.alloc())?;
+    assert!(rt; members.as_slice() == wanted && row.count() == wanted.len());
+    Ok(())
+}
+
+#[test]
+fn a_row_is_a_set_of_numbers(rt: HostRuntime) -> Result<(), AllocError> {
+    let mut row = row_of(rt.alloc(), 65, &[64])?;
+    assert!(rt; row.size() == 65);
+    expect_members(&rt, &row, &[64])?;
+    row.union_with(&row_of(rt.alloc(), 65, &[64, 0])?);
+    expect_members(&rt, &row, &[0, 64])?;
+    row.meet_with(&row_of(rt.alloc(), 65, &[0, 1])?);
+    expect_members(&rt, &row, &[0])?;
+    row.clear();
+    expect_members(&rt, &row, &[])
+}
+
+#[test]
+fn the_next_member_is_the_first_from_a_number_on(rt: HostRuntime) -> Result<(), AllocError> {
+    let row = row_of(rt.alloc(), 200, &[0, 1, 63, 64, 130, 199])?;
+    for (from, member) in [
+        (0, 0),
+        (1, 1),
+        (2, 63),
+        (64, 64),
+        (65, 130),
+        (131, 199),
+        (199, 199),
+    ] {
+        assert!(rt; row.next_member(from) == Some(member), "from {from}");
+    }
+    for from in [200, 511, 512, 4096, usize::MAX] {
+        assert!(rt; row.next_member(from) == None, "from {from}");
+    }
+    Ok(())
+}
+
+#[test]
+fn rows_of_a_plane_are_copied_and_united(rt: HostRuntime) -> Result<(), AllocError> {
+    let mut plane = plane_of(rt.alloc(), 100, &[(3, 70), (4, 5)])?;
+    let mut row = Row::new(rt.alloc(), 100)?;
+    plane.row_into(3, &mut row);
+    expect_members(&rt, &row, &[70])?;
+    plane.union_row_into(4, &mut row);
+    expect_members(&rt, &row, &[5, 70])?;
+    plane.clear();
+    plane.row_into(3, &mut row);
+    expect_members(&rt, &row, &[])
+}
+
+#[test]
+fn the_largest_plane_has_its_last_row(rt: HostRuntime) -> Result<(), AllocError> {
+    let plane = plane_of(rt.alloc(), MAX, &[(MAX - 1, MAX - 1)])?;
+    let mut row = Row::new(rt.alloc(), MAX)?;
+    plane.row_into(MAX - 1, &mut row);
+    expect_members(&rt, &row, &[MAX - 1])
+}
+
+/// A plane in which each number is related to the next.
+fn chain(alloc: Global, size: usize) -> Result<Plane, AllocError>
+    requires { size ≤ 4096 }
+{
+    let mut plane = Plane::new(alloc, size)?;
+    for next in 1..size {
+        relate(&mut plane, next - 1, next);
+    }
+    Ok(plane)
+}
+
+/// Looks at a number of a closed chain: it leads to the last one, and neither to the first nor to itself.
+fn expect_link(rt: &impl Abort, plane: &Plane, i: usize) {
+    let size = plane.size();
+    assert!(rt; !has(plane, i, 0) && !has(plane, i, i), "{i} of {size}");
+    let is_last = i == size.saturating_sub(1);
+    assert!(rt;
+        is_last || has(plane, i, size.saturating_sub(1)),
+        "{i} of {size}"
+    );
+}
+
+#[test]
+fn a_closed_chain_leads_from_each_to_the_last(rt: HostRuntime) -> Result<(), AllocError> {
+    for size in [1, 63, 64, 65, 511, 512, 513, 2048, 2049, 4096] {
+        let mut plane = chain(rt.alloc(), size)?;
+        plane.close();
+        expect_link(&rt, &plane, 0);
+        expect_link(&rt, &plane, size / 2);
+        expect_link(&rt, &plane, size - 1);
+    }
+    Ok(())
+}
+
+/// Whether a row of a plane has the numbers that the plain search finds from it.
+fn row_agrees(
+    alloc: Global,
+    plane: &Plane,
+    pairs: &[(usize, usize)],
+    i: usize,
+) -> Result<bool, AllocError> {
+    let found = reached(alloc, pairs, i)?;
+    let mut agrees = true;
+    for j in 0..plane.size() {
+        agrees &= has(plane, i, j) == found.contains(&j);
+    }
+    Ok(agrees)
+}
+
+/// The closure of a list of pairs.
+fn closure_of(alloc: Global, size: usize, pairs: &[(usize, usize)]) -> Result<Plane, AllocError>
+    requires { size ≤ 4096 }
+{
+    let mut plane = plane_of(alloc, size, pairs)?;
+    plane.close();
+    Ok(plane)
+}
+
+/// Compares the closure of a relation with what the plain search finds, from the last number and from each multiple of `step`.
+fn expect_closure(
+    rt: &(impl Alloc<A = Global> + Abort),
+    shape: Shape,
+    size: usize,
+    step: usize,
+) -> Result<(), AllocError>
+    requires { size ≤ 4096 }
+{
+    let pairs = pairs_of(rt.alloc(), shape, size)?;
+    let plane = closure_of(rt.alloc(), size, &pairs)?;
+    for i in 0..size {
+        if i % step.max(1) == 0 || i + 1 == size {
+            let agrees = row_agrees(rt.alloc(), &plane, &pairs, i)?;
+            assert!(rt; agrees, "{shape:?} of {size} from {i}");
+        }
+    }
+    Ok(())
+}
+
+#[test]
+fn the_closure_of_small_random_relations_is_what_the_plain_search_finds(
+    rt: HostRuntime,
+) -> Result<(), AllocError> {
+    for size in 1..41 {
+        expect_closure(&rt, Shape::Random, size, 1)?;
+    }
+    Ok(())
+}
+
+#[test]
+fn the_closure_of_larger_random_relations_is_what_the_plain_search_finds(
+    rt: HostRuntime,
+) -> Result<(), AllocError> {
+    for size in 41..201 {
+        expect_closure(&rt, Shape::Random, size, size / 2)?;
+    }
+    Ok(())
+}
+
+/// The same of relations of six sizes.
+fn expect_closures(
+    rt: &(impl Alloc<A = Global> + Abort),
+    shapes: &[Shape],
+) -> Result<(), AllocError> {
+    for shape in shapes {
+        for size in [0, 1, 2, 63, 64, 65] {
+            expect_closure(rt, *shape, size, size / 2)?;
+        }
+    }
+    Ok(())
+}
+
+#[test]
+fn the_closure_of_each_named_relation_is_what_the_plain_search_finds(
+    rt: HostRuntime,
+) -> Result<(), AllocError> {
+    expect_closures(&rt, &ACYCLIC)?;
+    expect_closures(&rt, &CYCLIC)?;
+    for shape in [Shape::Chain, Shape::FallingChain, Shape::Layered] {
+        expect_closure(&rt, shape, 130, 43)?;
+    }
+    Ok(())
+}

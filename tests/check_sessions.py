@@ -1,0 +1,104 @@
+"""Runs `tfstated serve` with up to 16 sessions that work at once: each change that is acknowledged is an entry of the journal, pushes
+of the same states are judged one after another, and answers to queries beside them never go back."""
+import json
+import sys
+import threading
+from pathlib import Path
+
+from checking import checks_in, expect, run_checks
+from journal_reader import base_text
+from serve_program import Server, asked, entries_of, fresh, run, state
+
+CHANGES, NAMES = 100, 1024
+# A journal that begins at position 7, with one of the names.
+LATER = b"TFJ2\n" + base_text(7, [(b"n0", b"", b"")])
+
+
+def chain(serial):
+    """A state in which t.b depends on t.a, and t.c on t.b."""
+    return state(serial, ("a", "x.y"), ("b", "t.a"), ("c", "t.b"))
+
+
+def at_once(server, count, talk):
+    """What this gives of so many sessions, each with a connection of its own, which talk at the same time."""
+    given = [None] * count
+
+    def session(number):
+        with server.connect() as connection:
+            given[number] = talk(connection, number)
+
+    threads = [threading.Thread(target=session, args=(number,)) for number in range(count)]
+    for thread in threads:
+        thread.start()
+    for thread in threads:
+        thread.join()
+    return given
+
+
+def unlock_often(connection, number):
+    """A hundred unlocks; those of 16 sessions are of all the 1,024 names. How many are accepted."""
+    replies = [asked(connection, "UNLOCK", f"/state/n{(CHANGES * number + turn) % NAMES}") for turn in range(CHANGES)]
+    return replies.count((200, b""))
+
+
+def check_sessions_make_a_hundred_changes_each():
+    for old, base, count in ((b"TFJ1\n", "base 0 0", 4), (b"TFJ1\n", "base 0 0", 16), (LATER, "base 7 1", 16)):
+        server = Server(workers=count, old=fresh(old))
+        expect(at_once(server, count, unlock_often), [CHANGES] * count, f"{count} sessions behind {base}")
+        if count == 16:
+            expect(server.ask("UNLOCK", "/state/z"), (507, b'{"error":"TableFull"}'), "no room for one more name")
+        lines = run("check", fresh(server.kill()))[0].decode().splitlines()
+        expect((lines[0], lines[-1], len(lines)), (base, "whole", CHANGES * count + 2))
+        names = sorted(f"n{(CHANGES * number + turn) % NAMES}" for number in range(count) for turn in range(CHANGES))
+        expect(sorted(line.split()[2] for line in lines[1:-1]), names, f"the entries of {count} sessions")
+
+
+def push_all(connection, number):
+    """A hundred pushes of rising serials. How many are accepted; the others have a serial that is too low by then."""
+    replies = [asked(connection, "POST", "/state/a", chain(serial)) for serial in range(1, CHANGES + 1)]
+    expect(set(replies) <= {(200, b""), (409, b'{"error":"SerialTooLow"}')}, True, f"session {number}")
+    return replies.count((200, b""))
+
+
+def check_sessions_push_the_same_states():
+    for count in (4, 16):
+        server = Server(workers=count)
+        accepted = sum(at_once(server, count, push_all))
+        expect(CHANGES <= accepted <= CHANGES * count, True, f"{accepted} pushes of {count} sessions are accepted")
+        expect(server.ask("GET", "/state/a"), (200, chain(CHANGES)))
+        serials = [json.loads(parts[1])["serial"] for _, _, parts in entries_of(server.kill())]
+        expect((len(serials), serials), (accepted, sorted(serials)), f"{count} sessions: an entry for each, and no serial falls")
+
+
+def impact(connection):
+    """The position and the serial of the answer to what a change of the first resource reaches, which is the others."""
+    status, text = asked(connection, "GET", "/impact/a/any?of=t.a")
+    answer = json.loads(text)
+    expect((status, answer["instances"]), (200, ["t.b", "t.c"]))
+    return answer["position"], answer["serial"]
+
+
+def push_or_ask(connection, number):
+    """The first session pushes, and asks after each push; the other one asks a thousand times. What they are told."""
+    if number:
+        return [impact(connection) for _ in range(1000)]
+    told = []
+    for serial in range(2, CHANGES + 1):
+        expect(asked(connection, "POST", "/state/a", chain(serial)), (200, b""))
+        told.append(impact(connection))
+    return told
+
+
+def check_queries_go_on_beside_changes():
+    server = Server()
+    expect(server.ask("POST", "/state/a", chain(1)), (200, b""))
+    own, others = at_once(server, 2, push_or_ask)
+    expect(own, [(serial, serial) for serial in range(2, CHANGES + 1)], "each push is seen by its session's next query")
+    expect(others, sorted(others), "no answer goes back")
+    expect(all(position == serial <= CHANGES for position, serial in others), True, "an answer is of one journal")
+    expect(server.ask("GET", "/impact/a/any?of=t.a")[0], 200)
+    expect(len(entries_of(Path(server.new).read_bytes())), CHANGES)
+
+
+if __name__ == "__main__":
+    sys.exit(run_checks(checks_in(globals())))
