@@ -53,9 +53,26 @@ def check_sessions_make_a_hundred_changes_each():
         expect(sorted(line.split()[2] for line in lines[1:-1]), names, f"the entries of {count} sessions")
 
 
+def unlock_one(connection, _number):
+    """A hundred forced unlocks of one name. How many are accepted."""
+    return [asked(connection, "UNLOCK", "/state/a") for _ in range(CHANGES)].count((200, b""))
+
+
+def check_four_sessions_change_one_name():
+    server = Server(workers=4)
+    expect(at_once(server, 4, unlock_one), [CHANGES] * 4)
+    lines = run("check", fresh(server.kill()))[0].decode().splitlines()
+    expect(lines, ["base 0 0", *(f"{entry} unlock a" for entry in range(1, 4 * CHANGES + 1)), "whole"])
+
+
+def bare(serial):
+    """A state without resources."""
+    return b'{"version":4,"serial":%d,"lineage":"L1"}' % serial
+
+
 def push_all(connection, number):
     """A hundred pushes of rising serials. How many are accepted; the others have a serial that is too low by then."""
-    replies = [asked(connection, "POST", "/state/a", chain(serial)) for serial in range(1, CHANGES + 1)]
+    replies = [asked(connection, "POST", "/state/a", bare(serial)) for serial in range(1, CHANGES + 1)]
     expect(set(replies) <= {(200, b""), (409, b'{"error":"SerialTooLow"}')}, True, f"session {number}")
     return replies.count((200, b""))
 
@@ -65,7 +82,7 @@ def check_sessions_push_the_same_states():
         server = Server(workers=count)
         accepted = sum(at_once(server, count, push_all))
         expect(CHANGES <= accepted <= CHANGES * count, True, f"{accepted} pushes of {count} sessions are accepted")
-        expect(server.ask("GET", "/state/a"), (200, chain(CHANGES)))
+        expect(server.ask("GET", "/state/a"), (200, bare(CHANGES)))
         serials = [json.loads(parts[1])["serial"] for _, _, parts in entries_of(server.kill())]
         expect((len(serials), serials), (accepted, sorted(serials)), f"{count} sessions: an entry for each, and no serial falls")
 

@@ -19,6 +19,8 @@ mod shared;
 #[cfg(test)]
 mod surface;
 #[cfg(test)]
+mod terms;
+#[cfg(test)]
 mod texts;
 #[cfg(test)]
 mod waiting;

@@ -5,6 +5,8 @@
 #[cfg(test)]
 mod addresses;
 #[cfg(test)]
+mod chains;
+#[cfg(test)]
 mod index;
 #[cfg(test)]
 mod instances;

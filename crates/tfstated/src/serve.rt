@@ -16,7 +16,7 @@ use tfs_conversation::RunFault;
 use tfs_ends::Fault;
 use tfs_records::FileSink;
 use tfs_serve::{Obstacle, Open, serve};
-use tfs_table::Table;
+use tfs_table::{OpenFault, Table};
 
 /// Reads the old journal, if there is one, makes the new file, goes on from the old journal in it, and has workers answer connections.
 /// It ends by its first fault. Gives the program's status.
@@ -51,27 +51,43 @@ fn table_of<R: AllocGlobal + Files<File = File> + Eprint>(
     rt: &R,
     asked: &Serving,
 ) -> Result<Table<FileSink>, ExitCode> {
-    let old = match &asked.old {
-        Some(old) => match fs::read(rt, old.as_str()) {
-            Ok(bytes) => Some(bytes),
-            Err(error) => return Err(end_without_file(rt, Fault::CannotRead, &error)),
-        },
-        None => None,
-    };
+    let old = old_journal(rt, asked)?;
     let sink = match FileSink::create_new(rt, asked.new.as_str()) {
         Ok(sink) => sink,
         Err(error) => return Err(end_without_file(rt, Fault::CannotCreate, &error)),
     };
-    let made = match old {
-        Some(bytes) => match Table::open(rt.alloc(), bytes.as_slice(), sink) {
-            Ok((table, _)) => Ok(table),
-            Err(fault) => Err(fault),
-        },
-        None => Table::new(rt.alloc(), sink),
-    };
-    match made {
+    match opened(rt, old, sink) {
         Ok(table) => Ok(table),
         Err(fault) => Err(end_with(rt, RunFault::Opening(fault))),
+    }
+}
+
+/// The bytes of the old journal, where one is named.
+fn old_journal<R: AllocGlobal + Files<File = File> + Eprint>(
+    rt: &R,
+    asked: &Serving,
+) -> Result<Option<Vec<u8>>, ExitCode> {
+    let Some(old) = &asked.old else {
+        return Ok(None);
+    };
+    match fs::read(rt, old.as_str()) {
+        Ok(bytes) => Ok(Some(bytes)),
+        Err(error) => Err(end_without_file(rt, Fault::CannotRead, &error)),
+    }
+}
+
+/// The table that goes on from the old journal, or a new one, over a sink.
+fn opened(
+    rt: &impl AllocGlobal,
+    old: Option<Vec<u8>>,
+    sink: FileSink,
+) -> Result<Table<FileSink>, OpenFault> {
+    match old {
+        Some(bytes) => {
+            let (table, _) = Table::open(rt.alloc(), bytes.as_slice(), sink)?;
+            Ok(table)
+        }
+        None => Table::new(rt.alloc(), sink),
     }
 }
 

@@ -2,9 +2,12 @@
 
 use super::name_a;
 use std::alloc::AllocError;
+use std::fs::{self, File};
+use std::io;
 use std::test::Fail;
 use tfs_journal::{
-    Decoded, Discard, End, Entries, Entry, MemorySink, Out, Sink, SinkFault, decode, encode,
+    Decoded, Discard, End, Entries, Entry, FileSink, MemorySink, Out, Sink, SinkFault, decode,
+    encode,
 };
 use tfs_rules::Act;
 
@@ -51,4 +54,16 @@ fn appends(rt: HostRuntime) {
     let mut out: Out<Discard> = Out::new(Discard);
     let appended: Result<(), SinkFault> = out.append(b"abc");
     assert!(rt; appended == Ok(()));
+}
+
+#[test]
+fn sinks_over_files(rt: HostRuntime) -> Result<(), Fail> {
+    let path = "/tmp/tfs_tests_requests_file_sink";
+    let _ = fs::remove_file(&rt, path);
+    let made: io::Result<FileSink> = FileSink::create_new(&rt, path);
+    let mut sink: FileSink<File> = made?;
+    let taken: Result<usize, SinkFault> = sink.write(b"abc");
+    assert!(rt; taken == Ok(3));
+    fs::remove_file(&rt, path)?;
+    Ok(())
 }

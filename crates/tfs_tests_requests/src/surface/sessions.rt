@@ -143,7 +143,8 @@ fn is_gathered<J: Naming, R: Wait + Abort>(
                 why,
             } = strangers;
             shared.close(rt);
-            assert!(rt; why == Lack::Missing && false, "all sessions are there");
+            let why: Lack = why;
+            panic!(rt; "the table isn't gathered: {why:?}");
         }
     }
 }
