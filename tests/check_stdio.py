@@ -9,7 +9,7 @@ import sys
 from checking import S1, S2, SECONDS, checks_in, expect, run_checks
 import stdio_model as model
 from stdio_model import CLEAN, CUT, DONE, REFUSED, refusal_text, reply_text
-from stdio_program import MAX_READ, PROGRAM, USAGE, Talk, run, run_in_pieces
+from stdio_program import MAX_READ, PROGRAM, USAGE, Talk, request_text, run, run_in_pieces
 
 PUSH_HEAD = b"POST /state/a HTTP/1.1\r\nHost: h\r\nContent-Length: 41\r\n\r\n"
 GET = b"GET /state/a HTTP/1.1\r\nHost: h\r\n\r\n"
@@ -187,6 +187,25 @@ def check_a_body_of_16_mib_is_taken_in_pieces():
         talk.process.stdin.write(GET)
         output, status, errors = talk.end()
         expect((output == reply_text(200, body), status, errors), (True, CLEAN, b""), f"pieces of {size}, GET")
+
+
+def check_each_call_is_answered_at_the_limits_of_everything():
+    target, held = "/state/" + "n" * 64, "?ID=" + "i" * 256
+    lock = b'{"ID":"' + b"i" * 256 + b'"}'
+    lock += b" " * (65536 - len(lock))
+    links = [resource("[{}]", name="i0"), *(resource('[{"dependencies":["t.i%d"]}]' % (i - 1), name=f"i{i}") for i in range(1, 4096))]
+    body = with_resources("[" + ",".join(links) + "]", serial=18446744073709551615)
+    body += b" " * (MAX_BODY - len(body))
+    reached = ",".join(f'"t.i{i}"' for i in range(1, 4096))
+    answer = f'{{"instances":[{reached}],"position":2,"serial":18446744073709551615}}'.encode()
+    query = "/impact/" + "n" * 64 + "/any?" + "&".join(["of=t.i0"] * 64)
+    asked = [
+        ("LOCK", target, lock, DONE), ("POST", target + held, body, DONE), ("GET", target, b"", reply_text(200, body)),
+        ("LOCK", target, b'{"ID":"B"}', reply_text(423, lock)), ("GET", query, b"", reply_text(200, answer)),
+        ("DELETE", target + held, b"", DONE), ("GET", target, b"", NO_STATE), ("UNLOCK", target, lock, DONE),
+    ]
+    output = b"".join(reply for *_, reply in asked)
+    expect(run(b"".join(request_text(*words) for *words, _ in asked)) == (output, CLEAN, b""), True)
 
 
 def check_reads_are_limited():
