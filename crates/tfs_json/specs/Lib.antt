@@ -1,1 +1,4 @@
 pub mod Json
+pub mod Kept
+pub mod Tree
+pub mod Taken

@@ -1,5 +1,9 @@
 //! The faults of JSON texts.
 
+ghost use Rattle.std.specs.Prelude.{◌≡◌, ◌≢◌, [], ◌∷◌, ◌++◌, Err, OnOk};
+
+use json::Invalid;
+use std::alloc::{AllocError, Allocator};
 use thiserror::Error;
 
 /// Why bytes are not read as a JSON value.
@@ -11,4 +15,42 @@ pub enum JsonFault {
     /// A request for memory was refused.
     #[error("no memory to read JSON")]
     NoMemory,
+}
+
+impl From<Invalid> for JsonFault {
+    ghost use Rattle.std.specs.Prelude.{◌≡◌};
+    ghost use Rattle.tfs_json.specs.declared.fault.JsonFault.TheVariants.{NotJson as not_json};
+
+    ghost from_gives = { λ _ e. e ≡ not_json };
+
+    fn from(_invalid: Invalid) -> JsonFault {
+        JsonFault::NotJson
+    }
+}
+
+impl From<AllocError> for JsonFault {
+    ghost use Rattle.std.specs.Prelude.{◌≡◌};
+    ghost use Rattle.tfs_json.specs.declared.fault.JsonFault.TheVariants.{NoMemory as no_memory};
+
+    ghost from_gives = { λ _ e. e ≡ no_memory };
+
+    fn from(_refused: AllocError) -> JsonFault {
+        JsonFault::NoMemory
+    }
+}
+
+/// Puts an element last, with no call where there is room.
+#[inline(always)]
+pub(crate) fn push<T: Drop, A: Allocator>(list: &mut Vec<T, A>, element: T) -> Result<(), JsonFault>
+    ensures ok { OnOk result (list.new.items ≡ list.old.items ++ element ∷ []) }
+    ensures err { result ≢ Err JsonFault.NotJson }
+{
+    if list.len() < list.capacity() {
+        list.push_reserved(element);
+        return Ok(());
+    }
+    match list.push(element) {
+        Ok(()) => Ok(()),
+        Err(_) => Err(JsonFault::NoMemory),
+    }
 }

@@ -20,11 +20,15 @@ pub record GivesId (value : Data) (id : List ℕ) : Type 0 where
   pub given : id_of value ≡ Some id
   pub valid : IsIdText id
 
+-- The bytes spell an object that gives the identifier.
+abbrev pub SpellsId : List ℕ → List ℕ → Type 0
+SpellsId bytes id = (value : Data) × (json_value bytes ≡ Some value) × GivesId value id
+
 -- The bytes are the text of the lock information.
 pub record SpellsLockInfo (bytes : List ℕ) (info : LockInformation) : Type 0 where
   pub size : length bytes ≤ 65536
   pub kept : info.bytes ≡ bytes
-  pub given : (value : Data) × (json_value bytes ≡ Some value) × GivesId value info.id
+  pub given : SpellsId bytes info.id
 
 -- The fault of what stands at `ID`: no text, an empty one, or one that is too long.
 abbrev pub id_fault : Option (List ℕ) → Option LockFault
@@ -36,10 +40,13 @@ id_fault (Some (byte ∷ bytes)) = if nat_lt 256 (length (byte ∷ bytes)) then 
 abbrev pub first_value_fault : Data → Option LockFault
 first_value_fault value = if is_none (as_object value) then Some NotObject else id_fault (id_of value)
 
+-- The first fault of what the bytes spell.
+abbrev pub first_text_fault : List ℕ → Option LockFault
+first_text_fault bytes = option_map_or first_value_fault (json_value bytes) (Some NotJson)
+
 -- The first fault of the bytes, or none: their number is looked at before what they spell.
 abbrev pub first_lock_fault : List ℕ → Option LockFault
-first_lock_fault bytes = if nat_lt 65536 (length bytes) then Some TooLong
-    else option_map_or first_value_fault (json_value bytes) (Some NotJson)
+first_lock_fault bytes = if nat_lt 65536 (length bytes) then Some TooLong else first_text_fault bytes
 
 -- The lock information of the bytes, where they spell some: `SpellsLockInfo` as a function.
 abbrev pub lock_info_of : List ℕ → Option LockInformation

@@ -1,16 +1,16 @@
 //! Lock information.
 
 ghost use Rattle.std.specs.Prelude.{◌≡◌, ◌≢◌, ◌<◌, Some, Err, IfOk, IfErr, length};
-ghost use Rattle.serde_json.specs.View.{view};
-ghost use Rattle.tfs_lock.specs.LockText.{GivesId, SpellsLockInfo, first_lock_fault, first_value_fault};
+ghost use Rattle.tfs_json.specs.Tree.{tree_view};
+ghost use Rattle.tfs_lock.specs.LockText.{GivesId, SpellsId, SpellsLockInfo, first_lock_fault, first_text_fault, first_value_fault};
 ghost use Rattle.tfs_lock.specs.declared.fault.LockFault.TheVariants.{NoMemory, TooLong};
 
 use crate::fault::LockFault;
 use crate::id::{Id, MAX_ID_BYTES};
-use serde_json::Value;
+use json::Scratch;
 use std::alloc::Global;
 use std::marker::Model;
-use tfs_json::{JsonFault, read_value, text_at};
+use tfs_json::{JsonFault, Tree, is_object, read_kept, text_at};
 
 /// The most bytes that a lock text may have: 64 KiB.
 pub const MAX_LOCK_BYTES: usize = 65_536;
@@ -47,12 +47,7 @@ impl LockInfo {
         if bytes.len() > MAX_LOCK_BYTES {
             return Err(LockFault::TooLong);
         }
-        let value = match read_value(alloc, bytes.as_slice()) {
-            Ok(value) => value,
-            Err(JsonFault::NotJson) => return Err(LockFault::NotJson),
-            Err(JsonFault::NoMemory) => return Err(LockFault::NoMemory),
-        };
-        let id = read_id(alloc, &value)?;
+        let id = read_text(alloc, bytes.as_slice())?;
         Ok(LockInfo { bytes, id })
     }
 
@@ -72,13 +67,27 @@ impl LockInfo {
     }
 }
 
-/// The identifier that a value gives.
-fn read_id(alloc: Global, value: &Value) -> Result<Id, LockFault>
-    ensures ok { IfOk result (GivesId (view value.now)) }
+/// The identifier that a text gives.
+fn read_text(alloc: Global, bytes: &[u8]) -> Result<Id, LockFault>
+    ensures ok { IfOk result (SpellsId bytes.now) }
     ensures err { IfErr result (λ fault. fault ≢ NoMemory
-        → first_value_fault (view value.now) ≡ Some fault) }
+        → first_text_fault bytes.now ≡ Some fault) }
 {
-    if !value.is_object() {
+    let mut scratch = Scratch::new(alloc);
+    match read_kept(alloc, bytes, &mut scratch) {
+        Ok(value) => read_id(alloc, &value),
+        Err(JsonFault::NotJson) => Err(LockFault::NotJson),
+        Err(JsonFault::NoMemory) => Err(LockFault::NoMemory),
+    }
+}
+
+/// The identifier that a value gives.
+fn read_id(alloc: Global, value: &Tree<'_>) -> Result<Id, LockFault>
+    ensures ok { IfOk result (GivesId (tree_view value.now)) }
+    ensures err { IfErr result (λ fault. fault ≢ NoMemory
+        → first_value_fault (tree_view value.now) ≡ Some fault) }
+{
+    if !is_object(value) {
         return Err(LockFault::NotObject);
     }
     let text = text_at(value, "ID").unwrap_or("");

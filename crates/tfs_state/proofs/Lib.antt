@@ -10,3 +10,4 @@ pub mod PackedLemmas
 pub mod ResultLemmas
 pub mod StateTextLemmas
 pub mod TablesLemmas
+pub mod KeptLemmas

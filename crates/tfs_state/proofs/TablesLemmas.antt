@@ -6,8 +6,8 @@ use Rattle.std.specs.Option.{ok_or}
 use Rattle.std.proofs.lemmas.Bool.{eqb-true}
 use Rattle.std.proofs.lemmas.Grind.{flat_map-append}
 use Rattle.serde_json.specs.Data.{Data}
-use Rattle.serde_json.specs.View.{view}
-use Rattle.serde_json.specs.declared.value.Value.{Value}
+use Rattle.tfs_json.specs.Tree.{tree_view as view}
+use Rattle.tfs_json.specs.Tree.{Tree as Value}
 use Rattle.tfs_addr.specs.Address.{stripped_text, configuration_address, key_of, key_part, deposed_part, module_part, resource_part}
 use Rattle.tfs_state.specs.Document.{Instance}
 use Rattle.tfs_state.specs.Names.{Extends}

@@ -1,6 +1,6 @@
 -- What the private readers of one level give, as the definitions of that level see it.
 use Rattle.std.specs.Prelude.{ℕ, List, ◌++◌, map, option_map, option_copied}
-use Rattle.serde_json.specs.View.{view}
+use Rattle.tfs_json.specs.Tree.{tree_view as view}
 use Rattle.tfs_addr.specs.Address.{key_of, module_part, resource_part}
 use Rattle.tfs_addr.specs.declared.resource.Mode.{Mode}
 use Rattle.tfs_state.specs.Resources.{InstanceMembers, ResourceMembers}

@@ -1,7 +1,7 @@
 //! What the text of a state says.
 
 ghost use Rattle.std.specs.Prelude.{◌≡◌, ◌≢◌, ◌≤◌, ◌<◌, slice_get, Some, Ok, IfOk, IfErr, length};
-ghost use Rattle.serde_json.specs.View.{view};
+ghost use Rattle.tfs_json.specs.Tree.{tree_view as view};
 ghost use Rattle.tfs_state.specs.StateText.{first_state_fault, instances_of, content_of};
 ghost use Rattle.tfs_state.specs.Contents.{Keeps, ReadsContent, ReadsInstancesOf};
 ghost use Rattle.tfs_state.specs.declared.fault.StateFault.TheVariants.{NoMemory};
@@ -10,9 +10,9 @@ use crate::fault::StateFault;
 use crate::members::{lineage_of, serial_of, version_of};
 use crate::packed::{Packed, PackedRow, pack, packed_row_at};
 use crate::tables::{Block, Tables, block_at};
-use serde_json::Value;
+use json::Scratch;
 use std::alloc::Global;
-use tfs_json::{JsonFault, list_at, read_value};
+use tfs_json::{JsonFault, Tree, list_at, read_kept};
 
 /// The most resource instances that a state may list.
 const MAX_INSTANCES: usize = 4096;
@@ -44,13 +44,17 @@ impl Content {
     }
 }
 
-/// The content of a text.
-pub(crate) fn read_text(alloc: Global, bytes: &[u8]) -> Result<Content, StateFault>
+/// The content of a text, which is read over the room of a scratch.
+pub(crate) fn read_text(
+    alloc: Global,
+    bytes: &[u8],
+    scratch: &mut Scratch,
+) -> Result<Content, StateFault>
     requires { length bytes.now ≤ 16777216 }
     ensures ok { IfOk result (Keeps bytes.now) }
     ensures err { IfErr result (λ fault. fault ≢ NoMemory → first_state_fault bytes.now ≡ Some fault) }
 {
-    match read_value(alloc, bytes) {
+    match read_kept(alloc, bytes, scratch) {
         Ok(value) => read_content(alloc, &value),
         Err(JsonFault::NotJson) => Err(StateFault::NotJson),
         Err(JsonFault::NoMemory) => Err(StateFault::NoMemory),
@@ -58,7 +62,7 @@ pub(crate) fn read_text(alloc: Global, bytes: &[u8]) -> Result<Content, StateFau
 }
 
 /// The content of a value.
-fn read_content(alloc: Global, value: &Value) -> Result<Content, StateFault>
+fn read_content(alloc: Global, value: &Tree<'_>) -> Result<Content, StateFault>
     ensures ok { IfOk result (ReadsContent (view value.now)) }
     ensures err { IfErr result (λ fault. fault ≢ NoMemory → content_of (view value.now) ≡ Err fault) }
 {
@@ -83,7 +87,7 @@ fn read_content(alloc: Global, value: &Value) -> Result<Content, StateFault>
 }
 
 /// The tables of a value's instances.
-fn read_tables(alloc: Global, value: &Value) -> Result<Tables, StateFault>
+fn read_tables(alloc: Global, value: &Tree<'_>) -> Result<Tables, StateFault>
     ensures ok { IfOk result (ReadsInstancesOf (view value.now)) }
     ensures err { IfErr result (λ fault. fault ≢ NoMemory → instances_of (view value.now) ≡ Err fault) }
 {

@@ -15,6 +15,7 @@ use crate::fault::StateFault;
 use crate::numbers::Numbers;
 use crate::packed::{PackedRow, dependencies_at};
 use crate::tables::Block;
+use json::Scratch;
 use std::alloc::Global;
 use std::marker::Model;
 
@@ -52,7 +53,21 @@ impl Doc {
         ensures err { IfErr result (λ fault. fault ≢ NoMemory
             → first_state_fault bytes.items ≡ Some fault) }
     {
-        let content = read_text(alloc, bytes.as_slice())?;
+        Doc::read_over(alloc, bytes, &mut Scratch::new(alloc))
+    }
+
+    /// Reads a state's text as [`Doc::read`] does, over room that is kept between reads.
+    pub fn read_over(
+        alloc: Global,
+        bytes: Vec<u8>,
+        scratch: &mut Scratch,
+    ) -> Result<Doc, StateFault>
+        requires { length bytes.items ≤ 16777216 }
+        ensures ok { IfOk result (SpellsDocument bytes.items) }
+        ensures err { IfErr result (λ fault. fault ≢ NoMemory
+            → first_state_fault bytes.items ≡ Some fault) }
+    {
+        let content = read_text(alloc, bytes.as_slice(), scratch)?;
         Ok(Doc { bytes, content })
     }
 

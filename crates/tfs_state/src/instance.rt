@@ -1,28 +1,29 @@
 //! The own members of an instance.
 
 ghost use Rattle.std.specs.Prelude.{◌≡◌, option_map, option_copied};
-ghost use Rattle.serde_json.specs.View.{view};
+ghost use Rattle.tfs_json.specs.Tree.{tree_view as view};
 ghost use Rattle.tfs_addr.specs.Address.{key_of};
 ghost use Rattle.tfs_state.specs.Resources.{filled_text, key_given, deposed_of, instance_members};
 ghost use Rattle.tfs_state.specs.Parts.{instance_view};
 
-use serde_json::Value;
 use tfs_addr::Key;
-use tfs_json::{list_at, member_at, optional_text_at};
+use tfs_json::{Tree, is_object, list_at, member_at, optional_text_at, text_of, whole_number_of};
 
 /// What an instance says by its own members.
 #[derive(Clone, Copy)]
-pub(crate) struct InstanceParts<'v> {
-    pub(crate) key: Option<Key<'v>>,
-    pub(crate) deposed: Option<&'v str>,
-    pub(crate) dependencies: &'v [Value],
+pub(crate) struct InstanceParts<'v, 't> {
+    pub(crate) key: Option<Key<'t>>,
+    pub(crate) deposed: Option<&'t str>,
+    pub(crate) dependencies: &'v [Tree<'t>],
 }
 
 /// The own members of an instance, which is an object.
-pub(crate) fn instance_parts(value: &Value) -> Option<InstanceParts<'_>>
+pub(crate) fn instance_parts<'v, 't>(value: &'v Tree<'t>) -> Option<InstanceParts<'v, 't>>
     ensures { option_map instance_view result ≡ instance_members (view value.now) }
 {
-    value.as_object()?;
+    if !is_object(value) {
+        return None;
+    }
     let key = given_key(member_at(value, "index_key"))?;
     let deposed = given_deposed(value)?;
     let dependencies = list_at(value, "dependencies")?;
@@ -34,21 +35,21 @@ pub(crate) fn instance_parts(value: &Value) -> Option<InstanceParts<'_>>
 }
 
 /// A key, where it is absent, a whole number or a text.
-fn given_key<'v>(member: Option<&'v Value>) -> Option<Option<Key<'v>>>
+fn given_key<'v, 't>(member: Option<&'v Tree<'t>>) -> Option<Option<Key<'t>>>
     ensures { option_map (λ key. option_map key_of key) result
         ≡ key_given (option_map (λ v. view v.now) member.entry) }
 {
     let Some(member) = member else {
         return Some(None);
     };
-    match member.as_u64() {
+    match whole_number_of(member) {
         Some(number) => Some(Some(Key::Number(number))),
-        None => Some(Some(Key::Text(member.as_str()?))),
+        None => Some(Some(Key::Text(text_of(member)?))),
     }
 }
 
 /// A deposed text, where it is absent or a text. The empty one counts as absent.
-fn given_deposed(value: &Value) -> Option<Option<&str>>
+fn given_deposed<'t>(value: &Tree<'t>) -> Option<Option<&'t str>>
     ensures { option_map option_copied result ≡ deposed_of (view value.now) }
 {
     match optional_text_at(value, "deposed")? {

@@ -1,28 +1,27 @@
 //! The members of a state that are read.
 
 ghost use Rattle.std.specs.Prelude.{◌≡◌, option_copied};
-ghost use Rattle.serde_json.specs.View.{view};
+ghost use Rattle.tfs_json.specs.Tree.{tree_view as view};
 ghost use Rattle.tfs_state.specs.StateText.{version_of, serial_of, lineage_of};
 
-use serde_json::Value;
-use tfs_json::{text_at, whole_number_at};
+use tfs_json::{Tree, text_at, whole_number_at};
 
 /// The version of the format.
-pub(crate) fn version_of(value: &Value) -> Option<u64>
+pub(crate) fn version_of(value: &Tree<'_>) -> Option<u64>
     ensures { result ≡ version_of (view value.now) }
 {
     whole_number_at(value, "version")
 }
 
 /// The serial.
-pub(crate) fn serial_of(value: &Value) -> Option<u64>
+pub(crate) fn serial_of(value: &Tree<'_>) -> Option<u64>
     ensures { result ≡ serial_of (view value.now) }
 {
     whole_number_at(value, "serial")
 }
 
 /// The lineage, where it is a text that isn't empty.
-pub(crate) fn lineage_of(value: &Value) -> Option<&str>
+pub(crate) fn lineage_of<'t>(value: &Tree<'t>) -> Option<&'t str>
     ensures { option_copied result ≡ lineage_of (view value.now) }
 {
     let text = text_at(value, "lineage")?;

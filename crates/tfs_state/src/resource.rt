@@ -1,27 +1,26 @@
 //! The own members of a resource.
 
 ghost use Rattle.std.specs.Prelude.{◌≡◌, option_map};
-ghost use Rattle.serde_json.specs.View.{view};
+ghost use Rattle.tfs_json.specs.Tree.{tree_view as view};
 ghost use Rattle.tfs_state.specs.Resources.{mode_named, path_of, resource_members};
 ghost use Rattle.tfs_state.specs.Parts.{resource_view};
 
 use crate::instance::filled;
-use serde_json::Value;
 use tfs_addr::Mode;
-use tfs_json::{list_at, optional_text_at, text_at};
+use tfs_json::{Tree, list_at, optional_text_at, text_at};
 
 /// What a resource says by its own members.
 #[derive(Clone, Copy)]
-pub(crate) struct ResourceParts<'v> {
-    pub(crate) path: &'v str,
+pub(crate) struct ResourceParts<'v, 't> {
+    pub(crate) path: &'t str,
     pub(crate) mode: Mode,
-    pub(crate) kind: &'v str,
-    pub(crate) name: &'v str,
-    pub(crate) instances: &'v [Value],
+    pub(crate) kind: &'t str,
+    pub(crate) name: &'t str,
+    pub(crate) instances: &'v [Tree<'t>],
 }
 
 /// The own members of a resource, but for the cutting of its module's path.
-pub(crate) fn resource_parts(value: &Value) -> Option<ResourceParts<'_>>
+pub(crate) fn resource_parts<'v, 't>(value: &'v Tree<'t>) -> Option<ResourceParts<'v, 't>>
     ensures { option_map resource_view result ≡ resource_members (view value.now) }
 {
     let path = path_of(value)?;
@@ -39,7 +38,7 @@ pub(crate) fn resource_parts(value: &Value) -> Option<ResourceParts<'_>>
 }
 
 /// The path of the module, which is empty for the root module.
-fn path_of(value: &Value) -> Option<&str>
+fn path_of<'t>(value: &Tree<'t>) -> Option<&'t str>
     ensures { option_map (λ path. path.now) result ≡ path_of (view value.now) }
 {
     match optional_text_at(value, "module")? {

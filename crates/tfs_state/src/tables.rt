@@ -1,7 +1,7 @@
 //! What a document keeps of its instances, as it is read from the resources of a JSON value.
 
 ghost use Rattle.std.specs.Prelude.{◌≡◌, ◌≢◌, ◌<◌, [], ◌∷◌, ◌++◌, map, IfOk, IfErr, OnOk, Some, None, length, slice_get};
-ghost use Rattle.serde_json.specs.View.{view};
+ghost use Rattle.tfs_json.specs.Tree.{tree_view as view};
 ghost use Rattle.tfs_addr.specs.Address.{stripped_text, configuration_address};
 ghost use Rattle.tfs_state.specs.Document.{Instance as InstanceValue};
 ghost use Rattle.tfs_state.specs.Parts.{resource_view};
@@ -14,9 +14,9 @@ use crate::fault::StateFault;
 use crate::instance::instance_parts;
 use crate::names::Names;
 use crate::resource::{ResourceParts, resource_parts};
-use serde_json::Value;
 use std::alloc::{AllocError, Global};
 use tfs_addr::{AddrFault, config_text, front_text, strip, tail_text};
+use tfs_json::{Tree, text_of};
 
 /// What the instances of one resource share: what their addresses begin with, and their configuration address with its number,
 /// both texts with their digests.
@@ -58,7 +58,7 @@ impl Tables {
     }
 
     /// Reads the resources of a list.
-    pub(crate) fn read(alloc: Global, list: &[Value]) -> Result<Tables, StateFault>
+    pub(crate) fn read(alloc: Global, list: &[Tree<'_>]) -> Result<Tables, StateFault>
         ensures ok { IfOk result (ReadsResources (map view list.now)) }
         ensures err { IfErr result (λ fault. fault ≢ NoMemory
             → read_each read_resource 0 (map view list.now) ≡ Err fault) }
@@ -71,7 +71,7 @@ impl Tables {
     }
 
     /// Reads resource i.
-    fn read_resource(&mut self, alloc: Global, value: &Value, i: usize) -> Result<(), StateFault>
+    fn read_resource(&mut self, alloc: Global, value: &Tree<'_>, i: usize) -> Result<(), StateFault>
         ensures ok { OnOk result (ReadsResource i (view value.now) self.old self.new) }
         ensures err { IfErr result (λ fault. fault ≢ NoMemory → read_resource i (view value.now) ≡ Err fault) }
     {
@@ -102,7 +102,7 @@ impl Tables {
 /// The block of resource i, whose module's path has to have a cutting into pieces.
 fn read_block(
     alloc: Global,
-    resource: ResourceParts,
+    resource: ResourceParts<'_, '_>,
     names: &mut Names,
     i: usize,
 ) -> Result<Block, StateFault>
@@ -145,7 +145,7 @@ fn read_block(
 /// The rows of the instances of resource i, whose block stands at a place.
 fn read_instances(
     alloc: Global,
-    list: &[Value],
+    list: &[Tree<'_>],
     names: &mut Names,
     place: usize,
     i: usize,
@@ -165,7 +165,7 @@ fn read_instances(
 /// The row of instance j of resource i.
 fn read_instance(
     alloc: Global,
-    value: &Value,
+    value: &Tree<'_>,
     names: &mut Names,
     place: usize,
     i: usize,
@@ -189,7 +189,7 @@ fn read_instance(
 /// The numbers of the dependencies of instance j of resource i, stripped.
 fn read_dependencies(
     alloc: Global,
-    list: &[Value],
+    list: &[Tree<'_>],
     names: &mut Names,
     i: usize,
     j: usize,
@@ -209,7 +209,7 @@ fn read_dependencies(
 /// The number of dependency k of instance j of resource i, stripped.
 fn read_dependency(
     alloc: Global,
-    value: &Value,
+    value: &Tree<'_>,
     names: &mut Names,
     i: usize,
     j: usize,
@@ -218,7 +218,7 @@ fn read_dependency(
     ensures ok { IfOk result (ReadsDependency (view value.now) names.old names.new) }
     ensures err { IfErr result (λ fault. fault ≢ NoMemory → read_dependency i j k (view value.now) ≡ Err fault) }
 {
-    let Some(text) = value.as_str() else {
+    let Some(text) = text_of(value) else {
         return Err(StateFault::Dependency(i, j, k));
     };
     match strip(alloc, text) {

@@ -1,6 +1,6 @@
 -- The content of a value, or its first fault.
 use Rattle.std.proofs.Common.{◌∙◌, sym, ap, Some, refl}
-use Rattle.serde_json.specs.View.{view}
+use Rattle.tfs_json.specs.Tree.{tree_view as view}
 use Rattle.tfs_state.proofs.ContentsLemmas.{other_version, right_version, no_serial, no_lineage, refused_resources, content_read}
 use Rattle.tfs_state.proofs.ResultLemmas.{err_carried}
 use Rattle.tfs_state.proofs.content.read_content.Goals as goal

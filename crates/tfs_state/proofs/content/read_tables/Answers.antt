@@ -1,6 +1,6 @@
 -- The instances of a value, or the first fault of its resources.
 use Rattle.std.proofs.Common.{arith, map, refl}
-use Rattle.serde_json.specs.View.{view}
+use Rattle.tfs_json.specs.Tree.{tree_view as view}
 use Rattle.tfs_state.proofs.ContentsLemmas.{no_list, refused_resource, many_instances, instances_read}
 use Rattle.tfs_state.proofs.ResultLemmas.{err_carried}
 use Rattle.tfs_state.proofs.content.read_tables.Goals as goal

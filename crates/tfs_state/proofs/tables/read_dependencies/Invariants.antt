@@ -1,6 +1,6 @@
 -- The dependencies so far were read.
 use Rattle.std.proofs.Common.{map, take}
-use Rattle.serde_json.specs.View.{view}
+use Rattle.tfs_json.specs.Tree.{tree_view as view}
 use Rattle.tfs_state.specs.Tables.{ReadsDependencies}
 use Rattle.tfs_state.proofs.tables.read_dependencies.Given as goal
 

@@ -1,6 +1,6 @@
 -- An instance's own members, with its dependencies.
 use Rattle.std.proofs.Common.{refl}
-use Rattle.serde_json.specs.View.{view}
+use Rattle.tfs_json.specs.Tree.{tree_view as view}
 use Rattle.tfs_state.proofs.TablesLemmas.{instance_read}
 use Rattle.tfs_state.proofs.tables.read_instance.Goals as goal
 

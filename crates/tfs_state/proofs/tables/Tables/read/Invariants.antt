@@ -1,6 +1,6 @@
 -- The resources so far were read.
 use Rattle.std.proofs.Common.{map, take}
-use Rattle.serde_json.specs.View.{view}
+use Rattle.tfs_json.specs.Tree.{tree_view as view}
 use Rattle.tfs_state.specs.Tables.{ReadsResources}
 use Rattle.tfs_state.proofs.tables.Tables.read.Given as goal
 

@@ -1,6 +1,6 @@
 -- A resource adds its block and its rows, or nothing, where it has no instances.
 use Rattle.std.proofs.Common.{refl, arith}
-use Rattle.serde_json.specs.View.{view}
+use Rattle.tfs_json.specs.Tree.{tree_view as view}
 use Rattle.tfs_state.specs.Parts.{resource_view}
 use Rattle.tfs_state.proofs.TablesLemmas.{no_values, resource_with_instances, resource_without_instances}
 use Rattle.tfs_state.proofs.tables.Tables.read_resource.Goals as goal
