@@ -12,114 +12,133 @@ use Rattle.serde_json.specs.Read.{converted}
 use Rattle.tfs_json.specs.Kept.{is_wanted, with_member, kept, kept_items, kept_members}
 use Rattle.tfs_json.specs.Taken.{PutsLast, PassesOver}
 
+-- What is there, or else another.
 abbrev pick : {A : Type 0} → A → Option A → A
 pick d None = d
 pick d (Some a) = a
 
+-- What was read, and what is left behind it.
 found : {A B : Type 0} (a : A) (r s : List Token) (x : Option B) (b : B) → option_map {U = B × List Token} (λ y. (y, r)) x ≡ Some (b, s) → (r ≡ s) × (x ≡ Some b)
 found a r s None b e = absurd (cc)
 found a r s (Some y) b e = let same = ap (pick (y, r)) e in (ap (λ p. p.1) same, ap (λ p. Some p.0) same)
 
+-- What is kept is kept of something.
 pub converted_some : {A B : Type 0} (f : A → Option B) (o : Option (A × List Token)) (b : B) (r : List Token) → converted f o ≡ Some (b, r) → (a : A) × (o ≡ Some (a, r)) × (f a ≡ Some b)
 converted_some f None b r e = absurd (cc)
 converted_some f (Some p) b r e = let both = found p.0 p.1 r (f p.0) b e in (p.0, ap (λ s. Some (p.0, s)) both.0, both.1)
 
+-- Nothing is kept of what isn't there.
 refused : {B : Type 0} (r : List Token) (x : Option B) → option_map {U = B × List Token} (λ y. (y, r)) x ≡ None → x ≡ None
 refused r None e = refl
 refused r (Some y) e = absurd (cc)
 
+-- Two functions of what was read, one after another.
 twice : {A B : Type 0} (g : A → B) (r : List Token) (x : Option A) → option_map (λ b. (b, r)) (option_map g x) ≡ parse_map g (option_map (λ a. (a, r)) x)
 twice g r None = refl
 twice g r (Some a) = refl
 
+-- What is kept of a list is a list.
 pub kept-array : (o : Option (Items × List Token)) → converted kept (parse_map array o) ≡ parse_map array (converted kept_items o)
 kept-array None = refl
 kept-array (Some p) = twice array p.1 (kept_items p.0)
 
+-- What is kept of an object is an object.
 pub kept-object : (o : Option (Members × List Token)) → converted kept (parse_map object o) ≡ parse_map object (converted kept_members o)
 kept-object None = refl
 kept-object (Some p) = twice object p.1 (kept_members p.0)
 
+-- One element more.
 one_item : (j d : Json) → kept j ≡ Some d → (o : Option (Items × List Token)) → converted kept_items (parse_map (item j) o) ≡ parse_map (item d) (converted kept_items o)
 one_item j d e None = refl
 one_item j d e (Some p) = rw e (twice (item d) p.1 (kept_items p.0))
 
+-- Nothing is kept where nothing is of the first element.
 without_item : (j : Json) → kept j ≡ None → (o : Option (Items × List Token)) → converted kept_items (parse_map (item j) o) ≡ None
 without_item j e None = refl
 without_item j e (Some p) = rw e
 
+-- One member more.
 one_member : (k : List ℕ) (j d : Json) → kept j ≡ Some d → (o : Option (Members × List Token))
     → converted kept_members (parse_map (member k j) o) ≡ parse_map (with_member (is_wanted k) k d) (converted kept_members o)
 one_member k j d e None = refl
 one_member k j d e (Some p) = rw e (twice (with_member (is_wanted k) k d) p.1 (kept_members p.0))
 
+-- Nothing is kept where nothing is of the first member.
 without_member : (k : List ℕ) (j : Json) → kept j ≡ None → (o : Option (Members × List Token)) → converted kept_members (parse_map (member k j) o) ≡ None
 without_member k j e None = refl
 without_member k j e (Some p) = rw e
 
 module _ (p : Parse Json) where
+  -- An element is read, and what is kept of it stands before the rest.
   pub item_read : (n : ℕ) (ts r : List Token) (d : Json) → 0 < n → after_end_array ts ≡ None → converted kept (p ts) ≡ Some (d, r)
       → converted kept_items (items p n ts) ≡ parse_map (item d) (converted kept_items (items p (n - 1) r))
   item_read n ts r d some going e = let j = converted_some kept (p ts) d r e in ap (converted kept_items) (items_more p n ts r j.0 some going j.1) ∙ one_item j.0 d j.2 _
 
+  -- Nothing is kept of a list whose next element isn't kept.
   no_item : (more : Parse Items) (o : Option (Json × List Token)) → converted kept o ≡ None → converted kept_items (option_and_then (λ q. parse_map (item q.0) (more q.1)) o) ≡ None
   no_item more None e = refl
   no_item more (Some q) e = without_item q.0 (refused q.1 (kept q.0) e) (more q.1)
 
+  -- The same of the tokens.
   pub item_refused : (n : ℕ) (ts : List Token) → after_end_array ts ≡ None → converted kept (p ts) ≡ None → converted kept_items (items p n ts) ≡ None
   unfolding items
   item_refused zero ts going e = refl
   item_refused (suc n) ts going e = ap (λ o. converted kept_items (items_step p (items p n) ts o)) going ∙ no_item (items p n) (p ts) e
 
+  -- The list ends.
   pub items_over : (n : ℕ) (ts r : List Token) → length ts ≤ n → after_end_array ts ≡ Some r → converted kept_items (items p n ts) ≡ Some (no_items, r)
   items_over n ts r enough e = ap (converted kept_items) (items_end p n ts r enough e)
 
+  -- A member is read, and stands before the rest if its name is kept.
   pub member_read : (n : ℕ) (k : List ℕ) (ts s r : List Token) (d : Json) → 0 < n → read_key ts ≡ Some (Some k, s) → converted kept (p s) ≡ Some (d, r)
       → converted kept_members (members p n ts) ≡ parse_map (with_member (is_wanted k) k d) (converted kept_members (members p (n - 1) r))
   member_read n k ts s r d some key e =
       let j = converted_some kept (p s) d r e in
       ap (converted kept_members) (members_more p n k ts s r j.0 some key j.1) ∙ one_member k j.0 d j.2 _
 
+  -- Nothing is kept of an object whose next member isn't kept.
   no_member : (k : List ℕ) (more : Parse Members) (o : Option (Json × List Token)) → converted kept o ≡ None
       → converted kept_members (option_and_then (λ q. parse_map (member k q.0) (more q.1)) o) ≡ None
   no_member k more None e = refl
   no_member k more (Some q) e = without_member k q.0 (refused q.1 (kept q.0) e) (more q.1)
 
+  -- The same of the tokens.
   pub member_refused : (n : ℕ) (k : List ℕ) (ts s : List Token) → read_key ts ≡ Some (Some k, s) → converted kept (p s) ≡ None → converted kept_members (members p n ts) ≡ None
   unfolding members
   member_refused zero k ts s key e = refl
   member_refused (suc n) k ts s key e = rw key (no_member k (members p n) (p s) e)
 
+  -- There is no name and no end.
   pub key_refused : (n : ℕ) (ts : List Token) → read_key ts ≡ None → converted kept_members (members p n ts) ≡ None
   key_refused n ts e = ap (converted kept_members) (members_no_key p n ts e)
 
+  -- The object ends.
   pub members_over : (n : ℕ) (ts r : List Token) → length ts ≤ n → read_key ts ≡ Some (None, r) → converted kept_members (members p n ts) ≡ Some (no_members, r)
   members_over n ts r enough e = ap (converted kept_members) (members_end p n ts r enough e)
 
-  -- ---- the same, of what is left alone
-
+  -- An element is passed over.
   pub item_passed : (n : ℕ) (ts r : List Token) → 0 < n → after_end_array ts ≡ None → left (converted kept (p ts)) ≡ Some r
       → left (converted kept_items (items p n ts)) ≡ left (converted kept_items (items p (n - 1) r))
   item_passed n ts r some going e = let d = left_some (converted kept (p ts)) r e in ap left (item_read n ts r d.0 some going d.1) ∙ left-parse_map (item d.0) _
 
+  -- A member is passed over.
   pub member_passed : (n : ℕ) (k : List ℕ) (ts s r : List Token) → 0 < n → read_key ts ≡ Some (Some k, s) → left (converted kept (p s)) ≡ Some r
       → left (converted kept_members (members p n ts)) ≡ left (converted kept_members (members p (n - 1) r))
   member_passed n k ts s r some key e =
       let d = left_some (converted kept (p s)) r e in
       ap left (member_read n k ts s r d.0 some key d.1) ∙ left-parse_map (with_member (is_wanted k) k d.0) _
 
--- ---- a number that is in range, and one that isn't
-
+-- A number that is in range.
 pub there : {A B : Type 0} (b : B) (o : Option A) → true ≡ is_some o → option_map (λ _. b) o ≡ Some b
 there b None e = cc
 there b (Some a) e = refl
 
+-- A number that isn't.
 pub not_there : {A B : Type 0} (b : B) (o : Option A) → false ≡ is_some o → option_map (λ _. b) o ≡ None
 not_there b None e = refl
 not_there b (Some a) e = cc
 
--- ---- a member, under those that were found before it
-
+-- A turn of the loop over members: the member stands last among what was found, or it was passed over.
 pub member_taken : {A : Type 0} (depth n : ℕ) (name : Bor (List ℕ)) (ts s r : List Token) (found more : List (Bor (List ℕ) × Value A))
     → 0 < n → read_key ts ≡ Some (Some name.now, s)
     → (b : Bool) → is_wanted name.now ≡ b → MatchBool b (PutsLast depth name s r found more) (PassesOver depth s r found more)

@@ -15,34 +15,38 @@ use Rattle.serde_json.specs.Read.{number_of, number_from, of_json, of_items, of_
 use Rattle.serde_json.specs.Find.{get, get_member, as_str, as_number, as_u64, as_null}
 use Rattle.serde_json.proofs.Views.{get_member-put, get_member-put_other}
 use Rattle.tfs_json.specs.Kept.{is_wanted, with_member, kept, kept_items, kept_members, SpellsKept}
-use Rattle.tfs_json.specs.Json.{json_value, text_at, whole_number_at}
+use Rattle.tfs_json.specs.Json.{json_value}
 use Rattle.tfs_json.specs.Tree.{tree_data, items_data, members_data, Tree, tree_view}
 use Rattle.tfs_json.proofs.Spelling.{same_some}
 use Rattle.json.specs.Value.{items_view}
 use Rattle.serde_json.specs.View.{items_of}
 
--- ---- what is there is this
-
+-- Where something is there, it is this.
 abbrev Is : {A : Type 0} → Option A → A → Type 0
 Is None a = ⊤
 Is (Some x) a = x ≡ a
 
+-- So it is under a function.
 is_map : {A B : Type 0} (f : A → B) (o : Option A) (a : A) → Is o a → Is (option_map f o) (f a)
 is_map f None a e = tt
 is_map f (Some x) a e = ap f e
 
+-- So it is under one that may give nothing.
 is_then : {A B : Type 0} (f : A → Option B) (o : Option A) (a : A) (b : B) → Is o a → Is (f a) b → Is (option_and_then f o) b
 is_then f None a b e h = tt
 is_then f (Some x) a b e h = subst (λ y. Is (f y) b) (sym e) h
 
+-- So it is where whatever is there gives the same.
 is_const : {A B : Type 0} (b : B) (o : Option A) → Is (option_map (λ _. b) o) b
 is_const b None = tt
 is_const b (Some x) = refl
 
+-- What is there is itself, whatever stands in for it.
 is_self : {A : Type 0} (o : Option A) (d : A) → Is o (unwrap_or o d)
 is_self None d = tt
 is_self (Some x) d = refl
 
+-- Where `serde_json` reads a value, it is that of the tree.
 mutual
   is_tree : (j : Json) → Is (of_json j) (tree_data j)
   is_tree json.null = refl
@@ -80,6 +84,7 @@ abbrev mutual
   pruned_members json.no_members = json.no_members
   pruned_members (json.member k j ms) = with_member (is_wanted k) k (pruned j) (pruned_members ms)
 
+-- Where something is kept, it is what is left without the other members.
 mutual
   is_pruned : (j : Json) → Is (kept j) (pruned j)
   is_pruned json.null = refl
@@ -100,16 +105,17 @@ mutual
       is_then (λ d. option_map (with_member (is_wanted k) k d) (kept_members ms)) (kept j) (pruned j) _ (is_pruned j)
       (is_map (with_member (is_wanted k) k (pruned j)) (kept_members ms) (pruned_members ms) (are_pruned_members ms))
 
--- ---- the last member of a name
-
+-- The first of two, or else the second.
 abbrev later : Option Data → Option Data → Option Data
 later None e = e
 later (Some d) e = Some d
 
+-- With nothing else it is the first.
 later_none : (o : Option Data) → later o None ≡ o
 later_none None = refl
 later_none (Some d) = refl
 
+-- Under a name stands what was put there last.
 put_at : (b : Bool) (name k : List ℕ) (d : Data) (ms : Members) → bytes_eq k name ≡ b → get_member name (put k d ms) ≡ cond b (Some d) (get_member name ms)
 put_at true name k d ms e = subst (λ n. get_member n (put k d ms) ≡ Some d) ((bytes_decides k name).0 e) (get_member-put k d ms)
 put_at false name k d ms e = get_member-put_other name k d ms (λ same. differ (e ∙ refl) ((bytes_decides k name).1 (sym same)))
@@ -117,12 +123,14 @@ put_at false name k d ms e = get_member-put_other name k d ms (λ same. differ (
     differ : {b : Bool} → b ≡ false → b ≡ true → ⊥
     differ n y = cc
 
+-- One more member, as `serde_json` and as `json` look for a name.
 turn : (b : Bool) (o : Option Json) (j : Json) (e : Option Data)
     → later (option_map tree_data o) (cond b (Some (tree_data j)) e) ≡ later (option_map tree_data (later_or o (cond b (Some j) None))) e
 turn true None j e = refl
 turn false None j e = refl
 turn b (Some i) j e = refl
 
+-- The member that `serde_json` finds among members put one after another is the last of its name.
 last_member : (name : List ℕ) (ms : json.Members) (found : Members)
     → get_member name (members_data ms found) ≡ later (option_map tree_data (finds.get_member name ms)) (get_member name found)
 last_member name json.no_members found = refl
@@ -140,22 +148,24 @@ get-tree name (json.string s) = refl
 get-tree name (json.array js) = refl
 get-tree name (json.object ms) = last_member name ms no_members ∙ later_none _
 
--- ---- the same in what is kept
-
+-- A member that is kept is looked at as it is in the whole.
 keep_turn : (b : Bool) (o : Option Json) (j : Json) → later_or (option_map pruned o) (cond b (Some (pruned j)) None) ≡ option_map pruned (later_or o (cond b (Some j) None))
 keep_turn true None j = refl
 keep_turn false None j = refl
 keep_turn b (Some i) j = refl
 
+-- One that isn't kept has another name than one that is looked for.
 drop_turn : (b : Bool) (o : Option Json) (j : Json) → b ≡ false → option_map pruned o ≡ option_map pruned (later_or o (cond b (Some j) None))
 drop_turn true o j e = cc
 drop_turn false None j e = refl
 drop_turn false (Some i) j e = refl
 
+-- A name that is kept differs from one that isn't.
 other_name : (b : Bool) (name k : List ℕ) → bytes_eq k name ≡ b → is_wanted name ≡ true → is_wanted k ≡ false → b ≡ false
 other_name false name k e y n = refl
 other_name true name k e y n = let same = ap is_wanted ((bytes_decides k name).0 e) in cc
 
+-- One member more, kept or not.
 kept_member_if : (b : Bool) (name k : List ℕ) (j : Json) (ms : json.Members) → is_wanted name ≡ true → is_wanted k ≡ b
     → finds.get_member name (pruned_members ms) ≡ option_map pruned (finds.get_member name ms)
     → finds.get_member name (with_member b k (pruned j) (pruned_members ms)) ≡ option_map pruned (finds.get_member name (json.member k j ms))
@@ -164,10 +174,12 @@ kept_member_if true name k j ms y e later =
 kept_member_if false name k j ms y e later =
     later ∙ drop_turn (bytes_eq k name) (finds.get_member name ms) j (other_name (bytes_eq k name) name k refl y e)
 
+-- The member of a kept name among what is kept.
 kept_member : (name : List ℕ) (ms : json.Members) → is_wanted name ≡ true → finds.get_member name (pruned_members ms) ≡ option_map pruned (finds.get_member name ms)
 kept_member name json.no_members y = refl
 kept_member name (json.member k j ms) y = kept_member_if (is_wanted k) name k j ms y refl (kept_member name ms y)
 
+-- The same of any value.
 pub get-pruned : (name : List ℕ) (j : Json) → is_wanted name ≡ true → finds.get name (pruned j) ≡ option_map pruned (finds.get name j)
 get-pruned name json.null y = refl
 get-pruned name (json.boolean b) y = refl
@@ -185,6 +197,7 @@ as_str-pruned (json.string s) = refl
 as_str-pruned (json.array js) = refl
 as_str-pruned (json.object ms) = refl
 
+-- So is a number.
 pub as_number-pruned : (j : Json) → as_number (tree_data (pruned j)) ≡ as_number (tree_data j)
 as_number-pruned json.null = refl
 as_number-pruned (json.boolean b) = refl
@@ -193,6 +206,7 @@ as_number-pruned (json.string s) = refl
 as_number-pruned (json.array js) = refl
 as_number-pruned (json.object ms) = refl
 
+-- What looks at a value in the same way before and after finds the same in one that may be absent.
 same_then : {A : Type 0} (f : Data → Option A) → ((j : Json) → f (tree_data (pruned j)) ≡ f (tree_data j)) → (o : Option Json)
     → option_and_then f (option_map tree_data (option_map pruned o)) ≡ option_and_then f (option_map tree_data o)
 same_then f same None = refl
@@ -206,40 +220,16 @@ same_at f same name j y =
     ∙ same_then f same (finds.get name j)
     ∙ sym (ap (option_and_then f) (get-tree name j))
 
--- ---- bytes
-
+-- What is there is one thing.
 some_is : {A : Type 0} (x y : A) → Some x ≡ Some y → x ≡ y
 some_is x y e = cc
 
+-- What is there and this are one.
 is_there : {A : Type 0} (o : Option A) (a b : A) → Is o a → o ≡ Some b → a ≡ b
 is_there None a b i e = cc
 is_there (Some x) a b i e = sym i ∙ some_is x b e
 
-pub record IsPrunedOf (tree : Json) (value : Data) : Type 0 where
-  pub whole : Json
-  pub value_is : value ≡ tree_data whole
-  pub tree_is : tree ≡ pruned whole
-
-pub spelled : (bytes : List ℕ) (tree : Json) (value : Data) → SpellsKept bytes tree → json_value bytes ≡ Some value → IsPrunedOf tree value
-spelled bytes tree value s e = record {
-  whole = s.whole;
-  value_is = sym (is_there (of_json s.whole) (tree_data s.whole) value (is_tree s.whole) (sym s.spelled ∙ e));
-  tree_is = sym (is_there (kept s.whole) (pruned s.whole) tree (is_pruned s.whole) s.kept);
-}
-
-pub text_at-kept : (name : List ℕ) (tree : Json) (value : Data) → is_wanted name ≡ true → IsPrunedOf tree value → text_at name (tree_data tree) ≡ text_at name value
-text_at-kept name tree value y p =
-    ap (λ t. text_at name (tree_data t)) p.tree_is ∙ same_at as_str as_str-pruned name p.whole y ∙ sym (ap (text_at name) p.value_is)
-
-pub whole_number_at-kept : (name : List ℕ) (tree : Json) (value : Data) → is_wanted name ≡ true → IsPrunedOf tree value
-    → whole_number_at name (tree_data tree) ≡ whole_number_at name value
-whole_number_at-kept name tree value y p =
-    ap (λ t. whole_number_at name (tree_data t)) p.tree_is
-    ∙ ap (option_and_then as_u64) (same_at as_number as_number-pruned name p.whole y)
-    ∙ sym (ap (whole_number_at name) p.value_is)
-
--- ---- what the functions of `json` give
-
+-- The text of a tree is that of its value.
 pub as_str-tree : (j : Json) → as_str (tree_data j) ≡ finds.as_str j
 as_str-tree json.null = refl
 as_str-tree (json.boolean b) = refl
@@ -248,10 +238,12 @@ as_str-tree (json.string s) = refl
 as_str-tree (json.array js) = refl
 as_str-tree (json.object ms) = refl
 
+-- What stands in for no number is no whole number.
 u64_or : (o : Option Num) → as_u64 (unwrap_or o (negative (negsuc 0))) ≡ option_and_then as_u64 o
 u64_or None = refl
 u64_or (Some n) = refl
 
+-- The whole number of a tree is that of its value.
 pub as_u64-tree : (j : Json) → option_and_then as_u64 (as_number (tree_data j)) ≡ option_and_then (λ s. option_and_then as_u64 (number_of s)) (finds.as_number j)
 as_u64-tree json.null = refl
 as_u64-tree (json.boolean b) = refl
@@ -259,21 +251,6 @@ as_u64-tree (json.number s) = u64_or (number_of s)
 as_u64-tree (json.string s) = refl
 as_u64-tree (json.array js) = refl
 as_u64-tree (json.object ms) = refl
-
-pub text_at-none : (name : List ℕ) (j : Json) → None ≡ finds.get name j → text_at name (tree_data j) ≡ None
-text_at-none name j e = ap (option_and_then as_str) (get-tree name j) ∙ ap (λ o. option_and_then as_str (option_map tree_data o)) (sym e)
-
-pub text_at-some : (name : List ℕ) (j i : Json) → Some i ≡ finds.get name j → text_at name (tree_data j) ≡ finds.as_str i
-text_at-some name j i e = ap (option_and_then as_str) (get-tree name j) ∙ ap (λ o. option_and_then as_str (option_map tree_data o)) (sym e) ∙ as_str-tree i
-
-pub whole_number_at-none : (name : List ℕ) (j : Json) → None ≡ finds.get name j → whole_number_at name (tree_data j) ≡ None
-whole_number_at-none name j e =
-    ap (λ o. option_and_then as_u64 (option_and_then as_number o)) (get-tree name j ∙ ap (option_map tree_data) (sym e))
-
-pub whole_number_at-some : (name : List ℕ) (j i : Json) → Some i ≡ finds.get name j
-    → whole_number_at name (tree_data j) ≡ option_and_then (λ s. option_and_then as_u64 (number_of s)) (finds.as_number i)
-whole_number_at-some name j i e =
-    ap (λ o. option_and_then as_u64 (option_and_then as_number o)) (get-tree name j ∙ ap (option_map tree_data) (sym e)) ∙ as_u64-tree i
 
 -- A number with a sign in front is no whole number of this kind.
 pub not_whole : (p : Parts) → option_and_then as_u64 (number_from true p) ≡ None
@@ -284,14 +261,17 @@ not_whole p = by _ _ _ _
     by false true z x = refl
     by false false z x = refl
 
+-- Two views one after another.
 twice_mapped : {R : Type 0} (seen : R → Json) (o : Option R) → option_map (λ v. tree_data (seen v)) o ≡ option_map tree_data (option_map seen o)
 twice_mapped seen None = refl
 twice_mapped seen (Some x) = refl
 
+-- What is found in a tree is what `serde_json` finds in its value.
 pub find-tree : {R : Type 0} (seen : R → Json) (r : Option R) (name : List ℕ) (j : Json) → option_map seen r ≡ finds.get name j
     → option_map (λ v. tree_data (seen v)) r ≡ get name (tree_data j)
 find-tree seen r name j e = twice_mapped seen r ∙ ap (option_map tree_data) e ∙ sym (get-tree name j)
 
+-- So is whether it is null.
 pub null-tree : (j : Json) → is_some (as_null (tree_data j)) ≡ finds.is_null j
 null-tree json.null = refl
 null-tree (json.boolean b) = refl
@@ -300,6 +280,7 @@ null-tree (json.string s) = refl
 null-tree (json.array js) = refl
 null-tree (json.object ms) = refl
 
+-- The elements of a tree are those of its value.
 pub items_view-data : (vs : List Tree) → items_of (map tree_view vs) ≡ items_data (items_view vs)
 items_view-data [] = refl
 items_view-data (v ∷ vs) = ap (item (tree_view v)) (items_view-data vs)

@@ -1,9 +1,7 @@
 //! The faults of JSON texts.
 
-ghost use Rattle.std.specs.Prelude.{◌≡◌, ◌≢◌, [], ◌∷◌, ◌++◌, Err, OnOk};
-
 use json::Invalid;
-use std::alloc::{AllocError, Allocator};
+use std::alloc::AllocError;
 use thiserror::Error;
 
 /// Why bytes are not read as a JSON value.
@@ -36,21 +34,5 @@ impl From<AllocError> for JsonFault {
 
     fn from(_refused: AllocError) -> JsonFault {
         JsonFault::NoMemory
-    }
-}
-
-/// Puts an element last, with no call where there is room.
-#[inline(always)]
-pub(crate) fn push<T: Drop, A: Allocator>(list: &mut Vec<T, A>, element: T) -> Result<(), JsonFault>
-    ensures ok { OnOk result (list.new.items ≡ list.old.items ++ element ∷ []) }
-    ensures err { result ≢ Err JsonFault.NotJson }
-{
-    if list.len() < list.capacity() {
-        list.push_reserved(element);
-        return Ok(());
-    }
-    match list.push(element) {
-        Ok(()) => Ok(()),
-        Err(_) => Err(JsonFault::NoMemory),
     }
 }

@@ -9,7 +9,8 @@ ghost use Rattle.tfs_json.specs.Taken.{PutsLast, PassesOver};
 ghost use Rattle.tfs_json.specs.Json.{json_value};
 ghost use Rattle.tfs_json.specs.declared.fault.JsonFault.TheVariants.{NotJson};
 
-use crate::fault::{JsonFault, push};
+use crate::fault::JsonFault;
+use crate::growing::push;
 use crate::numbers::number_fits;
 use crate::skipping::skip;
 use crate::wanted::is_wanted;
@@ -107,7 +108,7 @@ fn read_items<'t, A: Allocator + Copy>(
     let mut found = Vec::new(alloc);
     'items: while !reader.take_end_array() {
         let item = read(alloc, reader, depth)?;
-        push(&mut found, item)?;
+        push(&mut found, item, 1)?;
     }
     Ok(found)
 }
@@ -151,7 +152,7 @@ fn take_member<'t, A: Allocator + Copy>(
 {
     if is_wanted(name) {
         let member = read(alloc, reader, depth)?;
-        push(found, (name, member))
+        push(found, (name, member), 2)
     } else {
         Ok(skip(reader, depth)?)
     }
