@@ -16,7 +16,7 @@ use Rattle.tfs_planes.proofs.WalkLemmas.{start_of_joins}
 use Rattle.tfs_state.specs.Document.{Document, Instance}
 use Rattle.tfs_state.specs.Dependency.{DependsOn, address_of, config_of, instance_config}
 use Rattle.tfs_index.specs.Reach.{is_text, reaches}
-use Rattle.tfs_index.specs.Impact.{names, named_by, is_reached, any_impact, all_impact, Names, IsReached, IsReachedBySome, IsReachedByEach}
+use Rattle.tfs_index.specs.Impact.{names, named_by, is_reached, any_impact, all_impact, Names, IsReached, IsReachedBySome, IsReachedByEach, IsRisingListOf}
 use Rattle.tfs_index.proofs.ReachLemmas.{text_told, depends_within, reach_told}
 
 -- ---- lists
@@ -144,13 +144,15 @@ module _ (d : Document) (texts : List (List ℕ)) where
       )
 
   -- The impact of all texts.
-  pub all_told : (u : ℕ) → u < length d.instances → Contains (all_impact d texts) u ↔ IsReachedByEach d texts u
+  pub all_told : (u : ℕ) → Contains (all_impact d texts) u ↔ IsReachedByEach d texts u
   unfolding all_impact
-  all_told u within =
+  all_told u =
       let p : List ℕ → Bool = λ text. is_reached d text u in
       let told = passed_told (λ w. list_all (λ text. is_reached d text w) texts) (length d.instances) u in (
-        λ there text given. (reached_told d text u).0 ((all_pass p texts).0 ((told.0 there).1) text given),
-        λ each. told.1 (within, (all_pass p texts).1 (λ text given. (reached_told d text u).1 (each text given))),
+        λ there.
+            let both = told.0 there in
+            record { within = both.0; reached = λ text given. (reached_told d text u).0 ((all_pass p texts).0 both.1 text given) },
+        λ each. told.1 (each.within, (all_pass p texts).1 (λ text given. (reached_told d text u).1 (each.reached text given))),
       )
 
   -- The impact of any rises.
@@ -162,3 +164,11 @@ module _ (d : Document) (texts : List (List ℕ)) where
   pub all_rises : IsStrictlyIncreasing (all_impact d texts)
   unfolding all_impact
   all_rises = passed_rise (λ u. list_all (λ text. is_reached d text u) texts) (length d.instances)
+
+  -- A list that is the impact of any of the texts.
+  pub any_listed : (numbers : List ℕ) → numbers ≡ any_impact d texts → IsRisingListOf (IsReachedBySome d texts) numbers
+  any_listed numbers is = subst (IsRisingListOf (IsReachedBySome d texts)) (sym is) (record { rises = any_rises; members = any_told })
+
+  -- A list that is the impact of all texts.
+  pub all_listed : (numbers : List ℕ) → numbers ≡ all_impact d texts → IsRisingListOf (IsReachedByEach d texts) numbers
+  all_listed numbers is = subst (IsRisingListOf (IsReachedByEach d texts)) (sym is) (record { rises = all_rises; members = all_told })

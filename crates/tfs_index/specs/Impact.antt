@@ -1,7 +1,8 @@
 -- What a change reaches: the instances that texts name, and those that these reach.
-use Rattle.std.specs.Prelude.{◌≡◌, ◌⊎◌, ℕ, Bool, ◌&&◌, ◌||◌, nat_lt, if◌then◌else◌, List, []}
+use Rattle.std.specs.Prelude.{◌≡◌, ◌↔◌, ◌⊎◌, ℕ, ◌<◌, Bool, ◌&&◌, ◌||◌, nat_lt, if◌then◌else◌, List, []}
 use Rattle.std.specs.Prelude.{◌∷◌, length, filter, position, Contains, Option, Some, option_map, ◌==◌}
 use Rattle.std.specs.List.{list_any, list_all, range_with_len}
+use Rattle.std.specs.List.Sorted.{IsStrictlyIncreasing}
 use Rattle.tfs_state.specs.Document.{Document}
 use Rattle.tfs_state.specs.Dependency.{address_of, config_of}
 use Rattle.tfs_index.specs.Reach.{is_text, reaches, Reaches}
@@ -64,6 +65,12 @@ pub record IsReachedBySome (d : Document) (texts : List (List ℕ)) (u : ℕ) : 
   pub given : Contains texts text
   pub reached : IsReached d text u
 
--- Each of the texts names an instance that reaches this one.
-abbrev pub IsReachedByEach : Document → List (List ℕ) → ℕ → Type 0
-IsReachedByEach d texts u = (text : List ℕ) → Contains texts text → IsReached d text u
+-- This is an instance, and each of the texts names one that reaches it.
+pub record IsReachedByEach (d : Document) (texts : List (List ℕ)) (u : ℕ) : Type 0 where
+  pub within : u < length d.instances
+  pub reached : (text : List ℕ) → Contains texts text → IsReached d text u
+
+-- The numbers are those of which a fact holds, each once, rising.
+pub record IsRisingListOf (IsThere : ℕ → Type 0) (numbers : List ℕ) : Type 0 where
+  pub rises : IsStrictlyIncreasing numbers
+  pub members : (u : ℕ) → Contains numbers u ↔ IsThere u

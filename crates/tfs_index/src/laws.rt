@@ -1,6 +1,6 @@
 //! Laws of reach and impact, which hold whoever asks.
 
-ghost use Rattle.std.specs.Prelude.{ℕ, ◌<◌, ◌↔◌, List, length, Contains, IsTrue};
+ghost use Rattle.std.specs.Prelude.{ℕ, ◌↔◌, List, Contains, IsTrue};
 ghost use Rattle.std.specs.List.Sorted.{IsStrictlyIncreasing};
 ghost use Rattle.tfs_index.specs.Impact.{named_by, any_impact, all_impact, Names, IsReachedBySome, IsReachedByEach};
 ghost use Rattle.tfs_index.specs.Reach.{reaches, Reaches};
@@ -13,7 +13,7 @@ pub fn impact_follows_names_and_walks()
         → Contains (named_by d text) v ↔ Names d text v }
     ensures any { (d : Document) (texts : List (List ℕ)) (u : ℕ)
         → Contains (any_impact d texts) u ↔ IsReachedBySome d texts u }
-    ensures all { (d : Document) (texts : List (List ℕ)) (u : ℕ) → u < length d.instances
+    ensures all { (d : Document) (texts : List (List ℕ)) (u : ℕ)
         → Contains (all_impact d texts) u ↔ IsReachedByEach d texts u }
     ensures any_rises { (d : Document) (texts : List (List ℕ))
         → IsStrictlyIncreasing (any_impact d texts) }

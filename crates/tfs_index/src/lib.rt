@@ -13,4 +13,5 @@ mod version;
 
 pub use fault::ImpactFault;
 pub use laws::impact_follows_names_and_walks;
+pub use names::MAX_TEXTS;
 pub use version::Version;

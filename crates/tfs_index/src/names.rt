@@ -12,7 +12,7 @@ use crate::links::Links;
 use tfs_state::Doc;
 
 /// The most texts that a query may have.
-const MAX_TEXTS: usize = 64;
+pub const MAX_TEXTS: usize = 64;
 
 /// Whether a text is the address of an instance, or its configuration address.
 pub(crate) fn names(doc: &Doc, text: &str, v: usize) -> bool

@@ -2,7 +2,7 @@
 
 ghost use Rattle.std.specs.Prelude.{◌≡◌, ◌≢◌, ◌<◌, ◌↔◌, map, length, IsTrue, IfOk, IfErr, OnOk, OnErr, Some, None};
 ghost use Rattle.std.specs.Arc.{arc_value};
-ghost use Rattle.tfs_index.specs.Impact.{any_impact, all_impact, query_fault};
+ghost use Rattle.tfs_index.specs.Impact.{any_impact, all_impact, query_fault, IsReachedBySome, IsReachedByEach, IsRisingListOf};
 ghost use Rattle.tfs_index.specs.Reach.{Reaches};
 ghost use Rattle.tfs_index.specs.declared.fault.ImpactFault.TheVariants.{NoMemory};
 
@@ -71,6 +71,7 @@ impl Version {
     pub fn any(&self, alloc: Global, texts: &[&str]) -> Result<Vec<usize>, ImpactFault>
         ensures ok { IfOk result (λ numbers. numbers.items
             ≡ any_impact self.now (map (λ t. t.now) texts.now)) }
+        ensures walks { IfOk result (λ numbers. IsRisingListOf (IsReachedBySome self.now (map (λ t. t.now) texts.now)) numbers.items) }
         ensures faultless { OnOk result (query_fault self.now (map (λ t. t.now) texts.now) ≡ None) }
         ensures err { IfErr result (λ fault. fault ≢ NoMemory
             → query_fault self.now (map (λ t. t.now) texts.now) ≡ Some fault) }
@@ -91,6 +92,7 @@ impl Version {
     pub fn all(&self, alloc: Global, texts: &[&str]) -> Result<Vec<usize>, ImpactFault>
         ensures ok { IfOk result (λ numbers. numbers.items
             ≡ all_impact self.now (map (λ t. t.now) texts.now)) }
+        ensures walks { IfOk result (λ numbers. IsRisingListOf (IsReachedByEach self.now (map (λ t. t.now) texts.now)) numbers.items) }
         ensures faultless { OnOk result (query_fault self.now (map (λ t. t.now) texts.now) ≡ None) }
         ensures err { IfErr result (λ fault. fault ≢ NoMemory
             → query_fault self.now (map (λ t. t.now) texts.now) ≡ Some fault) }

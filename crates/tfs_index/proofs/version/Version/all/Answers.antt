@@ -6,6 +6,7 @@ use Rattle.tfs_state.specs.Document.{Document}
 use Rattle.tfs_index.specs.Impact.{all_impact}
 use Rattle.tfs_index.specs.Index.{HasIndex}
 use Rattle.tfs_index.proofs.ImpactLemmas.{fault_of_texts, no_all, all_members, some_text}
+use Rattle.tfs_index.proofs.LawLemmas.{all_listed}
 use Rattle.tfs_index.proofs.version.Version.all.Goals as goal
 
 pub returns-in-Some-clause-memory : goal.returns-in-Some-clause-memory
@@ -31,3 +32,10 @@ all_row-requires-clause-some c =
     let long = length-map c.args.texts.now (λ (t : Bor (List ℕ)). t.now) in
     let some = some_text c.deref.result.now (map (λ (t : Bor (List ℕ)). t.now) c.args.texts.now) (sym c.first_fault.ensures ∙ c.in_default.is) in
     omega (arith, long, some)
+
+pub returns-in_default-index-clause-walks : goal.returns-in_default-index-clause-walks
+returns-in_default-index-clause-walks c =
+    all_listed c.args.self.now (map (λ (t : Bor (List ℕ)). t.now) c.args.texts.now) _ (returns-in_default-index-clause-ok c)
+
+pub returns-clause-walks : goal.returns-clause-walks
+returns-clause-walks c = all_listed c.args.self.now (map (λ (t : Bor (List ℕ)). t.now) c.args.texts.now) _ (returns-clause-ok c)

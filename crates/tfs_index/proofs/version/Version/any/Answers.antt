@@ -5,6 +5,7 @@ use Rattle.tfs_state.specs.Document.{Document}
 use Rattle.tfs_index.specs.Impact.{any_impact}
 use Rattle.tfs_index.specs.Index.{HasIndex}
 use Rattle.tfs_index.proofs.ImpactLemmas.{fault_of_texts, no_any, any_members}
+use Rattle.tfs_index.proofs.LawLemmas.{any_listed}
 use Rattle.tfs_index.proofs.version.Version.any.Goals as goal
 
 pub returns-in-Some-clause-memory : goal.returns-in-Some-clause-memory
@@ -24,3 +25,10 @@ returns-clause-ok c =
     c.in_ok-members.ensures.members
     ∙ any_members c.deref-2.result.now c.args.texts.now c.in_ok-row.row c.in_ok-row.ensures.size c.in_ok-row.ensures.members
     ∙ ap (λ (d : Document). any_impact d (map (λ (t : Bor (List ℕ)). t.now) c.args.texts.now)) (c.deref-2.ensures ∙ c.self.view_is)
+
+pub returns-in_default-index-clause-walks : goal.returns-in_default-index-clause-walks
+returns-in_default-index-clause-walks c =
+    any_listed c.args.self.now (map (λ (t : Bor (List ℕ)). t.now) c.args.texts.now) _ (returns-in_default-index-clause-ok c)
+
+pub returns-clause-walks : goal.returns-clause-walks
+returns-clause-walks c = any_listed c.args.self.now (map (λ (t : Bor (List ℕ)). t.now) c.args.texts.now) _ (returns-clause-ok c)
