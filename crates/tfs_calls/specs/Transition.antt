@@ -84,6 +84,11 @@ GivesActAnswer m name act reply m' = (reply ≡ act_answer m name act) × (m' �
 abbrev pub LacksMemory : TableModel → ReplyValue → TableModel → Type 0
 LacksMemory m reply m' = (reply ≡ refused out_of_memory) × (m' ≡ m)
 
+-- Memory may be wanted to judge an act: for its acceptance, or to tell who holds the lock. A stopped table wants none.
+pub record MayLackMemory (m : TableModel) (name : List ℕ) (act : ActValue) : Type 0 where
+  pub running : m.stopped ≡ false
+  pub needs : (verdict_of (acts_of name m.journal) act ≡ verdict.Locked) ⊎ (act_refusal m name act ≡ None)
+
 -- The sink failed in place of an acceptance: the journal stays, and the table is stopped.
 abbrev pub FaultsAct : TableModel → List ℕ → ActValue → ReplyValue → TableModel → Type 0
 FaultsAct m name act reply m' = (act_refusal m name act ≡ None) × (reply ≡ refused journal_fault)

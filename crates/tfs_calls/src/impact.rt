@@ -1,6 +1,6 @@
 //! The impact of changes.
 
-ghost use Rattle.std.specs.Prelude.{◌≡◌, ◌⊎◌, Some, None, IfOk, IfErr, OnOk, map};
+ghost use Rattle.std.specs.Prelude.{◌≡◌, ◌≢◌, ◌⊎◌, ◌<◌, ◌≤◌, Some, None, IfOk, IfErr, OnOk, IfSome, IfNone, length, map};
 ghost use Rattle.tfs_calls.specs.Impact.{chosen_by, query_refusal, fault_refusal};
 ghost use Rattle.tfs_calls.specs.Refusal.{refusal_value, out_of_memory};
 
@@ -10,7 +10,7 @@ use crate::text::Text;
 use std::alloc::{AllocError, Global};
 use std::marker::Model;
 use std::sync::Arc;
-use tfs_index::{ImpactFault, Version};
+use tfs_index::{ImpactFault, MAX_TEXTS, Version};
 
 /// Numbers of instances in order, made from a vector and given back without taking memory. Contracts see their list.
 #[derive(Drop)]
@@ -56,13 +56,19 @@ pub struct Impact {
 }
 
 impl Query {
-    /// The instances of a version that the query chooses, by their numbers, rising.
+    /// The instances of a version that the query chooses, by their numbers, rising. No memory is asked for where there are no texts or
+    /// too many.
     pub fn choose(&self, alloc: Global, version: &Version) -> Result<Chosen, Refusal>
         ensures faultless { OnOk result (query_refusal version.now self.now ≡ None) }
         ensures ok { IfOk result (λ chosen. chosen ≡ chosen_by version.now self.now) }
         ensures err { IfErr result (λ refusal. (refusal_value refusal ≡ out_of_memory)
             ⊎ (query_refusal version.now self.now ≡ Some (refusal_value refusal))) }
+        ensures memory { IfErr result (λ refusal. refusal_value refusal ≡ out_of_memory
+            → (0 < length self.now.texts) × (length self.now.texts ≤ 64)) }
     {
+        if let Some(refusal) = refusal_of_count(version, self) {
+            return Err(refusal);
+        }
         let texts = lent(alloc, self.texts.as_slice())?;
         let answer = match self.kind {
             Kind::Any => version.any(alloc, texts.as_slice()),
@@ -73,6 +79,24 @@ impl Query {
             Err(fault) => Err(refusal_of_query(fault)),
         }
     }
+}
+
+/// The refusal of a query for the number of its texts.
+fn refusal_of_count(version: &Version, query: &Query) -> Option<Refusal>
+    ensures some { IfSome result (λ refusal. query_refusal version.now query.now ≡ Some (refusal_value refusal)) }
+    ensures memory { IfSome result (λ refusal. refusal_value refusal ≢ out_of_memory) }
+    ensures none { IfNone result ((0 < length query.now.texts) × (length query.now.texts ≤ 64)) }
+{
+    // The version stands in the contract alone: the same number is refused over each.
+    let _ = version;
+    let texts = query.texts.as_slice();
+    if texts.is_empty() {
+        return Some(Refusal::NoAddress);
+    }
+    if texts.len() > MAX_TEXTS {
+        return Some(Refusal::TooManyAddresses);
+    }
+    None
 }
 
 /// Texts, lent.
