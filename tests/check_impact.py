@@ -72,6 +72,45 @@ def check_all_meets_what_any_unites():
     ])
 
 
+def depends(name, *texts):
+    """The text of a resource with one instance, without blanks."""
+    listed = ",".join(f'"{text}"' for text in texts)
+    return f'{{"mode":"managed","type":"t","name":"{name}","instances":[{{"dependencies":[{listed}]}}]}}'
+
+
+def written(serial, *resources):
+    """The bytes of a state, without blanks."""
+    return f'{{"version":4,"serial":{serial},"lineage":"L1","resources":[{",".join(resources)}]}}'.encode()
+
+
+def check_states_without_blanks_are_asked():
+    expect_answers(written(2, depends("a", "x.y"), depends("b", "t.a"), depends("c", "t.b")), [
+        (ask("any", "t.a"), answer("t.b", "t.c", serial=2)), (ask("any", "t.c"), answer(serial=2)),
+        (ask("any", "x.y"), UNKNOWN), (ask("any", "t.a", name="z"), refusal_text("NoState")),
+    ])
+    expect_answers(written(1, depends("a", "t.b"), depends("b", "t.a")), [(ask("any", "t.a"), answer("t.a", "t.b"))])
+    ends = depends("a"), depends("b"), depends("c", "t.a"), depends("e", "t.b")
+    texts = ["t.a"] * 64
+    expect_answers(written(1, *ends[:3], depends("d", "t.a", "t.b"), ends[3]), [
+        (ask("all", "t.a", "t.b"), answer("t.d")), (ask("all", *texts), answer("t.c", "t.d")),
+        (ask("all", *texts, "t.a"), refusal_text("TooManyAddresses")),
+        (request_text("GET", "/impact/a/all"), refusal_text("NoAddress")),
+    ])
+    expect_answers(written(1, *ends), [(ask("all", "t.a", "t.b"), answer())])
+
+
+def chain_of(count):
+    """A state in which each instance but the first depends on the one before."""
+    return written(1, *(depends(f"i{i}", *([f"t.i{i - 1}"] if i else [])) for i in range(count)))
+
+
+def check_the_first_of_a_chain_reaches_all_later_ones():
+    for count in (1, 63, 64, 65, 511, 512, 513, 2048, 2049, 4096):
+        expect_answers(chain_of(count), [(ask("any", "t.i0"), answer(*(f"t.i{i}" for i in range(1, count))))])
+    expect_answers(chain_of(0), [(ask("any", "t.i0"), UNKNOWN)])
+    expect(run(request_text("POST", "/state/a", chain_of(4097))), (refusal_text("TooManyInstances"), CLEAN, b""))
+
+
 def check_addresses_are_told_as_json_texts():
     keys = state(resource("n", {"index_key": "\u00e9\"\n"}, {"index_key": 7, "deposed": "ab"}, module="module.m[\"p.q]\"]"),
                  resource("z", depending("module.m.t.n"), {"dependencies": ["module.m[8].t.n"], "deposed": ""}, mode="data"),

@@ -93,6 +93,14 @@ def check_a_body_has_the_digest_that_is_told():
     expect(run(request(b"POST", digest(told), S1) + GET), (DONE + reply_text(200, S1), CLEAN, b""))
 
 
+def check_a_held_lock_is_forced_off_by_an_empty_body_with_its_digest():
+    held = b'{"ID":"A" ,"Who":""}'
+    unlock = request(b"UNLOCK", digest(EMPTY), b"")
+    lost = request(b"POST", body=S1, target=b"/state/a?ID=A")
+    for last in (unlock, request(b"UNLOCK", b"", b""), request(b"UNLOCK")):
+        expect(run(request(b"LOCK", body=held) + unlock + lost + last), (DONE * 2 + refusal_text("LockLost") + DONE, CLEAN, b""))
+
+
 def check_digests_are_looked_at_last():
     table = [
         (request(b"GET", digest(ABC)), "BadDigest"), (request(b"GET", b"content-md5: \t" + EMPTY + b" \r\n"), "NoState"),
@@ -239,6 +247,8 @@ def check_targets_and_methods_are_judged_in_order():
     for line, name in table:
         data = line.encode() + b" HTTP/1.1\r\nHost: h\r\n\r\n"
         expect(run(data + GET), (refusal_text(name) + NO_STATE, CLEAN, b""), line)
+    gone = request(b"DELETE", target=b"/state/q") + request(b"GET", target=b"/state/q")
+    expect(run(gone), (DONE + NO_STATE, CLEAN, b""), "a name without a state is deleted")
     expect(refusal_text("MethodNotAllowed"), b"HTTP/1.1 405 Method Not Allowed\r\n"
            b"Allow: DELETE, GET, LOCK, POST, UNLOCK\r\n"
            b'Content-Type: application/json\r\nContent-Length: 28\r\n\r\n{"error":"MethodNotAllowed"}')

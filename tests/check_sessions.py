@@ -5,7 +5,7 @@ import sys
 import threading
 from pathlib import Path
 
-from checking import checks_in, expect, run_checks
+from checking import SECONDS, checks_in, expect, run_checks
 from journal_reader import base_text
 from serve_program import Server, asked, entries_of, fresh, run, state
 
@@ -87,31 +87,46 @@ def check_sessions_push_the_same_states():
         expect((len(serials), serials), (accepted, sorted(serials)), f"{count} sessions: an entry for each, and no serial falls")
 
 
+def pair(serial):
+    """A state in which t.b depends on t.a, without blanks."""
+    def one(name, needs):
+        return f'{{"mode":"managed","type":"t","name":"{name}","instances":[{{"dependencies":[{needs}]}}]}}'
+
+    both = ",".join([one("a", ""), one("b", '"t.a"')])
+    return f'{{"version":4,"serial":{serial},"lineage":"L1","resources":[{both}]}}'.encode()
+
+
 def impact(connection):
-    """The position and the serial of the answer to what a change of the first resource reaches, which is the others."""
+    """The position and the serial of the answer to what a change of t.a reaches, which is t.b."""
     status, text = asked(connection, "GET", "/impact/a/any?of=t.a")
     answer = json.loads(text)
-    expect((status, answer["instances"]), (200, ["t.b", "t.c"]))
+    expect((status, answer["instances"]), (200, ["t.b"]))
     return answer["position"], answer["serial"]
 
 
-def push_or_ask(connection, number):
-    """The first session pushes, and asks after each push; the other one asks a thousand times. What they are told."""
-    if number:
-        return [impact(connection) for _ in range(1000)]
-    told = []
-    for serial in range(2, CHANGES + 1):
-        expect(asked(connection, "POST", "/state/a", chain(serial)), (200, b""))
-        told.append(impact(connection))
-    return told
+def push_or_ask(pushed):
+    """The first session pushes, and asks after each push; the other one asks a thousand times, and once more when all were pushed."""
+    def talk(connection, number):
+        if number:
+            told = [impact(connection) for _ in range(1000)]
+            expect(pushed.wait(timeout=SECONDS), True, "all are pushed")
+            return [*told, impact(connection)]
+        told = []
+        for serial in range(2, CHANGES + 1):
+            expect(asked(connection, "POST", "/state/a", pair(serial)), (200, b""))
+            told.append(impact(connection))
+        pushed.set()
+        return told
+    return talk
 
 
 def check_queries_go_on_beside_changes():
     server = Server()
-    expect(server.ask("POST", "/state/a", chain(1)), (200, b""))
-    own, others = at_once(server, 2, push_or_ask)
+    expect(server.ask("POST", "/state/a", pair(1)), (200, b""))
+    own, others = at_once(server, 2, push_or_ask(threading.Event()))
     expect(own, [(serial, serial) for serial in range(2, CHANGES + 1)], "each push is seen by its session's next query")
     expect(others, sorted(others), "no answer goes back")
+    expect(others[-1], (CHANGES, CHANGES), "once all were pushed the other session sees the last")
     expect(all(position == serial <= CHANGES for position, serial in others), True, "an answer is of one journal")
     expect(server.ask("GET", "/impact/a/any?of=t.a")[0], 200)
     expect(len(entries_of(Path(server.new).read_bytes())), CHANGES)
