@@ -1,5 +1,6 @@
 //! The instances of states: their addresses and what depends on what, worked out by hand, and the digests of texts.
 
+use super::both_ways::expect_both;
 use super::rows::{parts_of, repeated};
 use super::states::{one_resource, read, with_resources};
 use std::alloc::Global;
@@ -35,7 +36,7 @@ fn push_line(text: &mut String, doc: &Doc, u: usize) -> Result<(), Fail> {
 }
 
 /// A line for each instance.
-fn listing_of(rt: &impl Alloc<A = Global>, doc: &Doc) -> Result<String, Fail> {
+pub(crate) fn listing_of(rt: &impl Alloc<A = Global>, doc: &Doc) -> Result<String, Fail> {
     let mut text = String::new(rt.alloc());
     for u in 0..doc.len() {
         push_line(&mut text, doc, u)?;
@@ -56,6 +57,7 @@ pub(crate) fn expect_listing(
             assert!(rt; found.as_str() == wanted, "{found}\nin {text}");
         }
     }
+    expect_both(rt, text.as_bytes())?;
     Ok(())
 }
 

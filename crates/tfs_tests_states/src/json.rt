@@ -1,34 +1,38 @@
 //! Which bytes spell a JSON value, and what stands at its members, by hand from RFC 8259.
 
 use super::rows::parts_of;
+use json::Scratch;
 use serde_json::Value;
 use std::alloc::Global;
 use std::process::Abort;
 use std::test::Fail;
 use tfs_json::{
-    JsonFault, list_at, member_at, optional_text_at, read_value, text_at, whole_number_at,
+    JsonFault, Tree, list_at, member_at, optional_text_at, read_kept, text_at, whole_number_at,
 };
 
-/// An object with members of each kind, of which one is there twice.
+/// An object with members of each kind, of which one is there twice and two aren't kept.
 const OBJECT: &str =
-    r#"{"n":18446744073709551615,"t":"\u00e9\n","f":4.0,"m":-1,"e":"","x":1e0,"z":null,"l":[{}],"v":[],"l":[1,null]}"#;
+    r#"{"serial":18446744073709551615,"lineage":"\u00e9\n","version":4.0,"index_key":-1,"deposed":"","mode":1e0,"module":null,"instances":[{}],"dependencies":[],"instances":[1,null],"ID":7,"I\u0044":"A","id":"B","outputs":[{}]}"#;
 
 /// A member each: its name, the whole number, the text, the text that may be absent, how long the list is that may be absent,
 /// and whether it is there.
-const MEMBERS: &str = r#"n => Some(18446744073709551615) None None None true
-t => None Some("é\n") Some(Some("é\n")) None true
-f => None None None None true
-m => None None None None true
-e => None Some("") Some(Some("")) None true
-x => None None None None true
-z => None None Some(None) Some(0) false
-l => None None None Some(2) true
-v => None None None Some(0) true
-q => None None Some(None) Some(0) false
-N => None None Some(None) Some(0) false"#;
+const MEMBERS: &str = r#"serial => Some(18446744073709551615) None None None true
+lineage => None Some("é\n") Some(Some("é\n")) None true
+version => None None None None true
+index_key => None None None None true
+deposed => None Some("") Some(Some("")) None true
+mode => None None None None true
+module => None None Some(None) Some(0) false
+instances => None None None Some(2) true
+dependencies => None None None Some(0) true
+ID => None Some("A") Some(Some("A")) None true
+type => None None Some(None) Some(0) false
+id => None None Some(None) Some(0) false
+outputs => None None Some(None) Some(0) false
+Serial => None None Some(None) Some(0) false"#;
 
 /// What each call says of a member.
-fn answers_at(rt: &impl Alloc<A = Global>, value: &Value, name: &str) -> Result<String, Fail> {
+fn answers_at(rt: &impl Alloc<A = Global>, value: &Tree<'_>, name: &str) -> Result<String, Fail> {
     let number = whole_number_at(value, name);
     let text = text_at(value, name);
     let optional = optional_text_at(value, name);
@@ -40,7 +44,7 @@ fn answers_at(rt: &impl Alloc<A = Global>, value: &Value, name: &str) -> Result<
 /// Compares what is said of a row's member.
 fn expect_member(
     rt: &(impl Alloc<A = Global> + Abort),
-    value: &Value,
+    value: &Tree<'_>,
     row: &str,
 ) -> Result<(), Fail> {
     let (name, wanted) = parts_of(rt, row);
@@ -51,16 +55,20 @@ fn expect_member(
 
 #[test]
 fn members_are_read(rt: HostRuntime) -> Result<(), Fail> {
-    let value = read_value(rt.alloc(), OBJECT.as_bytes())?;
+    let mut scratch = Scratch::new(rt.alloc());
+    let value = read_kept(rt.alloc(), OBJECT.as_bytes(), &mut scratch)?;
     for row in MEMBERS.lines() {
         expect_member(&rt, &value, row)?;
     }
     Ok(())
 }
 
-/// Looks at whether bytes spell a value; those that spell none are no JSON text.
+/// Looks at whether bytes spell a value, for `serde_json` too; those that spell none are no JSON text.
 fn expect_value(rt: &(impl Alloc<A = Global> + Abort), bytes: &[u8], is_one: bool) {
-    match read_value(rt.alloc(), bytes) {
+    let is_read = Value::from_slice(rt.alloc(), bytes).is_ok();
+    assert!(rt; is_read == is_one, "{bytes:?}");
+    let mut scratch = Scratch::new(rt.alloc());
+    match read_kept(rt.alloc(), bytes, &mut scratch) {
         Ok(_) => assert!(rt; is_one, "{bytes:?}"),
         Err(fault) => assert!(rt; !is_one && fault == JsonFault::NotJson, "{bytes:?}"),
     }

@@ -5,6 +5,8 @@
 #[cfg(test)]
 mod addresses;
 #[cfg(test)]
+mod both_ways;
+#[cfg(test)]
 mod chains;
 #[cfg(test)]
 mod index;
@@ -15,7 +17,11 @@ mod json;
 #[cfg(test)]
 mod locks;
 #[cfg(test)]
+mod mutated;
+#[cfg(test)]
 mod plain_impact;
+#[cfg(test)]
+mod plain_states;
 #[cfg(test)]
 mod plain_walks;
 #[cfg(test)]

@@ -1,6 +1,7 @@
 //! Texts of locks with their answers, by hand from RFC 8259 and from the limits of lock texts.
 
 use super::rows::{parts_of, repeated};
+use serde_json::Value;
 use std::alloc::Global;
 use std::process::Abort;
 use std::test::Fail;
@@ -17,10 +18,40 @@ fn answer_of(rt: &(impl Alloc<A = Global> + Abort), text: &[u8]) -> Result<Strin
     }
 }
 
+/// The same by the JSON value that `serde_json` reads of a text that isn't too long.
+fn plain_answer_of(rt: &impl Alloc<A = Global>, text: &[u8]) -> Result<String, Fail> {
+    let Ok(value) = Value::from_slice(rt.alloc(), text) else {
+        return Ok(String::from_str(rt.alloc(), "NotJson")?);
+    };
+    let id = value.get("ID").and_then(Value::as_str).unwrap_or("");
+    let fault = match id.len() {
+        _ if !value.is_object() => "NotObject",
+        0 => "NoId",
+        1..=256 => return Ok(format!(in rt.alloc(); "{id:?}")?),
+        _ => "TooLong",
+    };
+    Ok(String::from_str(rt.alloc(), fault)?)
+}
+
+/// Compares the answer of a text with that of the plain reading.
+pub(crate) fn expect_both(
+    rt: &(impl Alloc<A = Global> + Abort),
+    text: &[u8],
+) -> Result<bool, Fail> {
+    let found = answer_of(rt, text)?;
+    let wanted = plain_answer_of(rt, text)?;
+    assert!(rt;
+        found == wanted,
+        "{found}, and {wanted} is wanted of {text:?}"
+    );
+    Ok(found.as_str().starts_with('"'))
+}
+
 /// Compares the answer of a text.
 fn expect(rt: &(impl Alloc<A = Global> + Abort), text: &[u8], wanted: &str) -> Result<(), Fail> {
     let found = answer_of(rt, text)?;
     assert!(rt; found.as_str() == wanted, "{found}, and {wanted} is wanted");
+    expect_both(rt, text)?;
     Ok(())
 }
 

@@ -1,5 +1,6 @@
 //! Texts of states with their answers, by hand from RFC 8259 and from Terraform's state format, version 4.
 
+use super::both_ways::expect_both;
 use super::rows::{parts_of, repeated};
 use std::alloc::Global;
 use std::process::Abort;
@@ -31,6 +32,7 @@ pub(crate) fn expect(
 ) -> Result<(), Fail> {
     let found = answer_of(rt, text)?;
     assert!(rt; found.as_str() == wanted, "{found}, and {wanted} is wanted");
+    expect_both(rt, text)?;
     Ok(())
 }
 
