@@ -9,7 +9,7 @@ use std::io;
 use std::io::{Read, Write};
 use std::time::{Clock, Instant};
 use tfs_calls::{Call, Refusal, Reply};
-use tfs_conversation::{Desk, Reads, TableDesk, converse};
+use tfs_conversation::{Desk, Reads, TableDesk, Watched, converse};
 use tfs_records::Discard;
 use tfs_table::Table;
 
@@ -28,15 +28,15 @@ impl<'a> Talk<'a> {
 
     /// Has the conversation with a desk: how many bytes are written.
     fn over<D: Desk>(&self, rt: &(impl AllocGlobal + Clock), desk: &mut D) -> Result<Measured> {
-        let mut reader = Pieces {
+        let mut reader = Watched::new(Pieces {
             rest: self.requests,
             size: self.piece,
-        };
-        let mut writer = Count { bytes: 0 };
+        });
+        let mut writer = Watched::new(Count { bytes: 0 });
         let mut reads = Reads::new();
         let start = Instant::now(rt)?;
         converse(rt.alloc(), &mut reader, &mut writer, desk, &mut reads)?;
-        Ok(Measured::new(start.elapsed(rt)?, writer.bytes))
+        Ok(Measured::new(start.elapsed(rt)?, writer.inner.bytes))
     }
 }
 

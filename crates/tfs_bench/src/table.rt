@@ -5,7 +5,7 @@ use crate::measure::{Calls, Measured};
 use anyhow::{Result, bail};
 use std::alloc::{AllocError, Global};
 use std::time::{Clock, Instant};
-use tfs_conversation::{Ended, Reads, converse_over_table};
+use tfs_conversation::{Ended, Reads, Watched, converse_over_table};
 use tfs_records::Discard;
 use tfs_table::Table;
 
@@ -78,8 +78,8 @@ fn requests_of(alloc: Global, states: &[&str]) -> Result<String, AllocError> {
 
 /// Has a conversation over a table, to its end.
 fn talk(alloc: Global, table: &mut Table<Discard>, requests: &[u8]) -> Result<()> {
-    let mut reader = requests;
-    let mut replies = Vec::new(alloc);
+    let mut reader = Watched::new(requests);
+    let mut replies = Watched::new(Vec::new(alloc));
     let mut reads = Reads::new();
     let ended = converse_over_table(alloc, &mut reader, &mut replies, table, &mut reads)?;
     match ended {

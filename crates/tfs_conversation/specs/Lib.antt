@@ -2,6 +2,7 @@ pub mod Desk
 pub mod Messages
 pub mod Conversation
 pub mod Input
+pub mod Lent
 pub mod Arrived
 pub mod Turns
 pub mod Output

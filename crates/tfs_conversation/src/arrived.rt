@@ -2,18 +2,20 @@
 
 ghost use Rattle.std.specs.Prelude.{◌≡◌, ◌≤◌, ◌<◌, ◌++◌, ◌⊎◌, List, ℕ, [], Ok, None, IfOk, IfErr, IfSome, OnOk};
 ghost use Rattle.std.specs.Io.KnownBytes.{Consumes};
-ghost use Rattle.tfs_framing.specs.Framing.{AreWanted};
+ghost use Rattle.tfs_framing.specs.Request.{RequestValue};
+ghost use Rattle.tfs_framing.specs.Framing.{AreWanted, BeginsWith};
 ghost use Rattle.tfs_conversation.specs.Arrived.{ArrivesOrStays, BreaksThere, EndsSo, EndsThere};
 ghost use Rattle.tfs_conversation.specs.Conversation.{ComesInReads};
 ghost use Rattle.tfs_conversation.specs.Turns.{work_left};
 ghost use Rattle.tfs_conversation.specs.declared.ended.Ended.TheVariants.{Clean, Cut};
+ghost use Rattle.tfs_conversation.specs.Lent.{TellsReader};
 
 use crate::ended::Ended;
 use crate::fault::ServeFault;
 use crate::input::{Input, fill};
+use crate::lent::Source;
 use crate::reads::Reads;
 use std::alloc::Global;
-use std::io::Read;
 use tfs_calls::Refusal;
 use tfs_framing::{Framed, Request};
 
@@ -28,8 +30,9 @@ pub(crate) enum Arrived {
     Ended(Ended),
 }
 
-/// What comes next, if that can be told of what was read; else reads more.
-pub(crate) fn arrive<R: Read>(
+/// What comes next, if that can be told of what was read; else reads more. Where a message was read, nothing is read before it is
+/// given.
+pub(crate) fn arrive<R: Source>(
     alloc: Global,
     input: &mut Input,
     reader: &mut R,
@@ -41,6 +44,9 @@ pub(crate) fn arrive<R: Read>(
     ensures end { IfOk result (λ next. IfSome next (EndsThere (R.remaining reader.new))) }
     ensures limit { OnOk result ((reads.new ≡ reads.old) ⊎ (reads.new ≤ 1048576)) }
     ensures less { result ≡ Ok None → work_left reads.new input.new < work_left reads.old input.old }
+    ensures reader { TellsReader result (R.failed reader.old) (R.failed reader.new) }
+    ensures at_once { (r : RequestValue) (used : ℕ) → BeginsWith input.old r used
+        → (reads.new ≡ reads.old) × (R.remaining reader.new ≡ R.remaining reader.old) }
 {
     match input.frame(alloc) {
         Ok(Framed::Want(wanted, known)) => {
@@ -57,7 +63,7 @@ pub(crate) fn arrive<R: Read>(
 
 /// Reads until so many bytes are there, which are wanted, or the input has ended; or else until the message is whole or refused, where
 /// its head tells chunks.
-fn read_on<R: Read>(
+fn read_on<R: Source>(
     alloc: Global,
     input: &mut Input,
     wanted: usize,
@@ -71,6 +77,7 @@ fn read_on<R: Read>(
     ensures end { IfOk result (λ next. IfSome next (EndsThere (R.remaining reader.new))) }
     ensures limit { OnOk result ((reads.new ≡ reads.old) ⊎ (reads.new ≤ 1048576)) }
     ensures less { result ≡ Ok None → work_left reads.new input.new < work_left reads.old input.old }
+    ensures reader { TellsReader result (R.failed reader.old) (R.failed reader.new) }
 {
     match input.receive(alloc, reader, reads) {
         Ok(None) => {}

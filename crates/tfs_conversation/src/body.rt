@@ -1,19 +1,20 @@
 //! A body that is read by itself, into the vector that its request keeps.
 
-ghost use Rattle.std.specs.Prelude.{◌≡◌, ◌≤◌, ◌<◌, ◌+◌, ◌++◌, List, ℕ, [], length, min, take, drop, Ok, Err, IfOk, OnOk, OnErr, IfErr};
+ghost use Rattle.std.specs.Prelude.{◌≡◌, ◌≤◌, ◌<◌, ◌+◌, ◌++◌, List, ℕ, [], length, min, take, drop, true, Ok, Err, IfOk, OnOk, OnErr, IfErr};
 ghost use Rattle.std.specs.Io.KnownBytes.{Consumes, IsAtEnd, Keeps};
 ghost use Rattle.tfs_framing.specs.Request.{RequestValue};
 ghost use Rattle.tfs_framing.specs.Framing.{BeginsWith, FramesAll, IsSizedHead, body_size, body_start};
 ghost use Rattle.tfs_conversation.specs.Turns.{FailsReading};
 ghost use Rattle.tfs_conversation.specs.declared.fault.ServeFault.TheVariants.{TooManyReads};
+ghost use Rattle.tfs_conversation.specs.Lent.{TellsReader};
 
 use crate::fault::ServeFault;
 use crate::input::PIECE_BYTES;
+use crate::lent::{LentFault, Source};
 use crate::reads::Reads;
 use bytes::BytesMut;
 use std::alloc::{AllocError, Global};
-use std::io::Read;
-use std::{io, mem};
+use std::mem;
 use tfs_framing::{Framed, SizedHead, frame_with_body};
 
 /// The message of a head and the first so many bytes of a vector, which are its body. The vector goes into the request, and the
@@ -76,7 +77,7 @@ pub(crate) fn split_front(
 
 /// Reads once behind the first so many bytes of a body, and no more than it has in all. Its room is used step by step: only what
 /// the next read may fill is made zeros.
-pub(crate) fn read_body<R: Read>(
+pub(crate) fn read_body<R: Source>(
     body: &mut Vec<u8>,
     filled: usize,
     size: usize,
@@ -95,6 +96,7 @@ pub(crate) fn read_body<R: Read>(
         × Keeps (R.remaining reader.old) (R.remaining reader.new)) }
     ensures fault { IfErr result (λ fault. (reads.old ≤ reads.new) × FailsReading fault reads.old reads.new) }
     ensures spent { result ≡ Err TooManyReads → (reads.old ≡ 1048576) × (reads.new ≡ 1048576) }
+    ensures reader { TellsReader result (R.failed reader.old) (R.failed reader.new) }
 {
     if make_room(body, filled, size).is_err() {
         return Err(ServeFault::NoMemory);
@@ -124,7 +126,11 @@ fn make_room(body: &mut Vec<u8>, filled: usize, size: usize) -> Result<(), Alloc
 }
 
 /// Reads once into the part behind the first so many bytes.
-fn read_behind<R: Read>(bytes: &mut [u8], filled: usize, reader: &mut R) -> io::Result<usize>
+fn read_behind<R: Source>(
+    bytes: &mut [u8],
+    filled: usize,
+    reader: &mut R,
+) -> Result<usize, LentFault>
     requires { filled < length bytes.old }
     ensures len { length bytes.new ≡ length bytes.old }
     ensures within { IfOk result (λ n. filled + n ≤ length bytes.old) }
@@ -132,10 +138,12 @@ fn read_behind<R: Read>(bytes: &mut [u8], filled: usize, reader: &mut R) -> io::
         × Consumes (R.remaining reader.old) (R.remaining reader.new) more) }
     ensures end { IfOk result (λ n. n ≡ 0 → IsAtEnd (R.remaining reader.new)) }
     ensures kept { OnErr result ((take filled bytes.new ≡ take filled bytes.old) × Keeps (R.remaining reader.old) (R.remaining reader.new)) }
+    ensures well { OnOk result (R.failed reader.new ≡ R.failed reader.old) }
+    ensures fault { OnErr result (R.failed reader.new ≡ true) }
 {
     let (_, left) = bytes.split_at_mut(filled);
     match reader.read(left) {
         Ok(count) => Ok(count),
-        Err(error) => Err(error),
+        Err(fault) => Err(fault),
     }
 }

@@ -5,15 +5,16 @@ ghost use Rattle.std.specs.Io.KnownBytes.{Consumes};
 ghost use Rattle.tfs_framing.specs.Decoded.{Decodes};
 ghost use Rattle.tfs_conversation.specs.Arrived.{Arrives, BreaksThere, EndsThere};
 ghost use Rattle.tfs_conversation.specs.Conversation.{ComesInReads};
+ghost use Rattle.tfs_conversation.specs.Lent.{TellsReader};
 
 use crate::arrived::Arrived;
 use crate::ended::Ended;
 use crate::fault::ServeFault;
 use crate::input::read_unused;
+use crate::lent::Source;
 use crate::reads::Reads;
 use bytes::BytesMut;
 use std::alloc::Global;
-use std::io::Read;
 use tfs_framing::{
     ChunkedBody, FramedChunks, frame_chunks, what_is_known_stays_whatever_bytes_follow,
 };
@@ -26,7 +27,7 @@ pub(crate) struct Chunks {
 }
 
 /// Reads until a message is whole, or refused, of which some bytes were decoded and some are left. What is behind it is left then.
-pub(crate) fn receive_chunks<R: Read>(
+pub(crate) fn receive_chunks<R: Source>(
     alloc: Global,
     chunks: Chunks,
     left: &mut BytesMut,
@@ -42,6 +43,7 @@ pub(crate) fn receive_chunks<R: Read>(
         → IfOk result (Arrives (bytes ++ more) left.new.items) × IfErr result (λ fault. BreaksThere (bytes ++ more) fault reads.old reads.new)) }
     ensures end { IfOk result (EndsThere (R.remaining reader.new)) }
     ensures limit { OnOk result ((reads.new ≡ reads.old) ⊎ (reads.new ≤ 1048576)) }
+    ensures reader { TellsReader result (R.failed reader.old) (R.failed reader.new) }
 {
     what_is_known_stays_whatever_bytes_follow();
     let Chunks { before, decoded } = chunks;

@@ -8,16 +8,17 @@ ghost use Rattle.tfs_http.specs.ReplyText.{reply_text};
 ghost use Rattle.tfs_conversation.specs.Conversation.{AnswersRequest, ComesInReads, Converses, BreaksOff, IsReadThrough};
 ghost use Rattle.tfs_conversation.specs.Turns.{WritesPart, moment, Went, HasEnded, HasBroken, work_left};
 ghost use Rattle.tfs_conversation.specs.declared.ended.Ended.TheVariants.{Asked};
+ghost use Rattle.tfs_conversation.specs.Lent.{TellsReader, TellsWriter};
 
 use crate::arrived::{Arrived, arrive};
 use crate::desk::Desk;
 use crate::ended::Ended;
 use crate::fault::ServeFault;
 use crate::input::Input;
+use crate::lent::{Outlet, Source};
 use crate::output::{JOINED_BYTES, write_joined};
 use crate::reads::Reads;
 use std::alloc::{AllocError, Global};
-use std::io::{Read, Write};
 use tfs_calls::{Refusal, Reply};
 use tfs_framing::{Form, Request};
 use tfs_http::{Routes, body_of, call_of, write_head};
@@ -30,7 +31,7 @@ const CLOSING: Form = Form {
 
 /// Answers each message as soon as it is whole, until the input ends, a request asks to close, or a message is refused whose
 /// end isn't known. Each read is counted before it is made.
-pub fn converse<R: Read, W: Write, D: Desk>(
+pub fn converse<R: Source, W: Outlet, D: Desk>(
     alloc: Global,
     reader: &mut R,
     writer: &mut W,
@@ -48,6 +49,8 @@ pub fn converse<R: Read, W: Write, D: Desk>(
         × Appends (W.contents writer.old) (W.contents writer.new) text
         × ComesInReads bytes reads.old reads.new
         × BreaksOff D.step desk.old desk.new bytes text fault reads.old reads.new) }
+    ensures reader { TellsReader result (R.failed reader.old) (R.failed reader.new) }
+    ensures writer { TellsWriter result (W.failed writer.old) (W.failed writer.new) }
 {
     let Ok(mut connection) = Connection::new(alloc) else {
         return Err(ServeFault::NoMemory);
@@ -78,7 +81,7 @@ impl Connection {
 }
 
 /// Takes turns until the conversation ends.
-fn run<R: Read, W: Write, D: Desk>(
+fn run<R: Source, W: Outlet, D: Desk>(
     alloc: Global,
     connection: &mut Connection,
     reader: &mut R,
@@ -90,6 +93,8 @@ fn run<R: Read, W: Write, D: Desk>(
         (moment desk.new (R.remaining reader.new) (W.contents writer.new) reads.new connection.new.input)) }
     ensures fault { IfErr result (HasBroken D.step (moment desk.old (R.remaining reader.old) (W.contents writer.old) reads.old connection.old.input)
         (moment desk.new (R.remaining reader.new) (W.contents writer.new) reads.new connection.new.input)) }
+    ensures reader { TellsReader result (R.failed reader.old) (R.failed reader.new) }
+    ensures writer { TellsWriter result (W.failed writer.old) (W.failed writer.new) }
 {
     loop {
         match turn(alloc, connection, reader, writer, desk, reads) {
@@ -105,7 +110,7 @@ fn run<R: Read, W: Write, D: Desk>(
 
 /// Reads more where more is wanted, or else answers the message that comes first. Tells how the conversation ends, if it
 /// does.
-fn turn<R: Read, W: Write, D: Desk>(
+fn turn<R: Source, W: Outlet, D: Desk>(
     alloc: Global,
     connection: &mut Connection,
     reader: &mut R,
@@ -121,6 +126,8 @@ fn turn<R: Read, W: Write, D: Desk>(
         (moment desk.new (R.remaining reader.new) (W.contents writer.new) reads.new connection.new.input))) }
     ensures fault { IfErr result (HasBroken D.step (moment desk.old (R.remaining reader.old) (W.contents writer.old) reads.old connection.old.input)
         (moment desk.new (R.remaining reader.new) (W.contents writer.new) reads.new connection.new.input)) }
+    ensures reader { TellsReader result (R.failed reader.old) (R.failed reader.new) }
+    ensures writer { TellsWriter result (W.failed writer.old) (W.failed writer.new) }
 {
     let arrived = match arrive(alloc, &mut connection.input, reader, reads) {
         Ok(Some(arrived)) => arrived,
@@ -158,7 +165,7 @@ fn end_after(asks_to_close: bool) -> Option<Ended>
 }
 
 /// Answers a request, and writes the text of the reply.
-fn reply_to<W: Write, D: Desk>(
+fn reply_to<W: Outlet, D: Desk>(
     alloc: Global,
     connection: &mut Connection,
     writer: &mut W,
@@ -171,6 +178,7 @@ fn reply_to<W: Write, D: Desk>(
     ensures err { IfErr result (λ fault. (reply : ReplyValue) × AnswersRequest D.step desk.old request reply desk.new
         × WritesPart (W.contents writer.old) (W.contents writer.new) (reply_text reply (form_of request)) fault) }
     ensures input { connection.new.input ≡ connection.old.input }
+    ensures writer { TellsWriter result (W.failed writer.old) (W.failed writer.new) }
 {
     let form = request.form();
     let reply = answer(alloc, &connection.routes, desk, request);
@@ -192,7 +200,7 @@ fn answer<D: Desk>(alloc: Global, routes: &Routes, desk: &mut D, request: Reques
 }
 
 /// Writes the text of a reply, by way of a vector whose bytes go; after a fault a part of it is written.
-fn send<W: Write>(
+fn send<W: Outlet>(
     alloc: Global,
     text: &mut Vec<u8>,
     writer: &mut W,
@@ -201,6 +209,7 @@ fn send<W: Write>(
 ) -> Result<(), ServeFault>
     ensures ok { OnOk result (Appends (W.contents writer.old) (W.contents writer.new) (reply_text (reply_value reply.now) form)) }
     ensures err { IfErr result (λ fault. WritesPart (W.contents writer.old) (W.contents writer.new) (reply_text (reply_value reply.now) form) fault) }
+    ensures writer { TellsWriter result (W.failed writer.old) (W.failed writer.new) }
 {
     let Ok(body) = body_of(alloc, reply) else {
         return Err(ServeFault::NoMemory);

@@ -5,16 +5,17 @@ ghost use Rattle.std.specs.Io.KnownBytes.{Appends};
 ghost use Rattle.tfs_conversation.specs.Check.{WritesFront};
 ghost use Rattle.tfs_conversation.specs.Turns.{WritesPart};
 ghost use Rattle.tfs_conversation.specs.declared.fault.ServeFault.TheVariants.{Write as WriteFault, NoMemory};
+ghost use Rattle.tfs_conversation.specs.Lent.{TellsWriter};
 
 use crate::fault::ServeFault;
-use std::io::Write;
+use crate::lent::Outlet;
 
 /// The most bytes of two texts that are put together before they are written.
 pub(crate) const JOINED_BYTES: usize = 16_384;
 
 /// Writes two texts. Where they have at most 16,384 bytes together, the second is added to the first, so that one write can take
 /// both; else it isn't copied.
-pub(crate) fn write_joined<W: Write>(
+pub(crate) fn write_joined<W: Outlet>(
     writer: &mut W,
     text: &mut Vec<u8>,
     more: &[u8],
@@ -22,6 +23,7 @@ pub(crate) fn write_joined<W: Write>(
     ensures ok { OnOk result (Appends (W.contents writer.old) (W.contents writer.new) (text.old.items ++ more.now)) }
     ensures err { IfErr result (WritesPart (W.contents writer.old) (W.contents writer.new) (text.old.items ++ more.now)) }
     ensures memory { result ≡ Err NoMemory → length text.old.items + length more.now ≤ 16384 }
+    ensures writer { TellsWriter result (W.failed writer.old) (W.failed writer.new) }
 {
     if JOINED_BYTES.saturating_sub(text.len()) < more.len() {
         return write_both(writer, text.as_slice(), more);
@@ -33,10 +35,11 @@ pub(crate) fn write_joined<W: Write>(
 }
 
 /// Writes a text, and another one behind it.
-fn write_both<W: Write>(writer: &mut W, text: &[u8], more: &[u8]) -> Result<(), ServeFault>
+fn write_both<W: Outlet>(writer: &mut W, text: &[u8], more: &[u8]) -> Result<(), ServeFault>
     ensures ok { OnOk result (Appends (W.contents writer.old) (W.contents writer.new) (text.now ++ more.now)) }
     ensures err { IfErr result (λ fault. (fault ≡ WriteFault)
         × WritesFront (W.contents writer.old) (W.contents writer.new) (text.now ++ more.now)) }
+    ensures writer { TellsWriter result (W.failed writer.old) (W.failed writer.new) }
 {
     if let Err(fault) = write_out(writer, text) {
         return Err(fault);
@@ -44,19 +47,16 @@ fn write_both<W: Write>(writer: &mut W, text: &[u8], more: &[u8]) -> Result<(), 
     write_out(writer, more)
 }
 
-/// Writes all of a text, by single writes. A write that takes no byte is the writer's fault; after a fault the writer has a
-/// part of the text, and not all of it.
-pub(crate) fn write_out<W: Write>(writer: &mut W, text: &[u8]) -> Result<(), ServeFault>
+/// Writes all of a text, by single writes. After a fault the writer has a part of the text, and not all of it.
+pub(crate) fn write_out<W: Outlet>(writer: &mut W, text: &[u8]) -> Result<(), ServeFault>
     ensures ok { OnOk result (Appends (W.contents writer.old) (W.contents writer.new) text.now) }
     ensures err { IfErr result (λ fault. (fault ≡ WriteFault) × WritesFront (W.contents writer.old) (W.contents writer.new) text.now) }
+    ensures writer { TellsWriter result (W.failed writer.old) (W.failed writer.new) }
 {
     let mut rest = text;
     while !rest.is_empty() {
         match writer.write(rest) {
             Ok(taken) => {
-                if taken == 0 {
-                    return Err(ServeFault::Write);
-                }
                 let (_, left) = rest.split_at(taken);
                 rest = left;
             }

@@ -7,14 +7,15 @@ ghost use Rattle.tfs_calls.specs.Reply.{reply_value};
 ghost use Rattle.tfs_calls.specs.declared.call.Call.TheVariants.{Read as CallRead, Change, Impact};
 ghost use Rattle.tfs_conversation.specs.Conversation.{ComesInReads, Converses, BreaksOff, IsReadThrough};
 ghost use Rattle.tfs_conversation.specs.Desk.{AnswersCall};
+ghost use Rattle.tfs_conversation.specs.Lent.{TellsReader, TellsWriter};
 
 use crate::conversation::converse;
 use crate::desk::Desk;
 use crate::ended::Ended;
 use crate::fault::ServeFault;
+use crate::lent::{Outlet, Source};
 use crate::reads::Reads;
 use std::alloc::Global;
-use std::io::{Read, Write};
 use tfs_calls::{Call, Draft, Query, Raw, Reply, a_change_is_answered_as_its_act_is};
 use tfs_records::Sink;
 use tfs_rules::Name;
@@ -81,7 +82,7 @@ fn change<K: Sink>(alloc: Global, table: &mut Table<K>, name: Name, raw: Raw) ->
 }
 
 /// A conversation over a lent table: the table takes the steps of its transition for the calls of the messages, in order.
-pub fn converse_over_table<R: Read, W: Write, K: Sink>(
+pub fn converse_over_table<R: Source, W: Outlet, K: Sink>(
     alloc: Global,
     reader: &mut R,
     writer: &mut W,
@@ -100,13 +101,15 @@ pub fn converse_over_table<R: Read, W: Write, K: Sink>(
         × ComesInReads bytes reads.old reads.new
         × BreaksOff AnswersCall table.old table.new bytes text fault reads.old reads.new) }
     ensures tells { table.new.tells ≡ table.old.tells }
+    ensures reader { TellsReader result (R.failed reader.old) (R.failed reader.new) }
+    ensures writer { TellsWriter result (W.failed writer.old) (W.failed writer.new) }
 {
     let mut desk = TableDesk { alloc, table };
     converse_over_loan(reader, writer, &mut desk, reads)
 }
 
 /// The same over the desk, which keeps its loan.
-fn converse_over_loan<R: Read, W: Write, K: Sink>(
+fn converse_over_loan<R: Source, W: Outlet, K: Sink>(
     reader: &mut R,
     writer: &mut W,
     desk: &mut TableDesk<'_, K>,
@@ -125,6 +128,8 @@ fn converse_over_loan<R: Read, W: Write, K: Sink>(
         × ComesInReads bytes reads.old reads.new
         × BreaksOff AnswersCall desk.old.table.now desk.new.table.now bytes text fault reads.old reads.new) }
     ensures tells { desk.new.table.now.tells ≡ desk.old.table.now.tells }
+    ensures reader { TellsReader result (R.failed reader.old) (R.failed reader.new) }
+    ensures writer { TellsWriter result (W.failed writer.old) (W.failed writer.new) }
 {
     converse(desk.alloc, reader, writer, desk, reads)
 }

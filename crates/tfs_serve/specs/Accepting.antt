@@ -1,9 +1,12 @@
--- What an error of accepting a connection asks for (accept(2) and errno(3) of Linux).
-use Rattle.std.specs.Prelude.{◌≡◌, ℕ, ℤ, pos, Option, Some, None, List, [], ◌∷◌, if◌then◌else◌}
+-- What an error of accepting a connection asks for (accept(2) and errno(3) of Linux), and where a worker ends by one.
+use Rattle.std.specs.Prelude.{◌≡◌, ℤ, pos, true, Option, Some, None, List, [], ◌∷◌, ◌++◌, if◌then◌else◌}
 use Rattle.std.specs.List.{list_any}
 use Rattle.std.specs.Ordering.{int_eq}
 use Rattle.std.specs.declared.io.ErrorKind.{ErrorKind}
 use Rattle.std.specs.declared.io.ErrorKind.TheVariants as kind
+use Rattle.tfs_serve.specs.Gate.{Event, asked}
+use Rattle.tfs_serve.specs.declared.accepting.AcceptError.{AcceptError}
+use Rattle.tfs_serve.specs.declared.accepting.AcceptFault.{AcceptFault}
 use Rattle.tfs_serve.specs.declared.accepting.Remedy.{Remedy}
 use Rattle.tfs_serve.specs.declared.accepting.Remedy.TheVariants.{Again, Pause, End}
 
@@ -32,3 +35,16 @@ remedy_for kind.NetworkUnreachable code = Again
 remedy_for kind.HostUnreachable code = Again
 remedy_for kind.OutOfMemory code = Pause
 remedy_for unsaid code = remedy_by_number code
+
+-- The error of a fault of accepting.
+abbrev pub error_of : AcceptFault → AcceptError
+error_of fault = fault.error
+
+-- The listener is of no use after such an error.
+abbrev pub IsFinal : AcceptError → Type 0
+IsFinal error = remedy_for error.kind error.number ≡ End
+
+-- The last thing that a gate was told is that it was asked for a connection, and said yes.
+abbrev pub IsAdmitted : Option (List Event) → Type 0
+IsAdmitted None = Unit {0}
+IsAdmitted (Some events) = (earlier : List Event) × (events ≡ earlier ++ asked true ∷ [])

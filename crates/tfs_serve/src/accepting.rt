@@ -1,7 +1,7 @@
 //! Taking a connection from a listener, and what its errors ask for.
 
-ghost use Rattle.std.specs.Prelude.{◌≡◌};
-ghost use Rattle.tfs_serve.specs.Accepting.{remedy_for, remedy_by_number};
+ghost use Rattle.std.specs.Prelude.{◌≡◌, Some, IfErr};
+ghost use Rattle.tfs_serve.specs.Accepting.{IsFinal, error_of, remedy_for, remedy_by_number};
 
 use std::io::ErrorKind;
 use std::net::OpenListener;
@@ -13,10 +13,28 @@ use thiserror::Error;
 /// A worker waits so long before it asks again for a connection where the system lacks descriptors or memory.
 pub const PAUSE_MILLISECONDS: u64 = 50;
 
-/// The listener gives no connection any more.
+/// The kind of an error of accepting, and the system's number for it.
+#[derive(Clone, Copy, Debug, PartialEq, Eq)]
+pub struct AcceptError {
+    pub kind: ErrorKind,
+    pub number: Option<i32>,
+}
+
+/// The listener gives no connection any more: it has told an error after which it is of no use.
 #[derive(Clone, Copy, Debug, PartialEq, Eq, Error)]
 #[error("no connection could be taken")]
-pub struct AcceptFault;
+pub struct AcceptFault {
+    error: AcceptError,
+}
+
+impl AcceptFault {
+    /// The error.
+    pub fn error(&self) -> AcceptError
+        ensures { result ≡ error_of self.now }
+    {
+        self.error
+    }
+}
 
 /// What an error of accepting asks for.
 #[derive(Clone, Copy, Debug, PartialEq, Eq)]
@@ -68,18 +86,73 @@ fn remedy_by_number(number: Option<i32>) -> Remedy
     Remedy::End
 }
 
-/// The next connection. It waits until there is one.
-pub(crate) fn accepted<L: OpenListener, R: Wait + Clock>(
+/// Gives connections.
+pub(crate) trait Listener {
+    ghost use Rattle.std.specs.Prelude.{Option};
+    ghost use Rattle.tfs_serve.specs.declared.accepting.AcceptError.{AcceptError};
+
+    type Stream: Drop;
+
+    // The last error that it has told.
+    ghost told: { Self → Option AcceptError };
+
+    /// Waits for the next connection.
+    fn accept(&mut self) -> Result<Self::Stream, AcceptError>
+        ensures told { IfErr result (λ error. told self.new ≡ Some error) };
+}
+
+/// A listener of the system, which is lent, and the last error that it has told.
+#[derive(Drop)]
+pub(crate) struct Listening<'l, L: OpenListener> {
+    listener: &'l L,
+    error: Option<AcceptError>,
+}
+
+impl<'l, L: OpenListener> Listening<'l, L> {
+    /// No error has been told.
+    pub(crate) fn new(listener: &'l L) -> Listening<'l, L> {
+        Listening {
+            listener,
+            error: None,
+        }
+    }
+}
+
+impl<'l, L: OpenListener> Listener for Listening<'l, L> {
+    type Stream = L::Stream;
+
+    ghost told = { λ l. l.error };
+
+    fn accept(&mut self) -> Result<L::Stream, AcceptError> {
+        match self.listener.accept() {
+            Ok((stream, _)) => Ok(stream),
+            Err(error) => {
+                let error = AcceptError {
+                    kind: error.kind(),
+                    number: error.raw_os_error(),
+                };
+                self.error = Some(error);
+                Err(error)
+            }
+        }
+    }
+}
+
+/// The next connection. It waits until there is one, or the listener has told an error after which it is of no use.
+pub(crate) fn accepted<L: Listener, R: Wait + Clock>(
     rt: &R,
-    listener: &L,
-) -> Result<L::Stream, AcceptFault> {
+    listener: &mut L,
+) -> Result<L::Stream, AcceptFault>
+    ensures told { IfErr result (λ fault. L.told listener.new ≡ Some (error_of fault)) }
+    ensures ends { IfErr result (λ fault. IsFinal (error_of fault)) }
+{
     for _ in rt.forever() {
         match listener.accept() {
-            Ok((stream, _)) => return Ok(stream),
-            Err(error) => match remedy_of(error.kind(), error.raw_os_error()) {
+            Ok(stream) => return Ok(stream),
+            Err(error) => match remedy_of(error.kind, error.number) {
                 Remedy::Again => {}
                 Remedy::Pause => thread::sleep(rt, Duration::from_millis(PAUSE_MILLISECONDS)),
-                Remedy::End => return Err(AcceptFault),
+                Remedy::End => return Err(AcceptFault { error }),
             },
         }
     }

@@ -11,7 +11,7 @@ mod serving;
 mod session_desk;
 mod worker;
 
-pub use accepting::{AcceptFault, PAUSE_MILLISECONDS, Remedy, remedy_of};
+pub use accepting::{AcceptError, AcceptFault, PAUSE_MILLISECONDS, Remedy, remedy_of};
 pub use connection::{MAX_REQUEST_SECONDS, MAX_WAIT_SECONDS};
 pub use gate::{Gate, Open};
 pub use gated::Gated;
@@ -20,8 +20,8 @@ pub use run::{Obstacle, Run, Served, Unserved, serve};
 pub use serving::work;
 pub use session_desk::{MAX_BYTES_AT_ONCE, Service, SessionDesk};
 pub use tfs_conversation::{
-    Desk, Ended, MAX_READS, Reads, RunFault, ServeFault, TableDesk, bytes_have_an_output,
-    bytes_have_one_list_of_messages, bytes_have_one_output, converse, converse_over_table,
-    run_check, run_rebase,
+    Desk, Ended, LentFault, MAX_READS, Outlet, Reads, RunFault, ServeFault, Source, TableDesk,
+    Watched, bytes_have_an_output, bytes_have_one_list_of_messages, bytes_have_one_output,
+    converse, converse_over_table, run_check, run_rebase,
 };
 pub use worker::{Worker, work_all};

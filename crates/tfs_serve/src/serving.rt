@@ -1,21 +1,21 @@
 //! The work of one session: connections one after another.
 
-ghost use Rattle.std.specs.Prelude.{◌≡◌, OnOk, OnErr, [], ◌∷◌, false};
+ghost use Rattle.std.specs.Prelude.{◌≡◌, OnOk, OnErr, IfErr, [], ◌∷◌, false};
+ghost use Rattle.tfs_serve.specs.Accepting.{IsAdmitted, IsFinal, error_of};
 ghost use Rattle.tfs_serve.specs.Gate.{IsClosed, asked};
 ghost use Rattle.tfs_serve.specs.Session.{IsLater};
 ghost use Rattle.tfs_serve.specs.Working.{HasAnswered, HasWorked};
 
-use crate::accepting::{AcceptFault, accepted};
+use crate::accepting::{AcceptFault, Listening, accepted};
 use crate::connection::{Incoming, Outgoing, limit};
 use crate::gate::Gate;
 use crate::gated::Gated;
 use crate::session_desk::{Service, SessionDesk};
 use std::cell::Cell;
-use std::io::{Read, Write};
 use std::net::{OpenListener, TcpStream};
 use std::sync::Wait;
 use std::time::Clock;
-use tfs_conversation::{Reads, converse};
+use tfs_conversation::{Outlet, Reads, Source, Watched, converse};
 use tfs_records::Sink;
 use tfs_shared::{Naming, Session};
 
@@ -31,15 +31,18 @@ pub fn work<L: OpenListener<Stream = TcpStream>, J: Naming, K: Sink, G: Gate, R:
     session: &mut Session<J>,
 ) -> Result<(), AcceptFault>
     ensures closed { OnOk result (IsClosed (G.told gate.new)) }
+    ensures ends { IfErr result (λ fault. IsFinal (error_of fault)) }
+    ensures admitted { OnErr result (IsAdmitted (G.told gate.new)) }
     ensures later { IsLater session.old session.new }
     ensures worked { OnOk result (HasWorked (G.told gate.old) (G.told gate.new) session.old session.new (asked false ∷ [])) }
     ensures broken { OnErr result (HasWorked (G.told gate.old) (G.told gate.new) session.old session.new []) }
 {
+    let mut listening = Listening::new(listener);
     for _ in service.rt.forever() {
         if !gate.admit() {
             return Ok(());
         }
-        let stream = match accepted(service.rt, listener) {
+        let stream = match accepted(service.rt, &mut listening) {
             Ok(stream) => stream,
             Err(fault) => return Err(fault),
         };
@@ -64,11 +67,11 @@ fn serve<J: Naming, K: Sink, G: Gate, R: Wait + Clock>(
     let began = Cell::new(None);
     let mut reader = Incoming {
         rt: service.rt,
-        stream,
+        stream: Watched::new(stream),
         began: &began,
     };
     let mut writer = Outgoing {
-        stream,
+        stream: Watched::new(stream),
         began: &began,
     };
     let desk = SessionDesk { service, session };
@@ -76,7 +79,7 @@ fn serve<J: Naming, K: Sink, G: Gate, R: Wait + Clock>(
 }
 
 /// Has a conversation over the desk, which keeps its loan.
-fn converse_once<I: Read, O: Write, J: Naming, K: Sink, G: Gate, R: Wait>(
+fn converse_once<I: Source, O: Outlet, J: Naming, K: Sink, G: Gate, R: Wait>(
     reader: &mut I,
     writer: &mut O,
     desk: &mut Gated<'_, SessionDesk<'_, '_, '_, J, K, R>, G>,

@@ -1,6 +1,7 @@
 //! Workers: sessions that work at the same time.
 
-ghost use Rattle.std.specs.Prelude.{ℕ, ◌≡◌, ◌<◌, false, length, slice_index_or};
+ghost use Rattle.std.specs.Prelude.{ℕ, ◌≡◌, ◌<◌, true, false, length, slice_index_or};
+ghost use Rattle.tfs_serve.specs.Accepting.{IsAdmitted};
 ghost use Rattle.tfs_serve.specs.Gate.{IsClosed};
 ghost use Rattle.tfs_serve.specs.Session.{IsLater};
 ghost use Rattle.tfs_serve.specs.Working.{HasWorked, end_of_work};
@@ -33,6 +34,7 @@ impl<J: Naming, G: Gate> Worker<J, G> {
         listener: &L,
     )
         ensures later { IsLater self.old.session self.new.session }
+        ensures admitted { self.new.failed ≡ true → IsAdmitted (G.told self.new.gate) }
         ensures closed { self.new.failed ≡ false → IsClosed (G.told self.new.gate) }
         ensures worked { HasWorked (G.told self.old.gate) (G.told self.new.gate) self.old.session self.new.session
             (end_of_work self.new.failed) }
@@ -53,6 +55,8 @@ pub fn work_all<
 >(rt: &R, alloc: Global, listener: &L, workers: &mut [Worker<J, G>], shared: &Shared<J, K>)
     ensures later { (i : ℕ) (d : _) → i < length workers.old
         → IsLater (slice_index_or workers.old i d).session (slice_index_or workers.new i d).session }
+    ensures admitted { (i : ℕ) (d : _) → i < length workers.old
+        → (slice_index_or workers.new i d).failed ≡ true → IsAdmitted (G.told (slice_index_or workers.new i d).gate) }
     ensures closed { (i : ℕ) (d : _) → i < length workers.old
         → (slice_index_or workers.new i d).failed ≡ false → IsClosed (G.told (slice_index_or workers.new i d).gate) }
     ensures worked { (i : ℕ) (d : _) → i < length workers.old
@@ -67,6 +71,7 @@ pub fn work_all<
         16,
         &|number: usize, worker: &mut Worker<J, G>|
             ensures later { IsLater worker.entry.now.session worker.exit.now.session }
+            ensures admitted { worker.exit.now.failed ≡ true → IsAdmitted (G.told worker.exit.now.gate) }
             ensures closed { worker.exit.now.failed ≡ false → IsClosed (G.told worker.exit.now.gate) }
             ensures worked { HasWorked (G.told worker.entry.now.gate) (G.told worker.exit.now.gate) worker.entry.now.session
                 worker.exit.now.session (end_of_work worker.exit.now.failed) }

@@ -5,7 +5,7 @@ use std::alloc::Global;
 use std::io;
 use std::process::Abort;
 use std::test::Fail;
-use tfs_conversation::{Ended, Reads, ServeFault, converse_over_table};
+use tfs_conversation::{Ended, Reads, ServeFault, Watched, converse_over_table};
 use tfs_records::Discard;
 use tfs_table::Table;
 
@@ -60,14 +60,15 @@ fn talk<W: io::Write>(
     writer: &mut W,
 ) -> Result<Ended, ServeFault> {
     let mut table = Table::new(rt.alloc(), Discard).ok().expect(rt, "a table");
-    let mut reader = Pieces {
+    let mut reader = Watched::new(Pieces {
         rest: input.as_bytes(),
         most,
         told_end: false,
-    };
+    });
+    let mut writer = Watched::new(writer);
     let mut reads = Reads::new();
-    let ended = converse_over_table(rt.alloc(), &mut reader, writer, &mut table, &mut reads);
-    assert!(rt; reader.told_end || ended.is_err());
+    let ended = converse_over_table(rt.alloc(), &mut reader, &mut writer, &mut table, &mut reads);
+    assert!(rt; reader.inner.told_end || ended.is_err());
     ended
 }
 
@@ -151,5 +152,48 @@ fn a_long_state_is_written_in_pieces(rt: HostRuntime) -> Result<(), Fail> {
         replies.as_bytes(),
         Ok(Ended::Clean),
     );
+    Ok(())
+}
+
+/// Gives its bytes in one read, and then fails.
+#[derive(Drop)]
+struct Failing<'i> {
+    rest: &'i [u8],
+}
+
+impl<'i> io::Read for Failing<'i> {
+    fn read(&mut self, buf: &mut [u8]) -> io::Result<usize> {
+        if self.rest.is_empty() {
+            return Err(io::Error::from(io::ErrorKind::ConnectionReset));
+        }
+        let count = buf.len().min(self.rest.len());
+        let (piece, rest) = self.rest.split_at(count);
+        buf[..count].copy_from_slice(piece);
+        self.rest = rest;
+        Ok(count)
+    }
+}
+
+/// How a conversation over a new table ends whose reader fails behind the input, and how many entries the table has then.
+fn broken_off(
+    rt: &(impl Alloc<A = Global> + Abort),
+    input: &[u8],
+    writer: &mut Vec<u8>,
+) -> (Result<Ended, ServeFault>, usize) {
+    let mut table = Table::new(rt.alloc(), Discard).ok().expect(rt, "a table");
+    let mut reader = Watched::new(Failing { rest: input });
+    let mut writer = Watched::new(writer);
+    let mut reads = Reads::new();
+    let ended = converse_over_table(rt.alloc(), &mut reader, &mut writer, &mut table, &mut reads);
+    assert!(rt; reader.has_failed && !writer.has_failed);
+    (ended, table.len())
+}
+
+#[test]
+fn a_reader_that_fails_behind_a_message_leaves_its_reply(rt: HostRuntime) -> Result<(), Fail> {
+    let mut writer = Vec::new(rt.alloc());
+    let (push, _) = PUSH_AND_READ.as_bytes().split_at(96);
+    assert!(rt; broken_off(&rt, push, &mut writer) == (Err(ServeFault::Read), 1));
+    assert!(rt; writer.as_slice() == DONE.as_bytes());
     Ok(())
 }

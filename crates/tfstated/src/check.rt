@@ -3,7 +3,7 @@
 use crate::fault::{end_with, end_without_file};
 use std::process::ExitCode;
 use std::{fs, io};
-use tfs_conversation::run_check;
+use tfs_conversation::{Watched, run_check};
 use tfs_ends::Fault;
 
 /// Prints what the journal in a file lists, and how it ends. Gives the program's status.
@@ -12,7 +12,7 @@ pub(crate) fn run(rt: &HostRuntime, file: &str) -> ExitCode {
         Ok(bytes) => bytes,
         Err(error) => return end_without_file(rt, Fault::CannotRead, &error),
     };
-    let mut writer = io::writer(rt);
+    let mut writer = Watched::new(io::writer(rt));
     match run_check(rt.alloc(), bytes.as_slice(), &mut writer) {
         Ok(status) => ExitCode::from(status),
         Err(fault) => end_with(rt, fault),

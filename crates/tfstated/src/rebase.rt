@@ -3,7 +3,7 @@
 use crate::fault::{end_with, end_without_file};
 use std::process::ExitCode;
 use std::{fs, io};
-use tfs_conversation::run_rebase;
+use tfs_conversation::{Watched, run_rebase};
 use tfs_ends::Fault;
 use tfs_records::FileSink;
 
@@ -17,7 +17,7 @@ pub(crate) fn run(rt: &HostRuntime, old: &str, new: &str) -> ExitCode {
         Ok(sink) => sink,
         Err(error) => return end_without_file(rt, Fault::CannotCreate, &error),
     };
-    let mut writer = io::writer(rt);
+    let mut writer = Watched::new(io::writer(rt));
     match run_rebase(rt.alloc(), bytes.as_slice(), sink, &mut writer) {
         Ok(_) => ExitCode::SUCCESS,
         Err(fault) => end_with(rt, fault),

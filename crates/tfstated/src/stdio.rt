@@ -3,7 +3,7 @@
 use crate::fault::end_by;
 use std::io;
 use std::process::ExitCode;
-use tfs_conversation::{Reads, converse_over_table};
+use tfs_conversation::{Reads, Watched, converse_over_table};
 use tfs_ends::{Fault, status_of};
 use tfs_records::Discard;
 use tfs_table::Table;
@@ -11,8 +11,8 @@ use tfs_table::Table;
 /// Answers standard input on standard output from a new table, whose journal is discarded. Gives the program's status.
 pub(crate) fn run(rt: &(impl AllocGlobal + Input + Print + Eprint)) -> ExitCode {
     let alloc = rt.alloc();
-    let mut reader = rt.reader();
-    let mut writer = io::writer(rt);
+    let mut reader = Watched::new(rt.reader());
+    let mut writer = Watched::new(io::writer(rt));
     // A discarded journal has no fault of its sink.
     let Ok(mut table) = Table::new(alloc, Discard) else {
         return end_by(rt, Fault::NoMemory);

@@ -15,7 +15,7 @@ use std::time::Clock;
 use tfs_journal::Discard;
 use tfs_serve::{
     AcceptFault, Desk, Ended, Gate, Gated, Reads, RunFault, ServeFault, Service, SessionDesk,
-    TableDesk, Worker, converse, run_check, work, work_all,
+    TableDesk, Watched, Worker, converse, run_check, work, work_all,
 };
 use tfs_shared::{Lack, Naming, Opened, Session, Shared, Strangers, Unshared, gather, share};
 use tfs_state::Doc;
@@ -48,8 +48,8 @@ fn conversations(rt: HostRuntime) -> Result<(), Fail> {
         alloc: rt.alloc(),
         table: &mut table,
     };
-    let mut reader = READ;
-    let mut writer = Vec::new(rt.alloc());
+    let mut reader: Watched<&[u8]> = Watched::new(READ);
+    let mut writer: Watched<Vec<u8>> = Watched::new(Vec::new(rt.alloc()));
     let mut reads: Reads = Reads::new();
     let ended: Result<Ended, ServeFault> = converse(
         rt.alloc(),
@@ -66,9 +66,9 @@ fn conversations(rt: HostRuntime) -> Result<(), Fail> {
 
 #[test]
 fn checks_of_journals(rt: HostRuntime) -> Result<(), Fail> {
-    let mut writer = Vec::new(rt.alloc());
+    let mut writer = Watched::new(Vec::new(rt.alloc()));
     let status: Result<u8, RunFault> = run_check(rt.alloc(), b"TFJ1\n", &mut writer);
-    assert!(rt; status.ok() == Some(0) && writer.as_slice() == b"whole\n".as_slice());
+    assert!(rt; status.ok() == Some(0) && writer.inner.as_slice() == b"whole\n".as_slice());
     Ok(())
 }
 

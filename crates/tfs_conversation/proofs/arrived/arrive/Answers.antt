@@ -16,7 +16,7 @@ keep-requires-clause-unfinished g c =
 pub returns-else-is_err-clause-bytes : goal.returns-else-is_err-clause-bytes
 returns-else-is_err-clause-bytes g c =
     let wants = where_wanted c.args.input.now _ _ _ _ c.in-Ok-Want.field-0-is c.in-Ok-Want.ensures.ok c.in-Ok-Want.ensures.left in
-    subst (λ (i : List ℕ). (more : List ℕ) × Consumes (g.R.Read.remaining c.args.reader.now) (g.R.Read.remaining c.read_on.new.reader) more
+    subst (λ (i : List ℕ). (more : List ℕ) × Consumes (g.R.Source.remaining c.args.reader.now) (g.R.Source.remaining c.read_on.new.reader) more
     × ComesInReads more c.args.reads.now c.read_on.new.reads × IfOk c.read_on.result (ArrivesOrStays (i ++ more) c.read_on.new.input)
     × IfErr c.read_on.result (λ fault. BreaksThere (i ++ more) fault c.args.reads.now c.read_on.new.reads)) (c.keep.ensures ∙ wants.left_is)
     c.read_on.ensures.bytes
@@ -39,3 +39,8 @@ returns-in-Err-clause-bytes g c = (
   tt,
   inr (refl, subst MayGoOn (sym (append-nil c.args.input.now)) (inr c.in-Err.ensures.memory)),
 )
+
+pub returns-else-is_err-clause-at_once : goal.returns-else-is_err-clause-at_once
+returns-else-is_err-clause-at_once g c = λ r used begins.
+    let wants = where_wanted c.args.input.now _ _ _ _ c.in-Ok-Want.field-0-is c.in-Ok-Want.ensures.ok c.in-Ok-Want.ensures.left in
+    absurd (wants.unfinished.no_message begins.frame begins.rest r (wants.left_is ∙ begins.parts) begins.reads)

@@ -68,6 +68,7 @@ loop-next-init g c = record {
     comes_nothing _,
     (λ bytes d. subst (λ (t : List ℕ). Decodes t c.args.chunks.before.items c.args.chunks.decoded c.args.left.now.items) (sym (append-nil bytes)) d),
   );
+  reader = refl;
   limit = inl refl;
 }
 
@@ -191,6 +192,7 @@ loop-next-preserved g c =
             (of_slices _ _ _ _ _ _ (sym c.as_slice.ensures.value) (sym after)
             (c.what_is_known_stays_whatever_bytes_follow.ensures.decoded (bytes ++ so_far.0) read.0 _ _ c.in-Ok-Want.next told.1))),
       );
+      reader = c.in-Ok.ensures.reader ∙ c.loop-next.invariant.reader;
       limit = inr counted.1;
     }
 

@@ -8,9 +8,10 @@ use Rattle.tfs_conversation.proofs.chunked.receive_chunks.Given as goal
 abbrev pub invariant-loop-next : goal.invariant-loop-next
 invariant-loop-next g l = record {
   piece : length l.piece.items ≡ 65536;
-  bytes : (more : List ℕ) × Consumes (g.R.Read.remaining l.initial.reader) (g.R.Read.remaining l.reader) more × ComesInReads more l.initial.reads l.reads
+  bytes : (more : List ℕ) × Consumes (g.R.Source.remaining l.initial.reader) (g.R.Source.remaining l.reader) more × ComesInReads more l.initial.reads l.reads
       × ((bytes : List ℕ) → Decodes bytes l.before.items l.initial.decoded l.initial.left.items
       → Decodes (bytes ++ more) l.before.items l.decoded l.left.items);
+  reader : g.R.Source.failed l.reader ≡ g.R.Source.failed l.initial.reader;
   limit : (l.reads ≡ l.initial.reads) ⊎ (l.reads ≤ 1048576);
 }
 

@@ -7,8 +7,8 @@ use Rattle.tfs_conversation.proofs.conversation.converse.Goals as goal
 
 pub returns-in_default-clause-fault : goal.returns-in_default-clause-fault
 returns-in_default-clause-fault g c =
-    let reader = g.R.Read.remaining c.args.reader.now in
-    let writer = g.W.Write.contents c.args.writer.now in
+    let reader = g.R.Source.remaining c.args.reader.now in
+    let writer = g.W.Outlet.contents c.args.writer.now in
     let reads = c.args.reads.now in
     let broken = broken_between g.D.Desk.step c.args.desk.now reader reader writer reads reads [] [] [] _ (consumes_nothing reader) (comes_nothing reads)
     (inr (refl, inl no_bytes_are_unfinished)) in

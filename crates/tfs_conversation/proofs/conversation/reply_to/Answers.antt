@@ -11,7 +11,7 @@ pub returns-clause-ok : goal.returns-clause-ok
 returns-clause-ok g c = (
   reply_value c.answer-reply.result,
   c.answer-reply.ensures,
-  subst (λ (f : Form). Appends (g.W.Write.contents c.args.writer.now) (g.W.Write.contents c.send.new.writer)
+  subst (λ (f : Form). Appends (g.W.Outlet.contents c.args.writer.now) (g.W.Outlet.contents c.send.new.writer)
       (reply_text (reply_value c.answer-reply.result) f)) c.form-form.ensures.value
       c.in_default.ensures.ok,
 )
@@ -20,7 +20,7 @@ pub returns-in-Err-clause-err : goal.returns-in-Err-clause-err
 returns-in-Err-clause-err g c = (
   reply_value c.answer-reply.result,
   c.answer-reply.ensures,
-  subst (λ (f : Form). WritesPart (g.W.Write.contents c.args.writer.now) (g.W.Write.contents c.send.new.writer)
+  subst (λ (f : Form). WritesPart (g.W.Outlet.contents c.args.writer.now) (g.W.Outlet.contents c.send.new.writer)
       (reply_text (reply_value c.answer-reply.result) f) c.in-Err.fault) c.form-form.ensures.value
       c.in-Err.ensures.err,
 )

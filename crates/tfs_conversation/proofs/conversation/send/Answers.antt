@@ -5,7 +5,7 @@ use Rattle.tfs_conversation.proofs.IoLemmas.{none_written}
 use Rattle.tfs_conversation.proofs.conversation.send.Goals as goal
 
 pub returns-in_default-clause-err : goal.returns-in_default-clause-err
-returns-in_default-clause-err g c = none_written (g.W.Write.contents c.args.writer.now) (reply_text (reply_value c.args.reply.now) c.args.form)
+returns-in_default-clause-err g c = none_written (g.W.Outlet.contents c.args.writer.now) (reply_text (reply_value c.args.reply.now) c.args.form)
 
 pub returns-then-is_err-clause-err : goal.returns-then-is_err-clause-err
-returns-then-is_err-clause-err g c = none_written (g.W.Write.contents c.args.writer.now) (reply_text (reply_value c.args.reply.now) c.args.form)
+returns-then-is_err-clause-err g c = none_written (g.W.Outlet.contents c.args.writer.now) (reply_text (reply_value c.args.reply.now) c.args.form)

@@ -18,16 +18,16 @@ use Rattle.tfs_conversation.proofs.conversation.turn.Goals as goal
 pub returns-in-Ok-None-clause-went : goal.returns-in-Ok-None-clause-went
 returns-in-Ok-None-clause-went g c e =
     let read = c.in-Ok-None.ensures.bytes in
-    went_reading g.D.Desk.step c.args.desk.now (g.R.Read.remaining c.args.reader.now) (g.R.Read.remaining c.arrive.new.reader)
-    (g.W.Write.contents c.args.writer.now) c.args.reads.now c.arrive.new.reads c.args.connection.now.input
+    went_reading g.D.Desk.step c.args.desk.now (g.R.Source.remaining c.args.reader.now) (g.R.Source.remaining c.arrive.new.reader)
+    (g.W.Outlet.contents c.args.writer.now) c.args.reads.now c.arrive.new.reads c.args.connection.now.input
     c.arrive.new.input read.0
     (none_arrives (c.args.connection.now.input ++ read.0) c.arrive.new.input c.in-Ok-None.field-0 c.in-Ok-None.field-0-is read.3) read.1 read.2
 
 pub returns-in-Err-clause-fault : goal.returns-in-Err-clause-fault
 returns-in-Err-clause-fault g c =
     let read = c.in-Err.ensures.bytes in
-    broken_between g.D.Desk.step c.args.desk.now (g.R.Read.remaining c.args.reader.now) (g.R.Read.remaining c.arrive.new.reader)
-    (g.W.Write.contents c.args.writer.now) c.args.reads.now c.arrive.new.reads c.args.connection.now.input
+    broken_between g.D.Desk.step c.args.desk.now (g.R.Source.remaining c.args.reader.now) (g.R.Source.remaining c.arrive.new.reader)
+    (g.W.Outlet.contents c.args.writer.now) c.args.reads.now c.arrive.new.reads c.args.connection.now.input
     c.arrive.new.input read.0 c.in-Err.fault read.1 read.2 read.4
 
 -- ---- a message
@@ -46,16 +46,16 @@ returns-in-Ok-clause-went g c e =
     (Arrived.Message c.in-Message.request) c.in-Ok-Some.field-0-is c.in-Message.is read.3 in
     let reply = c.in-Ok.ensures.ok in
     went_then g.D.Desk.step
-    (moment c.args.desk.now (g.R.Read.remaining c.args.reader.now) (g.W.Write.contents c.args.writer.now) c.args.reads.now c.args.connection.now.input)
-    (moment c.args.desk.now (g.R.Read.remaining c.arrive.new.reader) (g.W.Write.contents c.args.writer.now)
+    (moment c.args.desk.now (g.R.Source.remaining c.args.reader.now) (g.W.Outlet.contents c.args.writer.now) c.args.reads.now c.args.connection.now.input)
+    (moment c.args.desk.now (g.R.Source.remaining c.arrive.new.reader) (g.W.Outlet.contents c.args.writer.now)
     c.arrive.new.reads (c.args.connection.now.input ++ read.0))
-    (moment c.reply_to.new.desk (g.R.Read.remaining c.arrive.new.reader) (g.W.Write.contents c.reply_to.new.writer)
+    (moment c.reply_to.new.desk (g.R.Source.remaining c.arrive.new.reader) (g.W.Outlet.contents c.reply_to.new.writer)
     c.arrive.new.reads c.reply_to.new.connection.input)
-    (went_reading g.D.Desk.step c.args.desk.now (g.R.Read.remaining c.args.reader.now) (g.R.Read.remaining c.arrive.new.reader)
-    (g.W.Write.contents c.args.writer.now) c.args.reads.now c.arrive.new.reads c.args.connection.now.input
+    (went_reading g.D.Desk.step c.args.desk.now (g.R.Source.remaining c.args.reader.now) (g.R.Source.remaining c.arrive.new.reader)
+    (g.W.Outlet.contents c.args.writer.now) c.args.reads.now c.arrive.new.reads c.args.connection.now.input
     (c.args.connection.now.input ++ read.0) read.0 refl read.1 read.2)
-    (went_answering g.D.Desk.step c.args.desk.now c.reply_to.new.desk (g.R.Read.remaining c.arrive.new.reader) (g.W.Write.contents c.args.writer.now)
-    (g.W.Write.contents c.reply_to.new.writer) c.arrive.new.reads (c.args.connection.now.input ++ read.0)
+    (went_answering g.D.Desk.step c.args.desk.now c.reply_to.new.desk (g.R.Source.remaining c.arrive.new.reader) (g.W.Outlet.contents c.args.writer.now)
+    (g.W.Outlet.contents c.reply_to.new.writer) c.arrive.new.reads (c.args.connection.now.input ++ read.0)
     c.reply_to.new.connection.input c.in-Message.request message.0
     reply.0 message.1 (c.in-Ok.ensures.input ∙ message.2) reply.1 reply.2
     (sym (ap (λ (f : Form). f.close) c.form-asks_to_close.ensures.value) ∙ not_asked c.form-asks_to_close.result.close c.end_after.result
@@ -76,21 +76,21 @@ returns-in-Ok-clause-ended g c =
     (Arrived.Message c.in-Message.request) c.in-Ok-Some.field-0-is c.in-Message.is read.3 in
     let reply = c.in-Ok.ensures.ok in
     asked_ends (HasEnded g.D.Desk.step
-    (moment c.args.desk.now (g.R.Read.remaining c.args.reader.now) (g.W.Write.contents c.args.writer.now) c.args.reads.now c.args.connection.now.input)
-    (moment c.reply_to.new.desk (g.R.Read.remaining c.arrive.new.reader) (g.W.Write.contents c.reply_to.new.writer)
+    (moment c.args.desk.now (g.R.Source.remaining c.args.reader.now) (g.W.Outlet.contents c.args.writer.now) c.args.reads.now c.args.connection.now.input)
+    (moment c.reply_to.new.desk (g.R.Source.remaining c.arrive.new.reader) (g.W.Outlet.contents c.reply_to.new.writer)
     c.arrive.new.reads c.reply_to.new.connection.input))
     c.form-asks_to_close.result.close c.end_after.result c.end_after.ensures
     (λ asks. went_then_ended g.D.Desk.step
-    (moment c.args.desk.now (g.R.Read.remaining c.args.reader.now) (g.W.Write.contents c.args.writer.now) c.args.reads.now c.args.connection.now.input)
-    (moment c.args.desk.now (g.R.Read.remaining c.arrive.new.reader) (g.W.Write.contents c.args.writer.now)
+    (moment c.args.desk.now (g.R.Source.remaining c.args.reader.now) (g.W.Outlet.contents c.args.writer.now) c.args.reads.now c.args.connection.now.input)
+    (moment c.args.desk.now (g.R.Source.remaining c.arrive.new.reader) (g.W.Outlet.contents c.args.writer.now)
     c.arrive.new.reads (c.args.connection.now.input ++ read.0))
-    (moment c.reply_to.new.desk (g.R.Read.remaining c.arrive.new.reader) (g.W.Write.contents c.reply_to.new.writer)
+    (moment c.reply_to.new.desk (g.R.Source.remaining c.arrive.new.reader) (g.W.Outlet.contents c.reply_to.new.writer)
     c.arrive.new.reads c.reply_to.new.connection.input)
-    Asked (went_reading g.D.Desk.step c.args.desk.now (g.R.Read.remaining c.args.reader.now) (g.R.Read.remaining c.arrive.new.reader)
-    (g.W.Write.contents c.args.writer.now) c.args.reads.now c.arrive.new.reads c.args.connection.now.input
+    Asked (went_reading g.D.Desk.step c.args.desk.now (g.R.Source.remaining c.args.reader.now) (g.R.Source.remaining c.arrive.new.reader)
+    (g.W.Outlet.contents c.args.writer.now) c.args.reads.now c.arrive.new.reads c.args.connection.now.input
     (c.args.connection.now.input ++ read.0) read.0 refl read.1 read.2)
-    (ended_asked g.D.Desk.step c.args.desk.now c.reply_to.new.desk (g.R.Read.remaining c.arrive.new.reader) (g.W.Write.contents c.args.writer.now)
-    (g.W.Write.contents c.reply_to.new.writer) c.arrive.new.reads (c.args.connection.now.input ++ read.0)
+    (ended_asked g.D.Desk.step c.args.desk.now c.reply_to.new.desk (g.R.Source.remaining c.arrive.new.reader) (g.W.Outlet.contents c.args.writer.now)
+    (g.W.Outlet.contents c.reply_to.new.writer) c.arrive.new.reads (c.args.connection.now.input ++ read.0)
     c.reply_to.new.connection.input c.in-Message.request message.0
     reply.0 message.1 (c.in-Ok.ensures.input ∙ message.2) reply.1 reply.2
     (sym (ap (λ (f : Form). f.close) c.form-asks_to_close.ensures.value) ∙ asks)))
@@ -102,17 +102,17 @@ returns-in-Message-clause-fault g c =
     (Arrived.Message c.in-Message.request) c.in-Ok-Some.field-0-is c.in-Message.is read.3 in
     let reply = c.in-Err-reply_to.ensures.err in
     went_then_broken g.D.Desk.step
-    (moment c.args.desk.now (g.R.Read.remaining c.args.reader.now) (g.W.Write.contents c.args.writer.now) c.args.reads.now c.args.connection.now.input)
-    (moment c.args.desk.now (g.R.Read.remaining c.arrive.new.reader) (g.W.Write.contents c.args.writer.now)
+    (moment c.args.desk.now (g.R.Source.remaining c.args.reader.now) (g.W.Outlet.contents c.args.writer.now) c.args.reads.now c.args.connection.now.input)
+    (moment c.args.desk.now (g.R.Source.remaining c.arrive.new.reader) (g.W.Outlet.contents c.args.writer.now)
     c.arrive.new.reads (c.args.connection.now.input ++ read.0))
-    (moment c.reply_to.new.desk (g.R.Read.remaining c.arrive.new.reader) (g.W.Write.contents c.reply_to.new.writer)
+    (moment c.reply_to.new.desk (g.R.Source.remaining c.arrive.new.reader) (g.W.Outlet.contents c.reply_to.new.writer)
     c.arrive.new.reads c.reply_to.new.connection.input)
-    c.in-Err-reply_to.fault (went_reading g.D.Desk.step c.args.desk.now (g.R.Read.remaining c.args.reader.now) (g.R.Read.remaining c.arrive.new.reader)
-    (g.W.Write.contents c.args.writer.now) c.args.reads.now c.arrive.new.reads c.args.connection.now.input
+    c.in-Err-reply_to.fault (went_reading g.D.Desk.step c.args.desk.now (g.R.Source.remaining c.args.reader.now) (g.R.Source.remaining c.arrive.new.reader)
+    (g.W.Outlet.contents c.args.writer.now) c.args.reads.now c.arrive.new.reads c.args.connection.now.input
     (c.args.connection.now.input ++ read.0) read.0 refl read.1 read.2)
     (broken_answering g.D.Desk.step c.args.desk.now c.reply_to.new.desk
-    (g.R.Read.remaining c.arrive.new.reader) (g.W.Write.contents c.args.writer.now)
-    (g.W.Write.contents c.reply_to.new.writer) c.arrive.new.reads (c.args.connection.now.input ++ read.0)
+    (g.R.Source.remaining c.arrive.new.reader) (g.W.Outlet.contents c.args.writer.now)
+    (g.W.Outlet.contents c.reply_to.new.writer) c.arrive.new.reads (c.args.connection.now.input ++ read.0)
     c.reply_to.new.connection.input c.in-Message.request message.0
     reply.0 c.in-Err-reply_to.fault message.1 (c.in-Err-reply_to.ensures.input ∙ message.2) reply.1 reply.2)
 
@@ -125,15 +125,15 @@ returns-in-Ok-send-clause-ended g c =
     some_arrives (c.args.connection.now.input ++ read.0) c.arrive.new.input c.in-Ok-Some.field-0 c.in-Ok-Some.arrived
     (Arrived.Refused c.in-Refused.refusal) c.in-Ok-Some.field-0-is c.in-Refused.is read.3 in
     went_then_ended g.D.Desk.step
-    (moment c.args.desk.now (g.R.Read.remaining c.args.reader.now) (g.W.Write.contents c.args.writer.now) c.args.reads.now c.args.connection.now.input)
-    (moment c.args.desk.now (g.R.Read.remaining c.arrive.new.reader) (g.W.Write.contents c.args.writer.now)
+    (moment c.args.desk.now (g.R.Source.remaining c.args.reader.now) (g.W.Outlet.contents c.args.writer.now) c.args.reads.now c.args.connection.now.input)
+    (moment c.args.desk.now (g.R.Source.remaining c.arrive.new.reader) (g.W.Outlet.contents c.args.writer.now)
     c.arrive.new.reads (c.args.connection.now.input ++ read.0))
-    (moment c.args.desk.now (g.R.Read.remaining c.arrive.new.reader) (g.W.Write.contents c.send.new.writer) c.arrive.new.reads c.arrive.new.input)
-    Refused (went_reading g.D.Desk.step c.args.desk.now (g.R.Read.remaining c.args.reader.now) (g.R.Read.remaining c.arrive.new.reader)
-    (g.W.Write.contents c.args.writer.now) c.args.reads.now c.arrive.new.reads c.args.connection.now.input
+    (moment c.args.desk.now (g.R.Source.remaining c.arrive.new.reader) (g.W.Outlet.contents c.send.new.writer) c.arrive.new.reads c.arrive.new.input)
+    Refused (went_reading g.D.Desk.step c.args.desk.now (g.R.Source.remaining c.args.reader.now) (g.R.Source.remaining c.arrive.new.reader)
+    (g.W.Outlet.contents c.args.writer.now) c.args.reads.now c.arrive.new.reads c.args.connection.now.input
     (c.args.connection.now.input ++ read.0) read.0 refl read.1 read.2)
-    (ended_refusing g.D.Desk.step c.args.desk.now (g.R.Read.remaining c.arrive.new.reader) (g.W.Write.contents c.args.writer.now)
-    (g.W.Write.contents c.send.new.writer) c.arrive.new.reads (c.args.connection.now.input ++ read.0) c.arrive.new.input c.in-Refused.refusal
+    (ended_refusing g.D.Desk.step c.args.desk.now (g.R.Source.remaining c.arrive.new.reader) (g.W.Outlet.contents c.args.writer.now)
+    (g.W.Outlet.contents c.send.new.writer) c.arrive.new.reads (c.args.connection.now.input ++ read.0) c.arrive.new.input c.in-Refused.refusal
     is c.in-Ok-send.ensures.ok)
 
 pub returns-in-Refused-clause-fault : goal.returns-in-Refused-clause-fault
@@ -143,15 +143,15 @@ returns-in-Refused-clause-fault g c =
     some_arrives (c.args.connection.now.input ++ read.0) c.arrive.new.input c.in-Ok-Some.field-0 c.in-Ok-Some.arrived
     (Arrived.Refused c.in-Refused.refusal) c.in-Ok-Some.field-0-is c.in-Refused.is read.3 in
     went_then_broken g.D.Desk.step
-    (moment c.args.desk.now (g.R.Read.remaining c.args.reader.now) (g.W.Write.contents c.args.writer.now) c.args.reads.now c.args.connection.now.input)
-    (moment c.args.desk.now (g.R.Read.remaining c.arrive.new.reader) (g.W.Write.contents c.args.writer.now)
+    (moment c.args.desk.now (g.R.Source.remaining c.args.reader.now) (g.W.Outlet.contents c.args.writer.now) c.args.reads.now c.args.connection.now.input)
+    (moment c.args.desk.now (g.R.Source.remaining c.arrive.new.reader) (g.W.Outlet.contents c.args.writer.now)
     c.arrive.new.reads (c.args.connection.now.input ++ read.0))
-    (moment c.args.desk.now (g.R.Read.remaining c.arrive.new.reader) (g.W.Write.contents c.send.new.writer) c.arrive.new.reads c.arrive.new.input)
-    c.in-Err-send.fault (went_reading g.D.Desk.step c.args.desk.now (g.R.Read.remaining c.args.reader.now) (g.R.Read.remaining c.arrive.new.reader)
-    (g.W.Write.contents c.args.writer.now) c.args.reads.now c.arrive.new.reads c.args.connection.now.input
+    (moment c.args.desk.now (g.R.Source.remaining c.arrive.new.reader) (g.W.Outlet.contents c.send.new.writer) c.arrive.new.reads c.arrive.new.input)
+    c.in-Err-send.fault (went_reading g.D.Desk.step c.args.desk.now (g.R.Source.remaining c.args.reader.now) (g.R.Source.remaining c.arrive.new.reader)
+    (g.W.Outlet.contents c.args.writer.now) c.args.reads.now c.arrive.new.reads c.args.connection.now.input
     (c.args.connection.now.input ++ read.0) read.0 refl read.1 read.2)
-    (broken_refusing g.D.Desk.step c.args.desk.now (g.R.Read.remaining c.arrive.new.reader) (g.W.Write.contents c.args.writer.now)
-    (g.W.Write.contents c.send.new.writer) c.arrive.new.reads (c.args.connection.now.input ++ read.0) c.arrive.new.input c.in-Refused.refusal
+    (broken_refusing g.D.Desk.step c.args.desk.now (g.R.Source.remaining c.arrive.new.reader) (g.W.Outlet.contents c.args.writer.now)
+    (g.W.Outlet.contents c.send.new.writer) c.arrive.new.reads (c.args.connection.now.input ++ read.0) c.arrive.new.input c.in-Refused.refusal
     c.in-Err-send.fault is c.in-Err-send.ensures.err)
 
 -- ---- the end of the input
@@ -159,10 +159,10 @@ returns-in-Refused-clause-fault g c =
 pub returns-clause-ended : goal.returns-clause-ended
 returns-clause-ended g c =
     let read = c.in-Ok-Some.ensures.bytes in
-    ended_with_input g.D.Desk.step c.args.desk.now (g.R.Read.remaining c.args.reader.now) (g.R.Read.remaining c.arrive.new.reader)
-    (g.W.Write.contents c.args.writer.now) c.args.reads.now c.arrive.new.reads c.args.connection.now.input
+    ended_with_input g.D.Desk.step c.args.desk.now (g.R.Source.remaining c.args.reader.now) (g.R.Source.remaining c.arrive.new.reader)
+    (g.W.Outlet.contents c.args.writer.now) c.args.reads.now c.arrive.new.reads c.args.connection.now.input
     c.arrive.new.input read.0 c.in-Ended.ended read.1 read.2
     (some_arrives (c.args.connection.now.input ++ read.0) c.arrive.new.input c.in-Ok-Some.field-0 c.in-Ok-Some.arrived
     (Arrived.Ended c.in-Ended.ended) c.in-Ok-Some.field-0-is c.in-Ended.is read.3)
-    (ended_through (g.R.Read.remaining c.arrive.new.reader) c.in-Ok-Some.field-0 c.in-Ok-Some.arrived c.in-Ended.ended c.in-Ok-Some.field-0-is
+    (ended_through (g.R.Source.remaining c.arrive.new.reader) c.in-Ok-Some.field-0 c.in-Ok-Some.arrived c.in-Ended.ended c.in-Ok-Some.field-0-is
     c.in-Ended.is c.in-Ok-Some.ensures.end)

@@ -1,5 +1,5 @@
 -- The closure may be called by several threads: all that it borrows may be used by several. Each session goes on.
-use Rattle.std.proofs.Common.{◌≡◌, false, slice_index_or, subst}
+use Rattle.std.proofs.Common.{◌≡◌, true, false, slice_index_or, subst}
 use denote.Builtin.{unit}
 use denote.Exit.{no}
 use denote.Param.{param}
@@ -7,6 +7,7 @@ use denote.Param.Send.{sendable, param_sync, arg_sync, shr_sync}
 use Rattle.std.proofs.sync.Mutex.TheSendSync as mutex
 use Rattle.std.proofs.alloc.Global.TheSendSync as global
 use Rattle.tfs_shared.proofs.Crossing.{shared_sync}
+use Rattle.tfs_serve.specs.Accepting.{IsAdmitted}
 use Rattle.tfs_serve.specs.Gate.{IsClosed}
 use Rattle.tfs_serve.specs.Session.{IsLater}
 use Rattle.tfs_serve.specs.Working.{HasWorked, end_of_work}
@@ -27,13 +28,16 @@ returns g c = record {
       let at = (c.for_each_mut.ensures i d inside).1 in
       subst (λ w. IsLater w.session (slice_index_or c.for_each_mut.new.s i d).session) at.argument_is
       (subst (λ w. IsLater at.argument.now.session w.session) at.left at.call.0);
+  admitted = λ i d inside.
+      let at = (c.for_each_mut.ensures i d inside).1 in
+      subst (λ w. w.failed ≡ true → IsAdmitted (g.G.Gate.told w.gate)) at.left at.call.1.0;
   closed = λ i d inside.
       let at = (c.for_each_mut.ensures i d inside).1 in
-      subst (λ w. w.failed ≡ false → IsClosed (g.G.Gate.told w.gate)) at.left at.call.1.0;
+      subst (λ w. w.failed ≡ false → IsClosed (g.G.Gate.told w.gate)) at.left at.call.1.1.0;
   worked = λ i d inside.
       let at = (c.for_each_mut.ensures i d inside).1 in
       let told = g.G.Gate.told in
       let new = slice_index_or c.for_each_mut.new.s i d in
       subst (λ w. HasWorked (told w.gate) (told new.gate) w.session new.session (end_of_work new.failed)) at.argument_is
-      (subst (λ w. HasWorked (told at.argument.now.gate) (told w.gate) at.argument.now.session w.session (end_of_work w.failed)) at.left at.call.1.1);
+      (subst (λ w. HasWorked (told at.argument.now.gate) (told w.gate) at.argument.now.session w.session (end_of_work w.failed)) at.left at.call.1.1.1);
 }
