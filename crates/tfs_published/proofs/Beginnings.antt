@@ -1,9 +1,9 @@
 -- What begins a journal.
-use Rattle.std.proofs.Common.{◌≡◌, ◌≤◌, ◌<◌, length, arith, List, [], ◌++◌, refl, sym, ◌∙◌, ap, append_assoc, append-nil, length-append}
+use Rattle.std.proofs.Common.{◌≡◌, ◌+◌, ◌≤◌, ◌<◌, length, arith, List, [], ◌++◌, refl, sym, ◌∙◌, ap, append_assoc, append-nil, length-append}
 use Rattle.std.proofs.lemmas.List.{map-append, length-map}
 use mathlib.Core.List.{IsPrefix}
 use Rattle.tfs_records.specs.Journal.{Journal, BaseValue, EntryValue, position_of}
-use Rattle.tfs_published.specs.Change.{ChangeValue, journal_after, entries_of}
+use Rattle.tfs_published.specs.Change.{ChangeValue, journal_after, entries_of, makers_of}
 use Rattle.tfs_published.specs.Beginning.{BeginsWith}
 use Rattle.tfs_published.proofs.Prefixes.{prefix_shorter}
 
@@ -32,6 +32,21 @@ later_begins opening first more p = record {
         ∙ ap (λ (es : List EntryValue). opening.entries ++ es) (sym (map-append (λ (c : ChangeValue). c.entry) first p.0) ∙ ap entries_of p.1),
   );
 }
+
+-- Which sessions made more changes begins with which made the first of them.
+pub later_makers : (first more : List ChangeValue) → IsPrefix first more → IsPrefix (makers_of first) (makers_of more)
+later_makers first more p = (makers_of p.0, sym (map-append (λ (c : ChangeValue). c.maker) first p.0) ∙ ap makers_of p.1)
+
+-- Each change beyond the opening journal has one maker.
+pub makers_counted : (opening : Journal) (changes : List ChangeValue)
+    → length (journal_after opening changes).entries ≡ length opening.entries + length (makers_of changes)
+makers_counted opening changes =
+    omega (
+      arith,
+      length-append opening.entries (entries_of changes),
+      length-map changes (λ (c : ChangeValue). c.entry),
+      length-map changes (λ (c : ChangeValue). c.maker),
+    )
 
 -- After fewer changes the position is lower.
 pub fewer_are_lower : (opening : Journal) (first more : List ChangeValue) → length first < length more

@@ -6,6 +6,7 @@ use Rattle.std.proofs.Common.{append-nil, length-append}
 use Rattle.logbook.specs.Pages.{Book}
 use Rattle.tfs_rules.specs.History.{state_of}
 use Rattle.tfs_records.specs.Journal.{EntryValue, Journal, with_entry, position_of, acts_of, names_of}
+use Rattle.tfs_table.specs.Lawful.{IsLawful}
 use Rattle.tfs_published.specs.Publisher.{IsPublisher, IsQueue}
 use Rattle.tfs_published.specs.Change.{ChangeValue, journal_after}
 use Rattle.tfs_published.specs.PlaceView.{place_with}
@@ -25,8 +26,8 @@ pub tells_change : (opening : Journal) (copy : CopyView) (newest token : TokenVa
     → position ≡ position_of (journal_after opening newest.changes)
     → slice_get (names_of (with_entry (journal_after opening newest.changes) change.entry)) update.number ≡ Some change.entry.name → update.number < 1024
     → change.state ≡ state_of (acts_of change.entry.name (with_entry (journal_after opening newest.changes) change.entry))
-    → TellsChange opening copy update change
-tells_change opening copy newest token update change position is book changes next place after at number inside state =
+    → IsLawful (with_entry (journal_after opening newest.changes) change.entry) → TellsChange opening copy update change
+tells_change opening copy newest token update change position is book changes next place after at number inside state lawful =
     let before : journal_after opening newest.changes ≡ journal_after opening copy.token.changes =
     ap (λ (t : TokenValue). journal_after opening t.changes) (sym is) in
     record {
@@ -39,6 +40,7 @@ tells_change opening copy newest token update change position is book changes ne
         number = subst (λ (j : Journal). slice_get (names_of (with_entry j change.entry)) update.number ≡ Some change.entry.name) before number;
         inside = inside;
       };
+      lawful = subst (λ (j : Journal). IsLawful (with_entry j change.entry)) before lawful;
     }
 
 -- What a publisher keeps, by equal parts.
@@ -57,6 +59,13 @@ pub publisher_book : (book : Book) (opening : Journal) (newest : TokenValue) (ne
     → IsPublisher book opening newest next shown queued → newest.book ≡ book
 publisher_book book opening newest next shown queued publisher = sym (ap (λ (t : TokenValue). t.book) publisher.newest_is) ∙ publisher.stands.same_book
 
+-- What is published is lawful.
+pub publisher_lawful : (book : Book) (opening : Journal) (newest : TokenValue) (next : Option TokenValue) (shown : Option CopyView)
+    (queued : Option (List Operation))
+    → IsPublisher book opening newest next shown queued → IsLawful (journal_after opening newest.changes)
+publisher_lawful book opening newest next shown queued publisher =
+    subst (λ (t : TokenValue). IsLawful (journal_after opening t.changes)) publisher.newest_is publisher.stands.lawful
+
 -- Without a next journal there is no next token.
 pub no_next : (opening : Journal) (next : Option TokenValue) → option_map (λ (t : TokenValue). journal_after opening t.changes) next ≡ None → next ≡ None
 no_next opening None is = refl
@@ -71,13 +80,16 @@ pub publisher_staged : (book : Book) (opening : Journal) (newest token : TokenVa
     → position ≡ position_of (journal_after opening newest.changes)
     → slice_get (names_of (with_entry (journal_after opening newest.changes) change.entry)) update.number ≡ Some change.entry.name → update.number < 1024
     → change.state ≡ state_of (acts_of change.entry.name (with_entry (journal_after opening newest.changes) change.entry))
+    → (IsLawful (journal_after opening newest.changes) → IsLawful (with_entry (journal_after opening newest.changes) change.entry))
     → IsPublisher book opening newest (Some token) (Some shown) (Some after)
-publisher_staged book opening newest token shown before after update change position publisher is same_book changes next place more at number inside state =
+publisher_staged book opening newest token shown before after update change position publisher is same_book changes next place more at number inside state
+    entered =
     let same : publisher.copy ≡ shown = cc (publisher.shows) in
     let none : before ≡ [] = publisher.queue in
     let newest_is : shown.token ≡ newest = subst (λ (c : CopyView). c.token ≡ newest) same publisher.newest_is in
+    let lawful = entered (publisher_lawful book opening newest None (Some shown) (Some before) publisher) in
     let tells : TellsChange opening shown update change =
-    tells_change opening shown newest token update change position newest_is same_book changes next place more at number inside state in
+    tells_change opening shown newest token update change position newest_is same_book changes next place more at number inside state lawful in
     record {
       copy = shown;
       shows = refl;
@@ -123,29 +135,30 @@ no_changes opening = ap (λ (es : List EntryValue). record { base = opening.base
 
 -- A copy with the places and the position of the opening journal stands for it.
 pub stands_new : (book : Book) (opening j : Journal) (token : TokenValue) (copy : CopyView) → j ≡ opening → token.book ≡ book
-    → token.changes ≡ [] → length (names_of j) ≤ 1024
+    → token.changes ≡ [] → IsLawful j
     → copy ≡ record { places = map (place_given j) (range_with_len 0 1024); position = position_of j; token = token }
     → StandsFor book opening copy
-stands_new book opening j token copy begins same none few is =
+stands_new book opening j token copy begins same none lawful is =
     let journal : journal_after opening copy.token.changes ≡ j =
     ap (λ (c : CopyView). journal_after opening c.token.changes) is ∙ (ap (journal_after opening) none ∙ (no_changes opening ∙ sym begins)) in
     record {
       same_book = ap (λ (c : CopyView). c.token.book) is ∙ same;
       published = subst (λ (k : Journal). IsPublished copy k) (sym journal) (record {
-        places = record { few = few; each = ap (λ (c : CopyView). c.places) is };
+        places = record { few = lawful.names; each = ap (λ (c : CopyView). c.places) is };
         position = ap (λ (c : CopyView). c.position) is;
       });
+      lawful = subst IsLawful (sym journal) lawful;
     }
 
 -- A publisher that was made new.
 pub publisher_new : (book : Book) (opening j : Journal) (token : TokenValue) (copy : CopyView) (queued : List Operation) → j ≡ opening
-    → token.book ≡ book → token.changes ≡ [] → length (names_of j) ≤ 1024
+    → token.book ≡ book → token.changes ≡ [] → IsLawful j
     → copy ≡ record { places = map (place_given j) (range_with_len 0 1024); position = position_of j; token = token }
     → queued ≡ [] → IsPublisher book opening token None (Some copy) (Some queued)
-publisher_new book opening j token copy queued begins same none few is idle = record {
+publisher_new book opening j token copy queued begins same none lawful is idle = record {
   copy = copy;
   shows = refl;
   newest_is = ap (λ (c : CopyView). c.token) is;
-  stands = stands_new book opening j token copy begins same none few is;
+  stands = stands_new book opening j token copy begins same none lawful is;
   queue = idle;
 }

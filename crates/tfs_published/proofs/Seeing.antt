@@ -4,6 +4,7 @@ use mathlib.Core.List.{IsPrefix}
 use Rattle.logbook.specs.Pages.{Book}
 use Rattle.tfs_rules.specs.History.{state_of}
 use Rattle.tfs_records.specs.Journal.{Journal, position_of, acts_of}
+use Rattle.tfs_table.specs.Lawful.{IsLawful}
 use Rattle.tfs_published.specs.Change.{journal_after}
 use Rattle.tfs_published.specs.Lookup.{IsLookup}
 use Rattle.tfs_published.specs.Published.{StandsFor}
@@ -20,6 +21,7 @@ seen_of book opening copy earlier name None stands same sees = tt
 seen_of book opening copy earlier name (Some s) stands same sees = record {
   same_book = ap (λ (t : TokenValue). t.book) sees.all ∙ (stands.same_book ∙ sym same);
   begins = subst (λ (t : TokenValue). IsPrefix earlier.changes t.changes) (sym sees.all) sees.begins;
+  lawful = subst (λ (t : TokenValue). IsLawful (journal_after opening t.changes)) (sym sees.all) stands.lawful;
   position = sees.position
       ∙ (stands.published.position ∙ ap (λ (t : TokenValue). position_of (journal_after opening t.changes)) (sym sees.all));
   lookup = subst (λ (t : TokenValue). IsLookup s.lookup (state_of (acts_of name (journal_after opening t.changes)))) (sym sees.all)

@@ -4,6 +4,7 @@ use Rattle.std.proofs.lemmas.List.{map-append}
 use Rattle.logbook.specs.Pages.{Book}
 use Rattle.tfs_rules.specs.History.{state_of}
 use Rattle.tfs_records.specs.Journal.{EntryValue, Journal, with_entry, acts_of}
+use Rattle.tfs_table.specs.Lawful.{IsLawful}
 use Rattle.tfs_published.specs.Change.{ChangeValue, journal_after}
 use Rattle.tfs_published.specs.PlaceView.{place_with}
 use Rattle.tfs_published.specs.Published.{IsPublished, updated, TellsEntry, StandsFor, TellsChange}
@@ -39,4 +40,5 @@ takes_change book opening copy u change stands tells =
       same_book = tells.same_book ∙ stands.same_book;
       published = subst (λ (j : Journal). IsPublished (updated copy u) j) (sym more)
           (takes_entry copy (journal_after opening copy.token.changes) u change.entry stands.published tells.entry);
+      lawful = subst IsLawful (sym more) tells.lawful;
     }

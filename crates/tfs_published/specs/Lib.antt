@@ -1,5 +1,6 @@
 pub mod Beginning
 pub mod Publisher
+pub mod Reader
 pub mod Change
 pub mod Lookup
 pub mod History

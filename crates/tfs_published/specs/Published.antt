@@ -4,6 +4,7 @@ use Rattle.std.specs.List.{range_with_len}
 use Rattle.logbook.specs.Pages.{Book}
 use Rattle.tfs_rules.specs.History.{state_of}
 use Rattle.tfs_records.specs.Journal.{EntryValue, Journal, with_entry, position_of, acts_of, names_of}
+use Rattle.tfs_table.specs.Lawful.{IsLawful}
 use Rattle.tfs_published.specs.Change.{ChangeValue, journal_after}
 use Rattle.tfs_published.specs.PlaceView.{place_with}
 use Rattle.tfs_published.specs.declared.operation.Operation.{Operation}
@@ -44,16 +45,18 @@ pub record TellsEntry (update : UpdateView) (e : EntryValue) (j : Journal) : Typ
   pub number : slice_get (names_of (with_entry j e)) update.number ≡ Some e.name
   pub inside : update.number < 1024
 
--- A copy is of the history of a book, and stands for the journal after the changes of its token.
+-- A copy is of the history of a book, and stands for the journal after the changes of its token, which is lawful.
 pub record StandsFor (book : Book) (opening : Journal) (copy : CopyView) : Type 0 where
   pub same_book : copy.token.book ≡ book
   pub published : IsPublished copy (journal_after opening copy.token.changes)
+  pub lawful : IsLawful (journal_after opening copy.token.changes)
 
--- An update of a copy tells one more change of its history.
+-- An update of a copy tells one more change of its history, with which its journal is lawful.
 pub record TellsChange (opening : Journal) (copy : CopyView) (update : UpdateView) (change : ChangeValue) : Type 0 where
   pub same_book : update.token.book ≡ copy.token.book
   pub changes : update.token.changes ≡ copy.token.changes ++ change ∷ []
   pub entry : TellsEntry update change.entry (journal_after opening copy.token.changes)
+  pub lawful : IsLawful (with_entry (journal_after opening copy.token.changes) change.entry)
 
 -- One update is queued, which tells one more change.
 pub record Queues (opening : Journal) (copy : CopyView) (queued : List Operation) : Type 0 where

@@ -1,5 +1,5 @@
 -- What lies under the lock beside the table.
-use Rattle.std.specs.Prelude.{◌≡◌, List, [], Option, Some, None, IfSome}
+use Rattle.std.specs.Prelude.{◌≡◌, ℕ, List, [], Option, Some, None, IfSome}
 use Rattle.logbook.specs.Pages.{Book}
 use Rattle.tfs_records.specs.Journal.{Journal}
 use Rattle.tfs_published.specs.Token.{TokenValue}
@@ -7,10 +7,13 @@ use Rattle.tfs_published.specs.Published.{IsPublished, StandsFor, Queues}
 use Rattle.tfs_published.specs.declared.view.CopyView.{CopyView}
 use Rattle.tfs_published.specs.declared.operation.Operation.{Operation}
 
--- What callers see: the journal that is published, the one that is to be published next, and the copy that readers are shown.
+-- What callers see: the journal that is published, and which sessions made its changes beyond the opening journal; both of what is to be
+-- published next; and the copy that readers are shown.
 pub record PublisherView : Type 0 where
   pub journal : Journal
+  pub makers : List ℕ
   pub next : Option Journal
+  pub next_makers : Option (List ℕ)
   pub shown : Option CopyView
 
 -- Readers are shown a copy that stands for what is published.

@@ -3,6 +3,7 @@ use Rattle.std.specs.Prelude.{◌≡◌, ℕ, List}
 use mathlib.Core.List.{IsPrefix}
 use Rattle.tfs_rules.specs.History.{state_of}
 use Rattle.tfs_records.specs.Journal.{Journal, position_of, acts_of}
+use Rattle.tfs_table.specs.Lawful.{IsLawful}
 use Rattle.tfs_published.specs.Change.{journal_after}
 use Rattle.tfs_published.specs.Lookup.{IsLookup}
 use Rattle.tfs_published.specs.Published.{ArePlacesOf}
@@ -17,9 +18,10 @@ pub record IsSnapshot (copy : CopyView) (earlier : TokenValue) (name : List ℕ)
   pub position : snapshot.position ≡ copy.position
   pub lookup : (j : Journal) → ArePlacesOf j copy.places → IsLookup snapshot.lookup (state_of (acts_of name j))
 
--- What is seen of a name over the journal after a token's changes, which begin with those of an earlier token.
+-- What is seen of a name over the journal after a token's changes, which is lawful, and which begin with those of an earlier token.
 pub record IsSeen (opening : Journal) (earlier : TokenValue) (name : List ℕ) (snapshot : Snapshot) : Type 0 where
   pub same_book : snapshot.token.book ≡ earlier.book
   pub begins : IsPrefix earlier.changes snapshot.token.changes
+  pub lawful : IsLawful (journal_after opening snapshot.token.changes)
   pub position : snapshot.position ≡ position_of (journal_after opening snapshot.token.changes)
   pub lookup : IsLookup snapshot.lookup (state_of (acts_of name (journal_after opening snapshot.token.changes)))

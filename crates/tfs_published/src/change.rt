@@ -4,11 +4,13 @@ use std::marker::Model;
 use std::sync::Arc;
 use tfs_index::Version;
 use tfs_records::Entry;
+use tfs_table::Ready;
 
-/// An accepted change: its entry, and the version that its name has afterwards. No value of it is made, since the history
-/// exists for contracts alone.
+/// An accepted change: the number of the session that made it, its entry, and the version that its name has afterwards. No value of it
+/// is made, since the history exists for contracts alone.
 #[derive(Drop)]
 pub struct Change {
+    maker: u64,
     entry: Entry,
     version: Option<Arc<Version>>,
 }
@@ -20,5 +22,12 @@ impl Model for Change {
 
     ghost Value = { ChangeValue };
 
-    ghost view = { λ c. record { entry = c.entry; state = option_map arc_value c.version } };
+    ghost view = { λ c. record { maker = c.maker; entry = c.entry; state = option_map arc_value c.version } };
+}
+
+/// A change that is ready, and the number of the session that makes it.
+#[derive(Drop)]
+pub struct Making<'r> {
+    pub(crate) ready: &'r Ready,
+    pub(crate) maker: u64,
 }

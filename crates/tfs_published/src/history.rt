@@ -3,12 +3,11 @@
 ghost use Rattle.std.specs.Prelude.{◌≡◌, []};
 ghost use Rattle.tfs_published.specs.History.{head_of};
 
-use crate::change::Change;
+use crate::change::{Change, Making};
 use crate::naming::Naming;
 use crate::token::{Token, start};
 use logbook::{Gain, Plain, Play, Rule, Seen, Start, Word};
 use std::marker::{Model, PhantomData};
-use tfs_table::Ready;
 
 /// The rule of the history: its word counts its changes.
 pub struct Law;
@@ -50,13 +49,13 @@ impl Play<Change, u64> for Add {
 }
 
 /// What a step asks for: the change that is ready.
-impl Plain<Ready, Change, u64> for Add {
+impl<'r> Plain<Making<'r>, Change, u64> for Add {
     ghost use Rattle.std.specs.Prelude.{None};
     ghost use Rattle.tfs_published.specs.Change.{change_of};
 
-    ghost ask = { change_of };
+    ghost ask = { λ making. change_of making.maker making.ready.now };
 
-    ghost state = { λ ready. None };
+    ghost state = { λ making. None };
 }
 
 /// The word that counts the changes of a table's history.

@@ -1,11 +1,14 @@
 //! What lies under the lock beside the table and the ledger's book.
 
-ghost use Rattle.std.specs.Prelude.{◌≡◌, ◌≤◌, ◌<◌, ◌∷◌, ◌++◌, [], true, false, drop, length, Some, None, IfSome, IfOk, OnOk, OnErr, option_map};
+ghost use Rattle.std.specs.Prelude.{◌≡◌, ◌≤◌, ◌<◌, ◌+◌, ◌∷◌, ◌++◌, [], true, false, drop, length, Some, None, IfSome, IfOk, OnOk, OnErr, option_map};
 ghost use Rattle.std.specs.Arc.{arc_value};
-ghost use Rattle.tfs_records.specs.Journal.{with_entry, position_of};
+ghost use Rattle.tfs_rules.specs.History.{state_of};
+ghost use Rattle.tfs_records.specs.Journal.{acts_of, with_entry, position_of};
+ghost use Rattle.tfs_table.specs.Lawful.{IsLawful};
 ghost use Rattle.tfs_published.specs.Publisher.{Shows};
 ghost use Rattle.tfs_published.specs.declared.operation.Operation.TheVariants.{Take};
-ghost use Rattle.tfs_published.specs.Change.{change_of, journal_after, state_told};
+ghost use Rattle.tfs_published.specs.Change.{journal_after, makers_of, state_told};
+ghost use mathlib.Core.List.{IsPrefix};
 ghost use Rattle.tfs_published.specs.PlaceView.{place_with};
 ghost use Rattle.tfs_published.specs.Beginning.{BeginsWith};
 
@@ -42,13 +45,15 @@ impl<J: Naming> Model for Publisher<J> {
     ghost use Rattle.std.specs.Prelude.{◌≡◌, drop, option_map};
     ghost use Rattle.tfs_records.specs.Journal.{position_of};
     ghost use Rattle.tfs_published.specs.Publisher.{PublisherView, IsPublisher};
-    ghost use Rattle.tfs_published.specs.Change.{journal_after};
+    ghost use Rattle.tfs_published.specs.Change.{journal_after, makers_of};
 
     ghost Value = { PublisherView };
 
     ghost view = { λ b. record {
       journal = journal_after J.opening b.newest.changes;
+      makers = makers_of b.newest.changes;
       next = option_map (λ t. journal_after J.opening t.changes) b.next;
+      next_makers = option_map (λ t. makers_of t.changes) b.next;
       shown = option_map (λ w. w.desk.shown.value) b.writer;
     } };
 
@@ -70,7 +75,7 @@ impl<J: Naming> Publisher<J> {
         requires opening { table.now.journal ≡ J.opening }
         requires book { opened ≡ J.book }
         requires readers { (1 ≤ number) × (number ≤ 16) }
-        ensures journal { IfOk result (λ publisher. publisher.journal ≡ J.opening) }
+        ensures journal { IfOk result (λ publisher. (publisher.journal ≡ J.opening) × (publisher.makers ≡ [])) }
         ensures idle { IfOk result (λ publisher. publisher.next ≡ None) }
     {
         let (history, newest) = opened.named::<J>();
@@ -92,7 +97,7 @@ impl<J: Naming> Publisher<J> {
 
     /// A reader that has seen what is published. There is none where no reader's place is there.
     pub fn reader(&self) -> Option<Reader<J>>
-        ensures value { IfSome result (λ reader. reader ≡ self.now.journal) }
+        ensures value { IfSome result (λ reader. reader ≡ record { journal = self.now.journal; makers = self.now.makers }) }
     {
         let Some(writer) = &self.writer else {
             return None;
@@ -104,11 +109,13 @@ impl<J: Naming> Publisher<J> {
         Some(Reader::new(reader, token, position))
     }
 
-    /// What readers are shown stands for what is published, which begins with the opening journal. The call computes nothing: it is a law
+    /// What readers are shown stands for what is published, which is lawful and begins with the opening journal. The call computes nothing: it is a law
     /// of all publishers.
     pub fn shows(&self)
         ensures value { Shows self.now }
+        ensures lawful { IsLawful self.now.journal }
         ensures begins { BeginsWith self.now.journal J.opening }
+        ensures counted { length self.now.journal.entries ≡ length J.opening.entries + length self.now.makers }
     {
         // The invariant is known where the publisher is read.
         let _position = self.position;
@@ -131,15 +138,15 @@ impl<J: Naming> Publisher<J> {
 
     /// Whether what is published begins with what a reader has seen. If not, its position is lower.
     pub fn covers(&self, reader: &Reader<J>) -> bool
-        ensures yes { result ≡ true → BeginsWith self.now.journal reader.now }
-        ensures no { result ≡ false → position_of self.now.journal < position_of reader.now }
+        ensures yes { result ≡ true → BeginsWith self.now.journal reader.now.journal × IsPrefix reader.now.makers self.now.makers }
+        ensures no { result ≡ false → position_of self.now.journal < position_of reader.now.journal }
     {
         self.newest.begins_with(reader.token())
     }
 
     /// Has a reader see what is published.
     pub fn show(&self, reader: &mut Reader<J>)
-        ensures value { reader.new ≡ self.now.journal }
+        ensures value { reader.new ≡ record { journal = self.now.journal; makers = self.now.makers } }
     {
         let (token, position) = self.reached();
         reader.see(token, position);
@@ -148,27 +155,29 @@ impl<J: Naming> Publisher<J> {
     /// The token of what is published, and its position.
     fn reached(&self) -> (Token, u64)
         ensures book { result.0.book ≡ J.book }
-        ensures journal { journal_after J.opening result.0.changes ≡ self.now.journal }
+        ensures journal { (journal_after J.opening result.0.changes ≡ self.now.journal) × (makers_of result.0.changes ≡ self.now.makers) }
         ensures position { result.1 ≡ position_of self.now.journal }
+        ensures lawful { IsLawful self.now.journal }
     {
         (self.newest.again(), self.position)
     }
 
-    /// Queues the update that tells a change. Readers don't see it before it is published.
-    pub fn stage(&mut self, ready: &Ready) -> Result<(), AllocError>
+    /// Queues the update that tells a change, as the session of a number makes it. Readers don't see it before it is published.
+    pub fn stage(&mut self, ready: &Ready, maker: u64) -> Result<(), AllocError>
         requires idle { self.old.next ≡ None }
         requires journal { ready.now.journal ≡ self.old.journal }
         requires entries { length self.old.journal.entries ≤ 65536 }
         requires base { self.old.journal.base.position ≤ 4611686018427387904 }
-        ensures ok { OnOk result (self.new.next ≡ Some (with_entry self.old.journal ready.now.entry)) }
+        ensures ok { OnOk result ((self.new.next ≡ Some (with_entry self.old.journal ready.now.entry))
+            × (self.new.next_makers ≡ Some (self.old.makers ++ maker ∷ []))) }
         ensures err { OnErr result (self.new.next ≡ None) }
-        ensures kept { (self.new.journal ≡ self.old.journal) × (self.new.shown ≡ self.old.shown) }
+        ensures kept { (self.new.journal ≡ self.old.journal) × (self.new.makers ≡ self.old.makers) × (self.new.shown ≡ self.old.shown) }
     {
         let version = version_after(ready)?;
         let Some(writer) = &mut self.writer else {
             return Err(AllocError);
         };
-        let Some(token) = self.newest.with(&self.history, ready) else {
+        let Some(token) = self.newest.with(&self.history, ready, maker) else {
             return Err(AllocError);
         };
         let position = self.position + 1;
@@ -190,6 +199,7 @@ impl<J: Naming> Publisher<J> {
         requires number { number < 1024 }
         requires room { position_of self.old.journal < 9223372036854775808 }
         ensures journal { IfSome self.old.next (λ next. self.new.journal ≡ next) }
+        ensures makers { IfSome self.old.next_makers (λ next. self.new.makers ≡ next) }
         ensures idle { self.new.next ≡ None }
     {
         let Some(token) = self.next.take() else {
@@ -216,9 +226,11 @@ impl<J: Naming> Publisher<J> {
     }
 }
 
-/// The version that a name has after a change.
+/// The version that a name has after a change. The journal with the change is lawful, where it was lawful before.
 fn version_after(ready: &Ready) -> Result<Option<Arc<Version>>, AllocError>
-    ensures value { IfOk result (λ version. option_map arc_value version ≡ (change_of ready.now).state) }
+    ensures value { IfOk result (λ version. option_map arc_value version
+        ≡ state_of (acts_of ready.now.entry.name (with_entry ready.now.journal ready.now.entry))) }
+    ensures lawful { OnOk result (IsLawful ready.now.journal → IsLawful (with_entry ready.now.journal ready.now.entry)) }
 {
     match ready.version() {
         Some(version) => Ok(Some(version.clone()?)),

@@ -1,10 +1,12 @@
 //! What one session sees of the published copies.
 
-ghost use Rattle.std.specs.Prelude.{◌≡◌, IfSome, IfNone};
+ghost use Rattle.std.specs.Prelude.{◌≡◌, ◌+◌, length, IfSome, IfNone};
 ghost use Rattle.tfs_rules.specs.History.{state_of};
 ghost use Rattle.tfs_records.specs.Journal.{position_of, acts_of};
+ghost use Rattle.tfs_table.specs.Lawful.{IsLawful};
 ghost use Rattle.tfs_published.specs.Beginning.{BeginsWith};
-ghost use Rattle.tfs_published.specs.Change.{journal_after};
+ghost use Rattle.tfs_published.specs.Change.{journal_after, makers_of};
+ghost use mathlib.Core.List.{IsPrefix};
 ghost use Rattle.tfs_published.specs.Lookup.{IsLookup};
 
 use crate::lookup::Lookup;
@@ -14,7 +16,8 @@ use crate::token::Token;
 use std::marker::Model;
 use tfs_rules::Name;
 
-/// A reader's place at the published copies, and how far it has seen. Contracts see the journal that it has seen.
+/// A reader's place at the published copies, and how far it has seen. Contracts see the journal that it has seen, which is
+/// lawful, and which sessions made its changes beyond the opening one.
 #[derive(Drop)]
 pub struct Reader<J: Naming> {
     copies: Option<CopyReader<J>>,
@@ -24,14 +27,17 @@ pub struct Reader<J: Naming> {
 
 impl<J: Naming> Model for Reader<J> {
     ghost use Rattle.std.specs.Prelude.{◌≡◌, IsSome};
-    ghost use Rattle.tfs_records.specs.Journal.{Journal, position_of};
-    ghost use Rattle.tfs_published.specs.Change.{journal_after};
+    ghost use Rattle.tfs_records.specs.Journal.{position_of};
+    ghost use Rattle.tfs_table.specs.Lawful.{IsLawful};
+    ghost use Rattle.tfs_published.specs.Change.{journal_after, makers_of};
+    ghost use Rattle.tfs_published.specs.Reader.{ReaderView};
 
-    ghost Value = { Journal };
+    ghost Value = { ReaderView };
 
-    ghost view = { λ v. journal_after J.opening v.token.changes };
+    ghost view = { λ v. record { journal = journal_after J.opening v.token.changes; makers = makers_of v.token.changes } };
 
-    ghost invariant = { λ v. (v.token.book ≡ J.book) × (v.position ≡ position_of (journal_after J.opening v.token.changes)) × IsSome v.copies };
+    ghost invariant = { λ v. (v.token.book ≡ J.book) × (v.position ≡ position_of (journal_after J.opening v.token.changes)) × IsSome v.copies
+        × IsLawful (journal_after J.opening v.token.changes) };
 }
 
 impl<J: Naming> Reader<J> {
@@ -39,7 +45,8 @@ impl<J: Naming> Reader<J> {
     pub(crate) fn new(copies: CopyReader<J>, token: Token, position: u64) -> Reader<J>
         requires book { token.book ≡ J.book }
         requires position { position ≡ position_of (journal_after J.opening token.changes) }
-        ensures value { result ≡ journal_after J.opening token.changes }
+        requires lawful { IsLawful (journal_after J.opening token.changes) }
+        ensures value { result ≡ record { journal = journal_after J.opening token.changes; makers = makers_of token.changes } }
     {
         Reader {
             copies: Some(copies),
@@ -48,9 +55,19 @@ impl<J: Naming> Reader<J> {
         }
     }
 
+    /// What it has seen is lawful, and begins with the opening journal. The call computes nothing: it is a law.
+    pub fn is_kept(&self)
+        ensures lawful { IsLawful self.now.journal }
+        ensures begins { BeginsWith self.now.journal J.opening }
+        ensures counted { length self.now.journal.entries ≡ length J.opening.entries + length self.now.makers }
+    {
+        // The invariant is known where the reader is read.
+        let _position = self.position;
+    }
+
     /// The position of the journal that it has seen.
     pub fn position(&self) -> u64
-        ensures value { result ≡ position_of self.now }
+        ensures value { result ≡ position_of self.now.journal }
     {
         self.position
     }
@@ -58,7 +75,8 @@ impl<J: Naming> Reader<J> {
     /// The token of the journal that it has seen.
     pub(crate) fn token(&self) -> &Token
         ensures book { result.now.book ≡ J.book }
-        ensures journal { journal_after J.opening result.now.changes ≡ self.now }
+        ensures journal { journal_after J.opening result.now.changes ≡ self.now.journal }
+        ensures makers { makers_of result.now.changes ≡ self.now.makers }
     {
         &self.token
     }
@@ -67,7 +85,8 @@ impl<J: Naming> Reader<J> {
     pub(crate) fn see(&mut self, token: Token, position: u64)
         requires book { token.book ≡ J.book }
         requires position { position ≡ position_of (journal_after J.opening token.changes) }
-        ensures value { self.new ≡ journal_after J.opening token.changes }
+        requires lawful { IsLawful (journal_after J.opening token.changes) }
+        ensures value { self.new ≡ record { journal = journal_after J.opening token.changes; makers = makers_of token.changes } }
     {
         self.token = token;
         self.position = position;
@@ -77,9 +96,10 @@ impl<J: Naming> Reader<J> {
     /// stands for. There is nothing, and nothing changes, where no such copy is handed out. It waits for nobody.
     #[tactic(auto, using(crate::proofs::Beginnings::begins_with_itself, crate::proofs::Beginnings::later_begins))]
     pub fn look(&mut self, name: &Name) -> Option<Lookup>
-        ensures found { IfSome result (λ lookup. IsLookup lookup (state_of (acts_of name.now self.new))) }
-        ensures later { BeginsWith self.new self.old }
+        ensures found { IfSome result (λ lookup. IsLookup lookup (state_of (acts_of name.now self.new.journal))) }
+        ensures later { BeginsWith self.new.journal self.old.journal × IsPrefix self.old.makers self.new.makers }
         ensures kept { IfNone result (self.new ≡ self.old) }
+        ensures lawful { IsLawful self.new.journal }
     {
         let copies = self.copies.take()?;
         let (copies, snapshot) = enter(copies, &self.token, name);

@@ -4,7 +4,7 @@ ghost use Rattle.std.specs.Prelude.{◌≡◌, ◌<◌, [], ◌∷◌, ◌++◌,
 ghost use mathlib.Core.List.{IsPrefix};
 ghost use Rattle.tfs_published.specs.Change.{change_of};
 
-use crate::change::Change;
+use crate::change::{Change, Making};
 use crate::history::{Add, History, Law, Nothing};
 use crate::naming::Naming;
 use logbook::{Offer, Seen};
@@ -47,16 +47,24 @@ impl Token {
         }
     }
 
-    /// The token of the history with the change that is ready, where the history has no other changes than this token's. It takes
-    /// no memory.
-    pub(crate) fn with<J: Naming>(&self, history: &History<J>, ready: &Ready) -> Option<Token>
+    /// The token of the history with the change that is ready, as a session makes it, where the history has no other changes than this
+    /// token's. It takes no memory.
+    pub(crate) fn with<J: Naming>(
+        &self,
+        history: &History<J>,
+        ready: &Ready,
+        maker: u64,
+    ) -> Option<Token>
         requires book { self.now.book ≡ J.book }
         requires room { length self.now.changes < 4611686018427387904 }
         ensures book { IfSome result (λ token. token.book ≡ self.now.book) }
-        ensures changes { IfSome result (λ token. token.changes ≡ self.now.changes ++ change_of ready.now ∷ []) }
+        ensures changes { IfSome result (λ token. token.changes ≡ self.now.changes ++ change_of maker ready.now ∷ []) }
     {
         let mut seen = self.seen.again();
-        let mut offer: Offer<Change, u64, Law, Nothing> = seen.plain::<Nothing, Ready, Add>(ready);
+        let making = Making { ready, maker };
+        let mut offer: Offer<Change, u64, Law, Nothing> = seen.plain::<Nothing, Making<'_>, Add>(
+            &making,
+        );
         let mut pen = seen.no_pen();
         let count = self.count;
         let found = history

@@ -1,4 +1,5 @@
 pub mod Captures
 pub mod Crossing
+pub mod Numbering
 pub mod Refusing
 pub mod Shares

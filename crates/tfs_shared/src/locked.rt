@@ -1,6 +1,7 @@
 //! A change of a table under its lock.
 
-ghost use Rattle.std.specs.Prelude.{◌≡◌, ◌+◌, length, OnOk, OnErr};
+ghost use Rattle.std.specs.Prelude.{◌≡◌, ◌+◌, ◌<◌, ◌∷◌, ◌++◌, [], length, IfOk, OnOk, OnErr};
+ghost use Rattle.tfs_records.specs.Journal.{position_of};
 ghost use Rattle.tfs_calls.specs.Transition.{AnswersAct};
 ghost use Rattle.tfs_table.specs.Table.{model_of, change_reply};
 ghost use Rattle.tfs_shared.specs.LockedState.{ArePublished};
@@ -11,24 +12,27 @@ use tfs_published::{Naming, Publisher};
 use tfs_records::Sink;
 use tfs_table::{Prepared, Table};
 
-/// Makes a change and publishes it, or says why not. Whatever takes memory comes before the sink, so that what is written is
-/// published too; what is staged when the sink fails is never published, since the table is stopped then.
+/// Makes a change of the session of a number and publishes it, or says why not. Whatever takes memory comes before the sink, so that what
+/// is written is published too; what is staged when the sink fails is never published, since the table is stopped then.
 pub(crate) fn change<J: Naming, K: Sink, R: Wait>(
     rt: &R,
     table: &mut Table<K>,
     publisher: &mut Publisher<J>,
     prepared: Prepared,
+    maker: u64,
 ) -> Result<u64, Refusal>
     requires published { ArePublished table.old publisher.old }
     ensures answered { AnswersAct (model_of table.old) prepared.name prepared.act (change_reply result) (model_of table.new) }
     ensures published { ArePublished table.new publisher.new }
     ensures more { OnOk result (length table.new.journal.entries ≡ length table.old.journal.entries + 1) }
+    ensures numbered { IfOk result (λ number. (number ≡ position_of table.new.journal) × (position_of table.old.journal < number)) }
+    ensures made { OnOk result (publisher.new.makers ≡ publisher.old.makers ++ maker ∷ []) }
     ensures kept { OnErr result (table.new.journal ≡ table.old.journal) }
 {
     // The journal is lawful before the change.
     table.is_kept();
     let ready = table.ready(prepared)?;
-    publisher.stage(&ready)?;
+    publisher.stage(&ready, maker)?;
     let number = ready.number();
     let position = table.finish(ready)?;
     publisher.publish(rt, number);

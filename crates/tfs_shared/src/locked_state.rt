@@ -1,11 +1,12 @@
 //! What lies under the lock.
 
-ghost use Rattle.std.specs.Prelude.{◌≡◌, ◌⊎◌, ◌+◌, ◌≤◌, ◌<◌, ℕ, List, true, false, All, Any, None, length, sum_by, OnOk, OnErr, MatchResult};
+ghost use Rattle.std.specs.Prelude.{◌≡◌, ◌≢◌, ◌⊎◌, ◌+◌, ◌≤◌, ◌<◌, ℕ, List, true, false, All, Any, None, length, sum_by, IfOk, OnOk, OnErr, MatchResult};
 ghost use Rattle.tfs_rules.specs.Act.{ActValue};
 ghost use Rattle.std.specs.Arc.{arc_value};
 ghost use Rattle.tfs_calls.specs.Refusal.{refusal_value, no_copy, out_of_memory};
 ghost use Rattle.tfs_calls.specs.Transition.{AnswersAct, answer_of, open_model};
-ghost use Rattle.tfs_records.specs.Journal.{position_of};
+ghost use Rattle.tfs_rules.specs.History.{state_of};
+ghost use Rattle.tfs_records.specs.Journal.{acts_of, position_of};
 ghost use Rattle.tfs_calls.specs.declared.call.Call.TheVariants.{Read};
 ghost use Rattle.tfs_calls.specs.Reply.{state, refused};
 ghost use Rattle.tfs_table.specs.Table.{IsTable, model_of, change_reply};
@@ -74,7 +75,9 @@ impl<J: Naming, K: Sink> LockedState<J, K> {
         self.publisher.shows();
     }
 
-    /// A change by a session.
+    /// A change by a session. Whatever is answered, the session has then seen the table's journal as it is afterwards, or, at `NoCopy`,
+    /// what it had seen.
+    #[tactic(auto, using(crate::proofs::Numbering::numbers))]
     pub(crate) fn submit<R: Wait>(
         &mut self,
         rt: &R,
@@ -83,8 +86,11 @@ impl<J: Naming, K: Sink> LockedState<J, K> {
     ) -> Result<u64, Refusal>
         ensures answered { HasNoCopy J.opening session.old session.new (change_reply result)
             ⊎ AnswersChange prepared.name prepared.act session.old session.new (change_reply result) }
-        ensures over { ((change_reply result ≡ refused no_copy) × (position_of self.old.table.journal < position_of session.old.journal))
-            ⊎ AnswersAct (model_of self.old.table) prepared.name prepared.act (change_reply result) (model_of self.new.table) }
+        ensures over { ((change_reply result ≡ refused no_copy) × (position_of self.old.table.journal < position_of session.old.journal)
+            × (session.new ≡ session.old))
+            ⊎ (AnswersAct (model_of self.old.table) prepared.name prepared.act (change_reply result) (model_of self.new.table)
+            × (session.new.journal ≡ self.new.table.journal)) }
+        ensures numbered { IfOk result (λ number. (number ≡ position_of session.new.journal) × (position_of session.old.journal < number)) }
         ensures accepted { OnOk result (session.new.accepted ≡ session.old.accepted + 1) }
         ensures refused { OnErr result (session.new.accepted ≡ session.old.accepted) }
     {
@@ -93,7 +99,8 @@ impl<J: Naming, K: Sink> LockedState<J, K> {
         if !session.is_covered(&self.publisher) {
             return Err(Refusal::NoCopy);
         }
-        let answer = change(rt, &mut self.table, &mut self.publisher, prepared);
+        let maker = session.number();
+        let answer = change(rt, &mut self.table, &mut self.publisher, prepared, maker);
         session.see(&self.publisher);
         if answer.is_ok() {
             // There are at most 65,536 entries, so the count has room.
@@ -137,7 +144,7 @@ impl<J: Naming, K: Sink> LockedState<J, K> {
             (λ doc. state (arc_value doc) ≡ answer_of (open_model self.now.table.journal) (Read name.now))
             (λ refusal. ((refusal_value refusal ≡ no_copy) × (position_of self.now.table.journal < position_of session.old.journal))
             ⊎ ((refused (refusal_value refusal) ≡ answer_of (open_model self.now.table.journal) (Read name.now))
-            ⊎ (refusal_value refusal ≡ out_of_memory))) }
+            ⊎ ((refusal_value refusal ≡ out_of_memory) × (state_of (acts_of name.now self.now.table.journal) ≢ None)))) }
         ensures accepted { session.new.accepted ≡ session.old.accepted }
     {
         // What is published is the table's journal, which is lawful.

@@ -6,6 +6,7 @@ ghost use Rattle.tfs_rules.specs.History.{state_of};
 ghost use Rattle.tfs_records.specs.Journal.{position_of, acts_of};
 ghost use Rattle.tfs_calls.specs.Refusal.{refusal_value};
 ghost use Rattle.tfs_calls.specs.Reply.{state, refused};
+ghost use Rattle.tfs_table.specs.Lawful.{IsLawful};
 ghost use Rattle.tfs_table.specs.Table.{change_reply};
 ghost use Rattle.tfs_published.specs.Lookup.{IsLookup};
 ghost use Rattle.tfs_shared.specs.Locked.{AnswersChange, AnswersRead, HasNoCopy};
@@ -26,6 +27,7 @@ use tfs_table::{DeferredDrop, Prepared};
 /// A caller's own side of a shared table. Contracts see the journal that it has seen, and how many of its changes were accepted.
 #[derive(Drop)]
 pub struct Session<J: Naming> {
+    number: u64,
     reader: Reader<J>,
     share: Share<J>,
     accepted: u64,
@@ -37,23 +39,37 @@ impl<J: Naming> Model for Session<J> {
 
     ghost Value = { SessionView };
 
-    ghost view = { λ s. record { journal = s.reader; accepted = s.accepted } };
+    ghost view = { λ s. record { journal = s.reader.journal; accepted = s.accepted } };
 
     ghost invariant = { λ s. (s.share.parts ≡ 1) × (s.share.amount ≡ s.accepted) };
 }
 
 impl<J: Naming> Session<J> {
-    /// A session that has seen what its reader has, and has made no changes.
-    pub(crate) fn new(reader: Reader<J>, share: Share<J>) -> Session<J>
+    /// The session of a number, which has seen what its reader has, and has made no changes.
+    pub(crate) fn new(number: u64, reader: Reader<J>, share: Share<J>) -> Session<J>
         requires parts { share.parts ≡ 1 }
         requires amount { share.amount ≡ 0 }
-        ensures value { result ≡ record { journal = reader; accepted = 0 } }
+        ensures value { result ≡ record { journal = reader.journal; accepted = 0 } }
     {
         Session {
+            number,
             reader,
             share,
             accepted: 0,
         }
+    }
+
+    /// What it has seen is lawful, and begins with the opening journal. The call computes nothing: it is a law.
+    pub fn is_kept(&self)
+        ensures lawful { IsLawful self.now.journal }
+        ensures begins { BeginsWith self.now.journal J.opening }
+    {
+        self.reader.is_kept();
+    }
+
+    /// Its number among the sessions of its table, from 0.
+    pub(crate) fn number(&self) -> u64 {
+        self.number
     }
 
     /// How many of its changes were accepted.
@@ -71,7 +87,7 @@ impl<J: Naming> Session<J> {
     }
 
     /// Makes a change, or says why not, over a journal that begins with all that the session had seen. Afterwards it has seen the
-    /// journal that was answered over, with its own change where that was accepted. `NoCopy` where the session has seen more than
+    /// journal that was answered over, with its own change where that was accepted, at the position that is told. `NoCopy` where the session has seen more than
     /// the table's journal, and then nothing changes. The change's record is made before it waits for the lock. What is long is
     /// freed once the lock is free.
     pub fn submit<K: Sink, R: Wait>(
@@ -83,6 +99,7 @@ impl<J: Naming> Session<J> {
     ) -> Result<u64, Refusal>
         ensures answered { HasNoCopy J.opening self.old self.new (change_reply result)
             ⊎ AnswersChange name draft self.old self.new (change_reply result) }
+        ensures numbered { IfOk result (λ number. (number ≡ position_of self.new.journal) × (position_of self.old.journal < number)) }
         ensures accepted { OnOk result (self.new.accepted ≡ self.old.accepted + 1) }
         ensures refused { OnErr result (self.new.accepted ≡ self.old.accepted) }
     {
@@ -143,6 +160,7 @@ impl<J: Naming> Session<J> {
         ensures amount { result.amount ≡ self.accepted }
     {
         let Session {
+            number: _,
             reader: _reader,
             share,
             accepted: _,
@@ -167,6 +185,7 @@ impl<J: Naming> Session<J> {
     pub(crate) fn look(&mut self, name: &Name) -> Option<Lookup>
         ensures found { IfSome result (λ lookup. IsLookup lookup (state_of (acts_of name.now self.new.journal))) }
         ensures later { BeginsWith self.new.journal self.old.journal }
+        ensures lawful { IsLawful self.new.journal }
         ensures kept { IfNone result (self.new ≡ self.old) }
         ensures accepted { self.new.accepted ≡ self.old.accepted }
     {

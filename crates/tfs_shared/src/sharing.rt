@@ -85,7 +85,7 @@ fn sessions_of<J: Naming>(
         let Some(reader) = publisher.reader() else {
             return Err(Cause::NoPlace);
         };
-        let Ok(()) = sessions.push(Session::new(reader, share)) else {
+        let Ok(()) = sessions.push(Session::new(made as u64, reader, share)) else {
             return Err(Cause::NoMemory);
         };
     }

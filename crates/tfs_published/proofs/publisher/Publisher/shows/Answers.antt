@@ -1,11 +1,13 @@
 -- The copy that readers are shown has the newest token.
-use Rattle.std.proofs.Common.{ap, sym, subst, ◌∙◌}
+use Rattle.std.proofs.Common.{arith, length, ap, sym, subst, ◌∙◌}
 use Rattle.tfs_records.specs.Journal.{Journal}
 use Rattle.tfs_published.specs.Change.{journal_after}
 use Rattle.tfs_published.specs.Published.{IsPublished}
 use Rattle.tfs_published.specs.Token.{TokenValue}
 use Rattle.tfs_published.specs.Beginning.{BeginsWith}
-use Rattle.tfs_published.proofs.Beginnings.{opening_begins}
+use Rattle.tfs_table.specs.Lawful.{IsLawful}
+use Rattle.tfs_published.proofs.Beginnings.{opening_begins, makers_counted}
+use Rattle.tfs_published.proofs.Publishers.{publisher_lawful}
 use Rattle.tfs_published.proofs.publisher.Publisher.shows.Goals as goal
 
 pub returns : goal.returns
@@ -19,5 +21,10 @@ returns g c =
         shown = sym (ap (λ v. v.shown) c.self.view_is) ∙ publisher.shows;
         published = subst (λ (j : Journal). IsPublished publisher.copy j) journal publisher.stands.published;
       };
+      counted =
+          let makers = ap (λ v. length v.makers) c.self.view_is in
+          let entries = ap (λ v. length v.journal.entries) c.self.view_is in
+          omega (arith, makers, entries, makers_counted g.J.Naming.opening c.self.inside.newest.changes);
+      lawful = subst IsLawful same (publisher_lawful _ _ _ _ _ _ publisher);
       begins = subst (λ (j : Journal). BeginsWith j g.J.Naming.opening) same (opening_begins g.J.Naming.opening c.self.inside.newest.changes);
     }

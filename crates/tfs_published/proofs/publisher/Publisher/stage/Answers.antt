@@ -3,6 +3,7 @@ use Rattle.std.proofs.Common.{◌≡◌, ℕ, List, slice_get, refl, sym, ◌∙
 use Rattle.std.specs.Arc.{arc_value}
 use Rattle.tfs_rules.specs.History.{state_of}
 use Rattle.tfs_records.specs.Journal.{Journal, with_entry, acts_of, names_of}
+use Rattle.tfs_table.specs.Lawful.{IsLawful}
 use Rattle.tfs_published.specs.Change.{change_of}
 use Rattle.tfs_published.specs.PlaceView.{place_with}
 use Rattle.tfs_published.specs.declared.view.UpdateView.{UpdateView}
@@ -31,8 +32,9 @@ invariant_of-self-2 g c =
     let at = subst (λ (j : Journal). slice_get (names_of (with_entry j entry)) number ≡ Some entry.name) journal c.number.ensures.value in
     let done = publisher_staged book opening inside.newest token writer.desk.shown.value (drop writer.behind writer.log.items)
     (drop after.behind after.log.items)
-    update (change_of ready) inside.position publisher c.in_ok-queue.ensures.ok c.in-Some-with.ensures.book c.in-Some-with.ensures.changes refl place refl
-    c.self.invariant.0 at c.number.ensures.most state in (
+    update (change_of c.args.maker ready) inside.position publisher c.in_ok-queue.ensures.ok c.in-Some-with.ensures.book c.in-Some-with.ensures.changes refl place refl
+    c.self.invariant.0 at c.number.ensures.most state (subst (λ (j : Journal). IsLawful j → IsLawful (with_entry j entry)) journal
+    c.in_ok-version.ensures.lawful) in (
       c.self.invariant.0,
       publisher_along book opening inside.newest (Some token) (Some token) _ (Some after.desk.shown.value) _ (Some (drop after.behind after.log.items))
           done refl (ap Some (sym c.queue.ensures.shown)) refl,

@@ -2,7 +2,7 @@
 use Rattle.std.proofs.Common.{Option, subst, IfSome}
 use Rattle.tfs_published.specs.Snapshot.{IsSeen}
 use Rattle.tfs_published.specs.declared.snapshot.Snapshot.{Snapshot}
-use Rattle.tfs_published.proofs.Beginnings.{later_begins}
+use Rattle.tfs_published.proofs.Beginnings.{later_begins, later_makers}
 use Rattle.tfs_published.proofs.reader.Reader.look.Goals as goal
 
 pub returns-clause-later : goal.returns-clause-later
@@ -11,4 +11,7 @@ returns-clause-later g c =
     let seen =
     subst (λ (o : Option Snapshot). IfSome o (λ snapshot. IsSeen g.J.Naming.opening before c.args.name.now snapshot)) c.in-Some.is
     c.enter-copies.ensures.value in
-    rw (← c.self.view_is) (later_begins g.J.Naming.opening before.changes c.in-Some.snapshot.token.changes seen.begins)
+    rw (← c.self.view_is) (
+      later_begins g.J.Naming.opening before.changes c.in-Some.snapshot.token.changes seen.begins,
+      later_makers before.changes c.in-Some.snapshot.token.changes seen.begins,
+    )

@@ -17,5 +17,5 @@ compare_exchange-found-requires g c =
       book,
       pen.0 ∙ book,
       offer.0,
-      rw (ap (λ w. w.key) h, pen.1, offer.1, offer.3) (adds_moves c.again-seen.result.log (change_of c.args.ready.now) c.self.inside.count count),
+      rw (ap (λ w. w.key) h, pen.1, offer.1, offer.3) (adds_moves c.again-seen.result.log (change_of c.args.maker c.args.ready.now) c.self.inside.count count),
     )
