@@ -1,5 +1,6 @@
 """What `tfstated serve` does where memory is refused, at its start and to a connection, by a preloaded shim; and what it needs of it for
 texts that are long or meant to take much."""
+import contextlib
 import io
 import os
 import sys
@@ -143,15 +144,35 @@ def long_module_path():
     return state(1, ("a",))[:-2] + b", " + own.encode() + b"]}"
 
 
+@contextlib.contextmanager
+def asking(connection):
+    """Asks for the state of b each second on a connection, which is to be shown each time."""
+    ended, replies = threading.Event(), []
+
+    def ask():
+        while not ended.wait(1):
+            replies.append(asked(connection, "GET", "/state/b"))
+
+    thread = threading.Thread(target=ask)
+    thread.start()
+    try:
+        yield
+    finally:
+        ended.set()
+        thread.join()
+    expect(set(replies) <= {(200, S1)}, True, "replies beside")
+
+
 def check_a_long_module_path_takes_a_few_times_its_bytes():
     server, text = Server(workers=2, preexec_fn=limited(6 * 10**9)), long_module_path()
     with server.connect() as other:
         expect(asked(other, "POST", "/state/b", S1), (200, b""))
         before = most_memory(server)
-        expect(server.ask("POST", "/state/a", text), (200, b""))
-        times = (most_memory(server) - before) / len(text)
-        expect(times < TIMES_ITS_BYTES, True, f"it took {times:.1f} times its bytes")
-        expect(server.ask("GET", "/impact/a/any?of=t.a"), None, "an answer of 34 GB ends its conversation")
+        with asking(other):
+            expect(server.ask("POST", "/state/a", text), (200, b""))
+            times = (most_memory(server) - before) / len(text)
+            expect(times < TIMES_ITS_BYTES, True, f"it took {times:.1f} times its bytes")
+            expect(server.ask("GET", "/impact/a/any?of=t.a"), None, "an answer of 34 GB ends its conversation")
         expect(asked(other, "GET", "/state/b"), (200, S1), "on a connection that was there before")
         expect(asked(other, "GET", "/impact/b/any?of=t.a"), (404, b'{"error":"UnknownAddress"}'))
     expect(server.ask("GET", "/state/a"), (200, text))
