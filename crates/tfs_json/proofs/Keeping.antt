@@ -18,12 +18,14 @@ pick d None = d
 pick d (Some a) = a
 
 -- What was read, and what is left behind it.
-found : {A B : Type 0} (a : A) (r s : List Token) (x : Option B) (b : B) → option_map {U = B × List Token} (λ y. (y, r)) x ≡ Some (b, s) → (r ≡ s) × (x ≡ Some b)
+found : {A B : Type 0} (a : A) (r s : List Token) (x : Option B) (b : B) → option_map {U = B × List Token} (λ y. (y, r)) x ≡ Some (b, s)
+    → (r ≡ s) × (x ≡ Some b)
 found a r s None b e = absurd (cc)
 found a r s (Some y) b e = let same = ap (pick (y, r)) e in (ap (λ p. p.1) same, ap (λ p. Some p.0) same)
 
 -- What is kept is kept of something.
-pub converted_some : {A B : Type 0} (f : A → Option B) (o : Option (A × List Token)) (b : B) (r : List Token) → converted f o ≡ Some (b, r) → (a : A) × (o ≡ Some (a, r)) × (f a ≡ Some b)
+pub converted_some : {A B : Type 0} (f : A → Option B) (o : Option (A × List Token)) (b : B) (r : List Token) → converted f o ≡ Some (b, r)
+    → (a : A) × (o ≡ Some (a, r)) × (f a ≡ Some b)
 converted_some f None b r e = absurd (cc)
 converted_some f (Some p) b r e = let both = found p.0 p.1 r (f p.0) b e in (p.0, ap (λ s. Some (p.0, s)) both.0, both.1)
 
@@ -48,7 +50,8 @@ kept-object None = refl
 kept-object (Some p) = twice object p.1 (kept_members p.0)
 
 -- One element more.
-one_item : (j d : Json) → kept j ≡ Some d → (o : Option (Items × List Token)) → converted kept_items (parse_map (item j) o) ≡ parse_map (item d) (converted kept_items o)
+one_item : (j d : Json) → kept j ≡ Some d → (o : Option (Items × List Token))
+    → converted kept_items (parse_map (item j) o) ≡ parse_map (item d) (converted kept_items o)
 one_item j d e None = refl
 one_item j d e (Some p) = rw e (twice (item d) p.1 (kept_items p.0))
 
@@ -72,10 +75,12 @@ module _ (p : Parse Json) where
   -- An element is read, and what is kept of it stands before the rest.
   pub item_read : (n : ℕ) (ts r : List Token) (d : Json) → 0 < n → after_end_array ts ≡ None → converted kept (p ts) ≡ Some (d, r)
       → converted kept_items (items p n ts) ≡ parse_map (item d) (converted kept_items (items p (n - 1) r))
-  item_read n ts r d some going e = let j = converted_some kept (p ts) d r e in ap (converted kept_items) (items_more p n ts r j.0 some going j.1) ∙ one_item j.0 d j.2 _
+  item_read n ts r d some going e =
+      let j = converted_some kept (p ts) d r e in ap (converted kept_items) (items_more p n ts r j.0 some going j.1) ∙ one_item j.0 d j.2 _
 
   -- Nothing is kept of a list whose next element isn't kept.
-  no_item : (more : Parse Items) (o : Option (Json × List Token)) → converted kept o ≡ None → converted kept_items (option_and_then (λ q. parse_map (item q.0) (more q.1)) o) ≡ None
+  no_item : (more : Parse Items) (o : Option (Json × List Token)) → converted kept o ≡ None
+      → converted kept_items (option_and_then (λ q. parse_map (item q.0) (more q.1)) o) ≡ None
   no_item more None e = refl
   no_item more (Some q) e = without_item q.0 (refused q.1 (kept q.0) e) (more q.1)
 
@@ -103,7 +108,8 @@ module _ (p : Parse Json) where
   no_member k more (Some q) e = without_member k q.0 (refused q.1 (kept q.0) e) (more q.1)
 
   -- The same of the tokens.
-  pub member_refused : (n : ℕ) (k : List ℕ) (ts s : List Token) → read_key ts ≡ Some (Some k, s) → converted kept (p s) ≡ None → converted kept_members (members p n ts) ≡ None
+  pub member_refused : (n : ℕ) (k : List ℕ) (ts s : List Token) → read_key ts ≡ Some (Some k, s) → converted kept (p s) ≡ None
+      → converted kept_members (members p n ts) ≡ None
   unfolding members
   member_refused zero k ts s key e = refl
   member_refused (suc n) k ts s key e = rw key (no_member k (members p n) (p s) e)

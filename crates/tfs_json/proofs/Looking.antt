@@ -149,7 +149,8 @@ get-tree name (json.array js) = refl
 get-tree name (json.object ms) = last_member name ms no_members ∙ later_none _
 
 -- A member that is kept is looked at as it is in the whole.
-keep_turn : (b : Bool) (o : Option Json) (j : Json) → later_or (option_map pruned o) (cond b (Some (pruned j)) None) ≡ option_map pruned (later_or o (cond b (Some j) None))
+keep_turn : (b : Bool) (o : Option Json) (j : Json)
+    → later_or (option_map pruned o) (cond b (Some (pruned j)) None) ≡ option_map pruned (later_or o (cond b (Some j) None))
 keep_turn true None j = refl
 keep_turn false None j = refl
 keep_turn b (Some i) j = refl
@@ -175,7 +176,8 @@ kept_member_if false name k j ms y e later =
     later ∙ drop_turn (bytes_eq k name) (finds.get_member name ms) j (other_name (bytes_eq k name) name k refl y e)
 
 -- The member of a kept name among what is kept.
-kept_member : (name : List ℕ) (ms : json.Members) → is_wanted name ≡ true → finds.get_member name (pruned_members ms) ≡ option_map pruned (finds.get_member name ms)
+kept_member : (name : List ℕ) (ms : json.Members) → is_wanted name ≡ true
+    → finds.get_member name (pruned_members ms) ≡ option_map pruned (finds.get_member name ms)
 kept_member name json.no_members y = refl
 kept_member name (json.member k j ms) y = kept_member_if (is_wanted k) name k j ms y refl (kept_member name ms y)
 
@@ -213,7 +215,8 @@ same_then f same None = refl
 same_then f same (Some j) = same j
 
 -- What looks at a member through such a function finds the same.
-pub same_at : {A : Type 0} (f : Data → Option A) → ((j : Json) → f (tree_data (pruned j)) ≡ f (tree_data j)) → (name : List ℕ) (j : Json) → is_wanted name ≡ true
+pub same_at : {A : Type 0} (f : Data → Option A) → ((j : Json) → f (tree_data (pruned j)) ≡ f (tree_data j)) → (name : List ℕ) (j : Json)
+    → is_wanted name ≡ true
     → option_and_then f (get name (tree_data (pruned j))) ≡ option_and_then f (get name (tree_data j))
 same_at f same name j y =
     ap (option_and_then f) (get-tree name (pruned j) ∙ ap (option_map tree_data) (get-pruned name j y))
@@ -244,7 +247,8 @@ u64_or None = refl
 u64_or (Some n) = refl
 
 -- The whole number of a tree is that of its value.
-pub as_u64-tree : (j : Json) → option_and_then as_u64 (as_number (tree_data j)) ≡ option_and_then (λ s. option_and_then as_u64 (number_of s)) (finds.as_number j)
+pub as_u64-tree : (j : Json)
+    → option_and_then as_u64 (as_number (tree_data j)) ≡ option_and_then (λ s. option_and_then as_u64 (number_of s)) (finds.as_number j)
 as_u64-tree json.null = refl
 as_u64-tree (json.boolean b) = refl
 as_u64-tree (json.number s) = u64_or (number_of s)

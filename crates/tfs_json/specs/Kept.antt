@@ -11,9 +11,11 @@ use Rattle.tfs_json.specs.Json.{json_value}
 -- The names of the members that are kept.
 abbrev pub is_wanted : List ℕ → Bool
 is_wanted name =
-    bytes_eq name (codes "version") || bytes_eq name (codes "serial") || bytes_eq name (codes "lineage") || bytes_eq name (codes "resources")
-    || bytes_eq name (codes "module") || bytes_eq name (codes "mode") || bytes_eq name (codes "type") || bytes_eq name (codes "name") || bytes_eq name (codes "instances")
-    || bytes_eq name (codes "index_key") || bytes_eq name (codes "deposed") || bytes_eq name (codes "dependencies") || bytes_eq name (codes "ID")
+    bytes_eq name (codes "version") || bytes_eq name (codes "serial") || bytes_eq name (codes "lineage")
+    || bytes_eq name (codes "resources") || bytes_eq name (codes "module") || bytes_eq name (codes "mode")
+    || bytes_eq name (codes "type") || bytes_eq name (codes "name") || bytes_eq name (codes "instances")
+    || bytes_eq name (codes "index_key") || bytes_eq name (codes "deposed") || bytes_eq name (codes "dependencies")
+    || bytes_eq name (codes "ID")
 
 -- The members with one more in front, if it is kept.
 abbrev pub with_member : Bool → List ℕ → Json → Members → Members
@@ -46,12 +48,15 @@ kept_text text = option_and_then kept (option_and_then (λ p. if_last p.0 p.1) (
 abbrev pub tokens_left : {A : Type 0} → Option (A × List Token) → Option (List Token)
 tokens_left r = option_map (λ p. p.1) r
 
+-- The tokens behind a value.
 abbrev pub passed_value : ℕ → List Token → Option (List Token)
 passed_value depth ts = tokens_left (converted kept (value depth ts))
 
+-- The tokens behind the rest of a list.
 abbrev pub passed_items : ℕ → List Token → Option (List Token)
 passed_items depth ts = tokens_left (converted kept_items (items (value depth) (length ts) ts))
 
+-- The tokens behind the rest of an object.
 abbrev pub passed_members : ℕ → List Token → Option (List Token)
 passed_members depth ts = tokens_left (converted kept_members (members (value depth) (length ts) ts))
 

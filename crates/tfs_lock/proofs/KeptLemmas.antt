@@ -20,6 +20,7 @@ none_as None (Some b) e = cc
 none_as (Some a) None e = cc
 none_as (Some a) (Some b) e = refl
 
+-- The same, where something is there.
 some_as : {A B : Type 0} (o : Option A) (p : Option B) → is_some o ≡ is_some p → IsSome o → IsSome p
 some_as None None e i = i
 some_as None (Some b) e i = cc

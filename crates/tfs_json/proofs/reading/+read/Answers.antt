@@ -138,7 +138,8 @@ read_items-returns-clause-ok g t c =
     let l = c.items in
     let n = l.invariant.0 in
     let r = c.take_end_array.new.self in
-    l.invariant.2 ∙ ap (parse_map (items_before l.found.items)) (items_over p n l.reader r l.invariant.1 (grind arith)) ∙ ap (λ ds. Some (ds, r)) (items_before-no_items l.found.items)
+    l.invariant.2 ∙ ap (parse_map (items_before l.found.items)) (items_over p n l.reader r l.invariant.1 (grind arith))
+    ∙ ap (λ ds. Some (ds, r)) (items_before-no_items l.found.items)
 
 pub read_members-members-init : goal.read_members-members-init
 read_members-members-init g t c =
@@ -176,7 +177,8 @@ read_members-members-preserved g t c =
     let lesser = done.shorter in (
       n - 1,
       omega (arith, l.invariant.1),
-      l.invariant.2 ∙ member_taken c.args.depth n name l.reader s r l.found.items c.take_member.new.found.items (omega (arith, l.invariant.1)) named (is_wanted name.now) refl done.ok,
+      l.invariant.2
+          ∙ member_taken c.args.depth n name l.reader s r l.found.items c.take_member.new.found.items (omega (arith, l.invariant.1)) named (is_wanted name.now) refl done.ok,
       omega (arith, l.invariant.3),
     )
 
@@ -186,4 +188,5 @@ read_members-returns-clause-ok g t c =
     let l = c.members in
     let n = l.invariant.0 in
     let r = c.next_key.new.self in
-    l.invariant.2 ∙ ap (parse_map (members_before l.found.items)) (members_over p n l.reader r l.invariant.1 (grind arith)) ∙ ap (λ ms. Some (ms, r)) (members_before-no_members l.found.items)
+    l.invariant.2 ∙ ap (parse_map (members_before l.found.items)) (members_over p n l.reader r l.invariant.1 (grind arith))
+    ∙ ap (λ ms. Some (ms, r)) (members_before-no_members l.found.items)
