@@ -13,7 +13,7 @@ mod index;
 #[cfg(test)]
 mod instances;
 #[cfg(test)]
-mod json;
+mod json_values;
 #[cfg(test)]
 mod locks;
 #[cfg(test)]
