@@ -1,5 +1,5 @@
 pub mod Captures
 pub mod Crossing
-pub mod Numbering
 pub mod Refusing
 pub mod Shares
+pub mod Signing

@@ -4,6 +4,7 @@ use Rattle.std.specs.Option.{option_map_or}
 use Rattle.tfs_state.specs.Document.{Document}
 use Rattle.tfs_rules.specs.History.{state_of}
 use Rattle.tfs_records.specs.Journal.{Journal, acts_of}
+use Rattle.tfs_table.specs.Lawful.{IsLawful}
 use Rattle.tfs_calls.specs.Impact.{chosen_by, query_refusal}
 use Rattle.tfs_calls.specs.Refusal.{out_of_memory}
 use Rattle.tfs_calls.specs.Reply.{ReplyValue, impact, refused}
@@ -11,10 +12,10 @@ use Rattle.tfs_calls.specs.Transition.{answer_of, open_model}
 use Rattle.tfs_calls.specs.declared.call.Call.TheVariants.{Impact as CallImpact}
 use Rattle.tfs_calls.specs.declared.query.Query.{Query}
 
--- The reply over a journal: the model's answer or, where the name has a state, want of memory.
+-- The reply over a lawful journal: the model's answer or, where the name has a state, want of memory.
 abbrev pub AnswersImpact : Journal → List ℕ → Query → ReplyValue → Type 0
-AnswersImpact j name query reply = (reply ≡ answer_of (open_model j) (CallImpact name query))
-    ⊎ ((reply ≡ refused out_of_memory) × IsSome (state_of (acts_of name j)))
+AnswersImpact j name query reply = IsLawful j × ((reply ≡ answer_of (open_model j) (CallImpact name query))
+    ⊎ ((reply ≡ refused out_of_memory) × IsSome (state_of (acts_of name j))))
 
 -- The same over a state, at a position.
 abbrev pub AnswersQuery : Document → Query → ℕ → ReplyValue → Type 0

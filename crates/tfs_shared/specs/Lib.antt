@@ -1,4 +1,5 @@
 pub mod LockedState
 pub mod Impact
 pub mod Locked
+pub mod Signed
 pub mod View

@@ -1,7 +1,8 @@
 -- The answers of locked calls.
-use Rattle.std.specs.Prelude.{◌≡◌, ◌⊎◌, ℕ, ◌<◌, List}
+use Rattle.std.specs.Prelude.{◌≡◌, ◌≢◌, ◌⊎◌, ℕ, ◌<◌, List, None}
 use Rattle.tfs_rules.specs.Act.{ActValue}
-use Rattle.tfs_records.specs.Journal.{Journal, position_of}
+use Rattle.tfs_rules.specs.History.{state_of}
+use Rattle.tfs_records.specs.Journal.{Journal, position_of, acts_of}
 use Rattle.tfs_calls.specs.Refusal.{no_copy, out_of_memory}
 use Rattle.tfs_calls.specs.Reply.{ReplyValue, refused}
 use Rattle.tfs_calls.specs.Transition.{TableModel, AnswersAct, answer_of, open_model}
@@ -34,10 +35,11 @@ pub record AnswersChange (name : List ℕ) (act : ActValue) (old new : SessionVi
   pub seen : new.journal ≡ after.journal
 
 -- The reply to a read: the model's answer over a lawful journal that begins with all that the session had seen, and that it has
--- then seen; or want of memory.
+-- then seen; or, where the name has a state, want of memory.
 pub record AnswersRead (name : List ℕ) (old new : SessionView) (reply : ReplyValue) : Type 0 where
   pub journal : Journal
   pub lawful : IsLawful journal
   pub fresh : BeginsWith journal old.journal
-  pub answer : (reply ≡ answer_of (open_model journal) (Read name)) ⊎ (reply ≡ refused out_of_memory)
+  pub answer : (reply ≡ answer_of (open_model journal) (Read name))
+      ⊎ ((reply ≡ refused out_of_memory) × (state_of (acts_of name journal) ≢ None))
   pub seen : new.journal ≡ journal

@@ -4,6 +4,7 @@ ghost use Rattle.std.specs.Prelude.{◌≡◌, ◌+◌, ◌<◌, ◌≤◌, ◌�
 ghost use Rattle.tfs_published.specs.Beginning.{BeginsWith};
 ghost use Rattle.tfs_shared.specs.declared.gathering.Lack.TheVariants.{Missing, NoCopy};
 ghost use Rattle.tfs_shared.specs.Locked.{IsAhead};
+ghost use Rattle.tfs_shared.specs.Signed.{AreSigned};
 
 use crate::session::Session;
 use crate::shared::Shared;
@@ -37,6 +38,7 @@ pub fn gather<J: Naming, K: Sink, R: Wait>(
     ensures whole { IfOk result (λ table. length sessions.items ≡ J.sessions) }
     ensures opening { IfOk result (λ table. BeginsWith table.journal J.opening) }
     ensures seen { IfOk result (λ table. All (λ session. BeginsWith table.journal session.journal) sessions.items) }
+    ensures signed { IfOk result (λ table. AreSigned J.opening table.journal sessions.items) }
     ensures counted { IfOk result (λ table. length table.journal.entries
         ≡ length J.opening.entries + sum_by (λ session. session.accepted) sessions.items) }
     ensures missing { IfErr result (λ strangers. (strangers.why ≡ Missing) ↔ (length sessions.items < J.sessions)) }

@@ -1,11 +1,11 @@
 //! Impact queries, which wait for nobody.
 
-ghost use Rattle.std.specs.Prelude.{◌≡◌, ◌⊎◌, Some};
+ghost use Rattle.std.specs.Prelude.{◌≡◌, ◌⊎◌, [], Some};
 ghost use Rattle.std.specs.Arc.{arc_value};
 ghost use Rattle.tfs_calls.specs.Refusal.{no_copy};
 ghost use Rattle.tfs_calls.specs.Reply.{refused};
-ghost use Rattle.tfs_table.specs.Lawful.{IsLawful};
 ghost use Rattle.tfs_table.specs.Table.{impact_reply};
+ghost use Rattle.tfs_shared.specs.Signed.{IsSigned};
 ghost use Rattle.tfs_shared.specs.Impact.{AnswersImpact, AnswersQuery};
 ghost use Rattle.tfs_published.specs.Beginning.{BeginsWith};
 
@@ -32,7 +32,7 @@ impl<J: Naming> Session<J> {
         ensures answer { ((impact_reply result ≡ refused no_copy) × (self.new ≡ self.old))
             ⊎ AnswersImpact self.new.journal name.now query.now (impact_reply result) }
         ensures later { BeginsWith self.new.journal self.old.journal }
-        ensures lawful { IsLawful self.new.journal }
+        ensures signed { IsSigned J.opening self.old self.new [] }
         ensures accepted { self.new.accepted ≡ self.old.accepted }
     {
         match self.look(name) {

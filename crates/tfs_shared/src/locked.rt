@@ -12,8 +12,8 @@ use tfs_published::{Naming, Publisher};
 use tfs_records::Sink;
 use tfs_table::{Prepared, Table};
 
-/// Makes a change of the session of a number and publishes it, or says why not. Whatever takes memory comes before the sink, so that what
-/// is written is published too; what is staged when the sink fails is never published, since the table is stopped then.
+/// Makes a change of the session of a number and publishes it, or says why not. Whatever takes memory comes before the sink, so that what is written is
+/// published too; what is staged when the sink fails is never published, since the table is stopped then.
 pub(crate) fn change<J: Naming, K: Sink, R: Wait>(
     rt: &R,
     table: &mut Table<K>,
@@ -27,7 +27,7 @@ pub(crate) fn change<J: Naming, K: Sink, R: Wait>(
     ensures more { OnOk result (length table.new.journal.entries ≡ length table.old.journal.entries + 1) }
     ensures numbered { IfOk result (λ number. (number ≡ position_of table.new.journal) × (position_of table.old.journal < number)) }
     ensures made { OnOk result (publisher.new.makers ≡ publisher.old.makers ++ maker ∷ []) }
-    ensures kept { OnErr result (table.new.journal ≡ table.old.journal) }
+    ensures kept { OnErr result ((table.new.journal ≡ table.old.journal) × (publisher.new.makers ≡ publisher.old.makers)) }
 {
     // The journal is lawful before the change.
     table.is_kept();

@@ -1,6 +1,6 @@
 //! What lies under the lock.
 
-ghost use Rattle.std.specs.Prelude.{◌≡◌, ◌≢◌, ◌⊎◌, ◌+◌, ◌≤◌, ◌<◌, ℕ, List, true, false, All, Any, None, length, sum_by, IfOk, OnOk, OnErr, MatchResult};
+ghost use Rattle.std.specs.Prelude.{◌≡◌, ◌≢◌, ◌⊎◌, ◌+◌, ◌≤◌, ◌<◌, ℕ, List, [], true, false, All, Any, None, length, sum_by, IfOk, OnOk, OnErr, MatchResult};
 ghost use Rattle.tfs_rules.specs.Act.{ActValue};
 ghost use Rattle.std.specs.Arc.{arc_value};
 ghost use Rattle.tfs_calls.specs.Refusal.{refusal_value, no_copy, out_of_memory};
@@ -12,6 +12,8 @@ ghost use Rattle.tfs_calls.specs.Reply.{state, refused};
 ghost use Rattle.tfs_table.specs.Table.{IsTable, model_of, change_reply};
 ghost use Rattle.tfs_published.specs.Publisher.{Shows};
 ghost use Rattle.tfs_shared.specs.LockedState.{IsLockedState};
+ghost use mathlib.Core.List.{IsPrefix};
+ghost use Rattle.tfs_shared.specs.Signed.{AreSigned, IsSigned, makers_told};
 ghost use Rattle.tfs_shared.specs.Locked.{AnswersChange, AnswersRead, HasNoCopy, IsAhead};
 ghost use Rattle.tfs_published.specs.Beginning.{BeginsWith};
 
@@ -63,12 +65,13 @@ impl<J: Naming, K: Sink> LockedState<J, K> {
     }
 
     /// What is kept whenever the lock is free: the table's invariant, with a lawful journal; what readers are shown stands for that
-    /// journal; and it has as many entries beyond the opening ones as changes were accepted. The call computes nothing: it is a law.
+    /// journal; and it has as many entries beyond the opening ones as changes were accepted, each with its maker. The call computes nothing: it is a law.
     pub fn is_kept(&self)
         ensures table { IsTable self.now.table }
         ensures shown { Shows self.now.publisher }
         ensures locked_state { IsLockedState J.opening self.now }
         ensures begins { BeginsWith self.now.table.journal J.opening }
+        ensures made { length self.now.table.journal.entries ≡ length J.opening.entries + length self.now.publisher.makers }
     {
         // The two parts' own laws.
         self.table.is_kept();
@@ -77,7 +80,6 @@ impl<J: Naming, K: Sink> LockedState<J, K> {
 
     /// A change by a session. Whatever is answered, the session has then seen the table's journal as it is afterwards, or, at `NoCopy`,
     /// what it had seen.
-    #[tactic(auto, using(crate::proofs::Numbering::numbers))]
     pub(crate) fn submit<R: Wait>(
         &mut self,
         rt: &R,
@@ -91,17 +93,20 @@ impl<J: Naming, K: Sink> LockedState<J, K> {
             ⊎ (AnswersAct (model_of self.old.table) prepared.name prepared.act (change_reply result) (model_of self.new.table)
             × (session.new.journal ≡ self.new.table.journal)) }
         ensures numbered { IfOk result (λ number. (number ≡ position_of session.new.journal) × (position_of session.old.journal < number)) }
+        ensures signed { IsSigned J.opening session.old session.new (makers_told session.old.number (change_reply result)) }
         ensures accepted { OnOk result (session.new.accepted ≡ session.old.accepted + 1) }
         ensures refused { OnErr result (session.new.accepted ≡ session.old.accepted) }
     {
-        // What is published is the table's journal, which is lawful.
+        // What is published is the table's journal, which is lawful, and each change beyond the opening one has a maker.
         self.is_kept();
+        session.is_kept();
         if !session.is_covered(&self.publisher) {
             return Err(Refusal::NoCopy);
         }
         let maker = session.number();
         let answer = change(rt, &mut self.table, &mut self.publisher, prepared, maker);
         session.see(&self.publisher);
+        session.is_kept();
         if answer.is_ok() {
             // There are at most 65,536 entries, so the count has room.
             self.table.is_kept();
@@ -118,23 +123,28 @@ impl<J: Naming, K: Sink> LockedState<J, K> {
     }
 
     /// The answer to a change of a session that couldn't be prepared for want of memory. The session sees what is published.
+    #[tactic(auto, using(crate::proofs::Signing::signs_none, crate::proofs::Signing::signs_nothing))]
     pub(crate) fn lack_memory(&self, session: &mut Session<J>) -> Refusal
         ensures answered { (name : List ℕ) (act : ActValue) → HasNoCopy J.opening session.old session.new (refused (refusal_value result))
             ⊎ AnswersChange name act session.old session.new (refused (refusal_value result)) }
         ensures over { ((refusal_value result ≡ no_copy) × (position_of self.now.table.journal < position_of session.old.journal))
             ⊎ (refusal_value result ≡ out_of_memory) }
+        ensures signed { IsSigned J.opening session.old session.new [] }
         ensures accepted { session.new.accepted ≡ session.old.accepted }
     {
-        // What is published is the table's journal, which is lawful.
+        // What is published is the table's journal, which is lawful, and each change beyond the opening one has a maker.
         self.is_kept();
+        session.is_kept();
         if !session.is_covered(&self.publisher) {
             return Refusal::NoCopy;
         }
         session.see(&self.publisher);
+        session.is_kept();
         Refusal::OutOfMemory
     }
 
     /// The state of a name, for a session.
+    #[tactic(auto, using(crate::proofs::Signing::signs_none, crate::proofs::Signing::signs_nothing))]
     pub(crate) fn state(&self, session: &mut Session<J>, name: &Name) -> Result<Arc<Doc>, Refusal>
         ensures answered { MatchResult result
             (λ doc. AnswersRead name.now session.old session.new (state (arc_value doc)))
@@ -145,14 +155,17 @@ impl<J: Naming, K: Sink> LockedState<J, K> {
             (λ refusal. ((refusal_value refusal ≡ no_copy) × (position_of self.now.table.journal < position_of session.old.journal))
             ⊎ ((refused (refusal_value refusal) ≡ answer_of (open_model self.now.table.journal) (Read name.now))
             ⊎ ((refusal_value refusal ≡ out_of_memory) × (state_of (acts_of name.now self.now.table.journal) ≢ None)))) }
+        ensures signed { IsSigned J.opening session.old session.new [] }
         ensures accepted { session.new.accepted ≡ session.old.accepted }
     {
-        // What is published is the table's journal, which is lawful.
+        // What is published is the table's journal, which is lawful, and each change beyond the opening one has a maker.
         self.is_kept();
+        session.is_kept();
         if !session.is_covered(&self.publisher) {
             return Err(Refusal::NoCopy);
         }
         session.see(&self.publisher);
+        session.is_kept();
         self.table.state(name)
     }
 
@@ -172,8 +185,11 @@ impl<J: Naming, K: Sink> LockedState<J, K> {
     /// Whether the table's journal begins with what each session has seen. If not, some session has seen more.
     pub(crate) fn covers_all(&self, sessions: &[Session<J>]) -> bool
         ensures yes { result ≡ true → All (λ session. BeginsWith self.now.table.journal session.journal) sessions.now }
+        ensures signed { result ≡ true → AreSigned J.opening self.now.table.journal sessions.now }
         ensures no { result ≡ false → Any (IsAhead J.opening) sessions.now }
     {
+        // Each change of the table's journal beyond the opening one has a maker.
+        self.is_kept();
         for session in sessions {
             if !self.covers(session) {
                 return false;
@@ -184,7 +200,8 @@ impl<J: Naming, K: Sink> LockedState<J, K> {
 
     /// Whether the table's journal begins with what a session has seen. If not, the session has seen more.
     fn covers(&self, session: &Session<J>) -> bool
-        ensures yes { result ≡ true → BeginsWith self.now.table.journal session.now.journal }
+        ensures yes { result ≡ true → BeginsWith self.now.table.journal session.now.journal
+            × IsPrefix session.now.makers self.now.publisher.makers }
         ensures no { result ≡ false → IsAhead J.opening session.now }
         ensures lower { result ≡ false → position_of self.now.table.journal < position_of session.now.journal }
     {

@@ -1,6 +1,6 @@
 //! The sessions of a shared table.
 
-ghost use Rattle.std.specs.Prelude.{◌≡◌, ◌⊎◌, ◌+◌, ◌<◌, true, false, IfSome, IfNone, IfOk, OnOk, OnErr, MatchResult};
+ghost use Rattle.std.specs.Prelude.{◌≡◌, ◌⊎◌, ◌+◌, ◌<◌, [], length, true, false, IfSome, IfNone, IfOk, OnOk, OnErr, MatchResult};
 ghost use Rattle.std.specs.Arc.{arc_value};
 ghost use Rattle.tfs_rules.specs.History.{state_of};
 ghost use Rattle.tfs_records.specs.Journal.{position_of, acts_of};
@@ -9,6 +9,8 @@ ghost use Rattle.tfs_calls.specs.Reply.{state, refused};
 ghost use Rattle.tfs_table.specs.Lawful.{IsLawful};
 ghost use Rattle.tfs_table.specs.Table.{change_reply};
 ghost use Rattle.tfs_published.specs.Lookup.{IsLookup};
+ghost use mathlib.Core.List.{IsPrefix};
+ghost use Rattle.tfs_shared.specs.Signed.{IsSigned, makers_told};
 ghost use Rattle.tfs_shared.specs.Locked.{AnswersChange, AnswersRead, HasNoCopy};
 ghost use Rattle.tfs_published.specs.Beginning.{BeginsWith};
 
@@ -24,7 +26,8 @@ use tfs_rules::Name;
 use tfs_state::Doc;
 use tfs_table::{DeferredDrop, Prepared};
 
-/// A caller's own side of a shared table. Contracts see the journal that it has seen, and how many of its changes were accepted.
+/// A caller's own side of a shared table. Contracts see its number, the journal that it has seen and who made its changes, and how many
+/// of its own changes were accepted.
 #[derive(Drop)]
 pub struct Session<J: Naming> {
     number: u64,
@@ -39,7 +42,7 @@ impl<J: Naming> Model for Session<J> {
 
     ghost Value = { SessionView };
 
-    ghost view = { λ s. record { journal = s.reader.journal; accepted = s.accepted } };
+    ghost view = { λ s. record { number = s.number; journal = s.reader.journal; makers = s.reader.makers; accepted = s.accepted } };
 
     ghost invariant = { λ s. (s.share.parts ≡ 1) × (s.share.amount ≡ s.accepted) };
 }
@@ -49,7 +52,7 @@ impl<J: Naming> Session<J> {
     pub(crate) fn new(number: u64, reader: Reader<J>, share: Share<J>) -> Session<J>
         requires parts { share.parts ≡ 1 }
         requires amount { share.amount ≡ 0 }
-        ensures value { result ≡ record { journal = reader.journal; accepted = 0 } }
+        ensures value { result ≡ record { number = number; journal = reader.journal; makers = reader.makers; accepted = 0 } }
     {
         Session {
             number,
@@ -63,12 +66,15 @@ impl<J: Naming> Session<J> {
     pub fn is_kept(&self)
         ensures lawful { IsLawful self.now.journal }
         ensures begins { BeginsWith self.now.journal J.opening }
+        ensures counted { length self.now.journal.entries ≡ length J.opening.entries + length self.now.makers }
     {
         self.reader.is_kept();
     }
 
     /// Its number among the sessions of its table, from 0.
-    pub(crate) fn number(&self) -> u64 {
+    pub(crate) fn number(&self) -> u64
+        ensures value { result ≡ self.now.number }
+    {
         self.number
     }
 
@@ -100,6 +106,7 @@ impl<J: Naming> Session<J> {
         ensures answered { HasNoCopy J.opening self.old self.new (change_reply result)
             ⊎ AnswersChange name draft self.old self.new (change_reply result) }
         ensures numbered { IfOk result (λ number. (number ≡ position_of self.new.journal) × (position_of self.old.journal < number)) }
+        ensures signed { IsSigned J.opening self.old self.new (makers_told self.old.number (change_reply result)) }
         ensures accepted { OnOk result (self.new.accepted ≡ self.old.accepted + 1) }
         ensures refused { OnErr result (self.new.accepted ≡ self.old.accepted) }
     {
@@ -130,6 +137,7 @@ impl<J: Naming> Session<J> {
             (λ doc. AnswersRead name.now self.old self.new (state (arc_value doc)))
             (λ refusal. HasNoCopy J.opening self.old self.new (refused (refusal_value refusal))
             ⊎ AnswersRead name.now self.old self.new (refused (refusal_value refusal))) }
+        ensures signed { IsSigned J.opening self.old self.new [] }
         ensures accepted { self.new.accepted ≡ self.old.accepted }
     {
         let locked_state = shared.lock(rt);
@@ -140,7 +148,7 @@ impl<J: Naming> Session<J> {
 
     /// Whether what is published begins with what it has seen. If not, its position is lower.
     pub(crate) fn is_covered(&self, publisher: &Publisher<J>) -> bool
-        ensures yes { result ≡ true → BeginsWith publisher.now.journal self.now.journal }
+        ensures yes { result ≡ true → BeginsWith publisher.now.journal self.now.journal × IsPrefix self.now.makers publisher.now.makers }
         ensures no { result ≡ false → position_of publisher.now.journal < position_of self.now.journal }
     {
         publisher.covers(&self.reader)
@@ -148,8 +156,12 @@ impl<J: Naming> Session<J> {
 
     /// Has it see what is published.
     pub(crate) fn see(&mut self, publisher: &Publisher<J>)
-        ensures journal { self.new.journal ≡ publisher.now.journal }
-        ensures accepted { self.new.accepted ≡ self.old.accepted }
+        ensures value { self.new ≡ record {
+          number = self.old.number;
+          journal = publisher.now.journal;
+          makers = publisher.now.makers;
+          accepted = self.old.accepted;
+        } }
     {
         publisher.show(&mut self.reader);
     }
@@ -171,8 +183,12 @@ impl<J: Naming> Session<J> {
     /// Counts a change of its own, here and in the book of all.
     pub(crate) fn count(&mut self, book: &mut Book<J>)
         requires room { book.old.total < 65536 }
-        ensures journal { self.new.journal ≡ self.old.journal }
-        ensures accepted { self.new.accepted ≡ self.old.accepted + 1 }
+        ensures value { self.new ≡ record {
+          number = self.old.number;
+          journal = self.old.journal;
+          makers = self.old.makers;
+          accepted = self.old.accepted + 1;
+        } }
         ensures total { book.new.total ≡ book.old.total + 1 }
     {
         book.audit(&mut self.share);
@@ -182,14 +198,19 @@ impl<J: Naming> Session<J> {
 
     /// Looks a name up in a published copy that begins with all that the session has seen. Afterwards it has seen the journal
     /// that the copy stands for. There is nothing, and nothing changes, where no such copy is handed out. It waits for nobody.
+    #[tactic(auto, using(crate::proofs::Signing::signs_none, crate::proofs::Signing::signs_nothing))]
     pub(crate) fn look(&mut self, name: &Name) -> Option<Lookup>
         ensures found { IfSome result (λ lookup. IsLookup lookup (state_of (acts_of name.now self.new.journal))) }
         ensures later { BeginsWith self.new.journal self.old.journal }
+        ensures signed { IsSigned J.opening self.old self.new [] }
         ensures lawful { IsLawful self.new.journal }
         ensures kept { IfNone result (self.new ≡ self.old) }
         ensures accepted { self.new.accepted ≡ self.old.accepted }
     {
-        self.reader.look(name)
+        let lookup = self.reader.look(name);
+        // Each change beyond the opening journal has a maker.
+        self.reader.is_kept();
+        lookup
     }
 }
 

@@ -1,6 +1,7 @@
 //! The beginning of sharing.
 
-ghost use Rattle.std.specs.Prelude.{◌≡◌, ◌≤◌, length, replicate, IfOk, IfErr};
+ghost use Rattle.std.specs.Prelude.{◌≡◌, ◌≤◌, [], IfOk, IfErr};
+ghost use Rattle.tfs_shared.specs.View.{AreNew};
 
 use crate::locked_state::LockedState;
 use crate::session::Session;
@@ -44,7 +45,7 @@ pub fn share<J: Naming, K: Sink, R: Wait>(
     requires book { opened ≡ J.book }
     requires opening { table.journal ≡ J.opening }
     ensures shared { IfOk result (λ made. made.0 ≡ number) }
-    ensures sessions { IfOk result (λ made. made.1.items ≡ replicate number (record { journal = J.opening; accepted = 0 })) }
+    ensures sessions { IfOk result (λ made. AreNew J.opening number made.1.items) }
     ensures back { IfErr result (λ unshared. unshared.table ≡ table) }
 {
     let (book, all) = blank.open::<J>();
@@ -65,7 +66,8 @@ pub fn share<J: Naming, K: Sink, R: Wait>(
     }
 }
 
-/// As many new sessions as a share has parts.
+/// As many new sessions as a share has parts, numbered from 0.
+#[tactic(auto, using(crate::proofs::Signing::none_new, crate::proofs::Signing::one_new_more))]
 fn sessions_of<J: Naming>(
     alloc: Global,
     publisher: &Publisher<J>,
@@ -74,7 +76,8 @@ fn sessions_of<J: Naming>(
 ) -> Result<Vec<Session<J>>, Cause>
     requires parts { all.parts ≡ number }
     requires amount { all.amount ≡ 0 }
-    ensures value { IfOk result (λ sessions. sessions.items ≡ replicate number (record { journal = publisher.now.journal; accepted = 0 })) }
+    requires opening { (publisher.now.journal ≡ J.opening) × (publisher.now.makers ≡ []) }
+    ensures value { IfOk result (λ sessions. AreNew J.opening number sessions.items) }
 {
     let mut rest = all;
     let Ok(mut sessions) = Vec::with_capacity(alloc, number) else {

@@ -1,10 +1,11 @@
 -- The sessions so far are new, and what is left has the other parts.
-use Rattle.std.proofs.Common.{◌≡◌, ◌+◌, replicate}
+use Rattle.std.proofs.Common.{◌≡◌, ◌+◌}
+use Rattle.tfs_shared.specs.View.{AreNew}
 use Rattle.tfs_shared.proofs.sharing.sessions_of.Given as goal
 
 abbrev pub invariant-loop-made : goal.invariant-loop-made
 invariant-loop-made g l = record {
-  value : l.sessions.items ≡ replicate l.made (record { journal = l.publisher.journal; accepted = 0 });
+  value : AreNew g.J.Naming.opening l.made l.sessions.items;
   parts : l.rest.parts + l.made ≡ l.number;
   amount : l.rest.amount ≡ 0;
 }
