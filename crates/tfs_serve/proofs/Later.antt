@@ -1,5 +1,5 @@
 -- Sessions go on.
-use Rattle.std.proofs.Common.{◌≡◌, ℕ, arith, List, [], ◌∷◌, Option, Some, None, if◌then◌else◌, is_some}
+use Rattle.std.proofs.Common.{◌≡◌, ◌⊎◌, ℕ, arith, List, [], ◌∷◌, Option, Some, None, if◌then◌else◌, is_some}
 use Rattle.std.proofs.Common.{refl, sym, ap, subst, inl, inr}
 use Rattle.std.specs.Option.{option_map_or}
 use Rattle.tfs_rules.specs.Act.{ActValue}
@@ -13,7 +13,9 @@ use Rattle.tfs_calls.specs.Transition.{TableModel, Answers, act_refusal, journal
 use Rattle.tfs_published.specs.Beginning.{BeginsWith}
 use Rattle.tfs_shared.specs.View.{SessionView}
 use Rattle.tfs_published.proofs.Beginnings.{begins_with_itself, begins_with_earlier}
-use Rattle.tfs_serve.specs.Session.{SessionStep, IsLater}
+use Rattle.tfs_calls.specs.Refusal.{no_copy}
+use Rattle.tfs_calls.specs.Reply.{refused}
+use Rattle.tfs_serve.specs.Session.{LacksCopy, AnswersOver, SessionStep, IsLater}
 
 -- A session that stays has gone on.
 pub later_itself : (v : SessionView) → IsLater v v
@@ -57,12 +59,23 @@ begins_answered m n (Read name) reply (inr a) = absurd a
 begins_answered m n (Impact name query) reply (inr a) = absurd a
 begins_answered m n (Change name raw) reply (inr a) = begins_as m.journal n.journal (ap (λ (t : TableModel). t.journal) a.2.2)
 
+-- Where no copy is to be had, that is the reply, and nothing changes.
+pub lacks_copy : (opening : Journal) (old new : SessionView) (call : Call) (reply : ReplyValue) → LacksCopy opening old call reply new
+    → (reply ≡ refused no_copy) × (new ≡ old)
+lacks_copy opening old new (Read name) reply lacks = (lacks.answer, lacks.same)
+lacks_copy opening old new (Change name raw) reply lacks = (lacks.answer, lacks.same)
+lacks_copy opening old new (Impact name query) reply lacks = lacks
+
 -- A step of a session goes on.
-pub step_later : (old new : SessionView) (call : Call) (reply : ReplyValue) → SessionStep old call reply new → IsLater old new
-step_later old new call reply (inl a) = subst (λ (v : SessionView). IsLater old v) (sym a.1) (later_itself old)
-step_later old new call reply (inr a) = record {
-  seen = begins_with_earlier new.journal a.before.journal old.journal
-      (subst (λ (j : Journal). BeginsWith j a.before.journal) (sym a.seen) (begins_answered a.before a.after call reply a.answer))
-      a.fresh;
-  accepted = omega (arith, a.accepted);
-}
+pub step_later : (opening : Journal) (old new : SessionView) (call : Call) (reply : ReplyValue) → SessionStep opening old call reply new
+    → IsLater old new
+step_later opening old new call reply step = by step.1
+  where
+    by : LacksCopy opening old call reply new ⊎ AnswersOver old call reply new → IsLater old new
+    by (inl a) = subst (λ (v : SessionView). IsLater old v) (sym (lacks_copy opening old new call reply a).1) (later_itself old)
+    by (inr a) = record {
+      seen = begins_with_earlier new.journal a.before.journal old.journal
+          (subst (λ (j : Journal). BeginsWith j a.before.journal) (sym a.seen) (begins_answered a.before a.after call reply a.answer))
+          a.fresh;
+      accepted = omega (arith, a.accepted);
+    }

@@ -1,8 +1,12 @@
 pub mod Captures
+pub mod Following
 pub mod Later
 pub mod Reaching
 pub mod Replying
 pub mod Returning
+pub mod Running
 pub mod Standing
 pub mod Steps
+pub mod Telling
+pub mod Tallying
 pub mod Working

@@ -1,23 +1,67 @@
 -- Sessions that have made no calls.
-use Rattle.std.proofs.Common.{◌≡◌, ◌+◌, ◌<◌, ◌↔◌, ℕ, zero, suc, Bool, true, if◌then◌else◌, List, [], ◌∷◌, ◌++◌, length, get_or, sum_by, All, Any, refl, sym, ◌∙◌, ap, subst, arith, append-nil, length-append}
+use Rattle.std.proofs.Common.{◌≡◌, ◌+◌, ◌<◌, ◌↔◌, ℕ, zero, suc, nat_lt, Bool, true, false, if◌then◌else◌, List, [], ◌∷◌, ◌++◌, length, get_or, sum_by, All, Any, refl, sym, ◌∙◌, ap, subst, arith, append-nil, length-append}
+use Rattle.std.proofs.lemmas.Bool.Decides.{nat_tests}
 use Rattle.std.proofs.lemmas.List.{nil_from_length, length_push, get_or_append_left, get_or_push}
 use Rattle.std.proofs.lemmas.List.Sums.{sum_by-append}
 use Rattle.tfs_records.specs.Journal.{Journal, BaseValue, EntryValue, position_of}
 use Rattle.tfs_published.specs.Beginning.{BeginsWith}
-use Rattle.tfs_shared.specs.View.{SessionView}
+use Rattle.tfs_shared.specs.View.{SessionView, AreNew, new_session}
 use Rattle.tfs_shared.specs.Locked.{IsAhead}
 use Rattle.tfs_shared.specs.declared.gathering.Lack.{Lack}
 use Rattle.tfs_shared.specs.declared.gathering.Lack.TheVariants.{Missing, NoCopy}
 
--- A session that has seen a journal, and made no changes.
+-- A session of some number that has seen a journal, and made no changes.
 abbrev pub IsNew : Journal → SessionView → Type 0
-IsNew j s = s ≡ record { journal = j; accepted = 0 }
+IsNew j s = (number : ℕ) × (s ≡ new_session j number)
+
+-- New sessions are such sessions.
+pub all_new : (opening : Journal) (number : ℕ) (sessions : List SessionView) → AreNew opening number sessions → All (IsNew opening) sessions
+all_new opening number sessions new k d within = (k, new.each k d (omega (arith, within, new.many)))
+
+-- Without the last one they are new sessions too, and the last one has the last number.
+pub without_last : (opening : Journal) (number : ℕ) (sessions ys : List SessionView) (x : SessionView) → AreNew opening number sessions
+    → sessions ≡ ys ++ x ∷ [] → AreNew opening (length ys) ys × (x ≡ new_session opening (length ys)) × (number ≡ length ys + 1)
+without_last opening number sessions ys x new is = (
+  record {
+    many = refl;
+    each = λ k d within.
+        sym (get_or_append_left ys (x ∷ []) d k within) ∙ (ap (λ (l : List SessionView). get_or l k d) (sym is)
+        ∙ new.each k d (omega (arith, within, all)));
+  },
+  sym (get_or_push ys x x (length ys) refl) ∙ (ap (λ (l : List SessionView). get_or l (length ys) x) (sym is)
+      ∙ new.each (length ys) x (omega (arith, all))),
+  all,
+)
+  where
+    all : number ≡ length ys + 1
+    all = sym new.many ∙ ap length is ∙ length_push ys x
+
+-- What has sessions that are new, with the last number first.
+abbrev pub HaveNumbers : {W : Type 0} → (W → SessionView) → Journal → ℕ → List W → Type 0
+HaveNumbers {W} session opening all ws = (i : ℕ) (d : W) → i < length ws
+    → (number : ℕ) × (number + i + 1 ≡ all) × (session (get_or ws i d) ≡ new_session opening number)
+
+-- One more of these.
+pub numbers_more : {W : Type 0} (session : W → SessionView) (opening : Journal) (all : ℕ) (ws : List W) (w : W) (number : ℕ)
+    → HaveNumbers session opening all ws → session w ≡ new_session opening number → number + length ws + 1 ≡ all
+    → HaveNumbers session opening all (ws ++ w ∷ [])
+numbers_more session opening all ws w number have one next i d within = by (nat_lt i (length ws)) refl
+  where
+    by : (t : Bool) → nat_lt i (length ws) ≡ t
+        → (n : ℕ) × (n + i + 1 ≡ all) × (session (get_or (ws ++ w ∷ []) i d) ≡ new_session opening n)
+    by true e =
+        let inside : i < length ws = grind (arith, nat_tests, e) in
+        let is = have i d inside in
+        (is.0, is.1, ap session (get_or_append_left ws (w ∷ []) d i inside) ∙ is.2)
+    by false e =
+        let at : length ws ≡ i = grind (arith, nat_tests, e, within, length_push ws w) in
+        (number, omega (arith, at, next), ap session (get_or_push ws w d i at) ∙ one)
 
 -- New sessions have no accepted changes.
 none_accepted : (j : Journal) (sessions : List SessionView) → All (IsNew j) sessions → sum_by (λ (s : SessionView). s.accepted) sessions ≡ 0
 none_accepted j [] new = refl
 none_accepted j (s ∷ rest) new =
-    let first = ap (λ (v : SessionView). v.accepted) (new 0 s (omega arith)) in
+    let first = ap (λ (v : SessionView). v.accepted) (new 0 s (omega arith)).1 in
     let others = none_accepted j rest (λ k d within. new (suc k) d (omega (arith, within))) in
     let parts = sum_by-append (λ (v : SessionView). v.accepted) (s ∷ []) rest in
     omega (arith, first, others, parts)
@@ -43,7 +87,7 @@ pub no_strangers : (opening : Journal) (sessions : List SessionView) (number : �
 no_strangers opening sessions number Missing all new missing ahead = let fewer = missing.0 refl in omega (arith, fewer, all)
 no_strangers opening sessions number NoCopy all new missing ahead =
     let one = ahead refl in
-    let is = sym one.3 ∙ new one.0 one.1 one.2 in
+    let is = sym one.3 ∙ (new one.0 one.1 one.2).1 in
     let seen = ap (λ (v : SessionView). position_of v.journal) is in
     let base = ap (λ (b : BaseValue). b.position) one.4.begins.base in
     let entries = ap length one.4.begins.entries.1 in
@@ -54,13 +98,3 @@ no_strangers opening sessions number NoCopy all new missing ahead =
 pub pushed : {X R : Type 0} (result : R) (ok : R → Bool) (items xs : List X) (x : X) → items ≡ (if ok result then xs ++ x ∷ [] else xs)
     → ok result ≡ true → items ≡ xs ++ x ∷ []
 pushed result ok items xs x is well = is ∙ ap (λ (b : Bool). if b then xs ++ x ∷ [] else xs) well
-
--- What holds of each element holds of those that stay and of the one that was popped.
-pub popped : {X : Type 0} (P : X → Type 0) (xs ys : List X) (x : X) → xs ≡ ys ++ x ∷ [] → All P xs → All P ys × P x
-popped P xs ys x is all = (
-  λ k d within. subst P (get_or_append_left ys (x ∷ []) d k within) (whole k d (omega (arith, within, length_push ys x))),
-  subst P (get_or_push ys x x (length ys) refl) (whole (length ys) x (omega (arith, length_push ys x))),
-)
-  where
-    whole : All P (ys ++ x ∷ [])
-    whole = subst (All P) is all

@@ -4,6 +4,7 @@ use Rattle.std.specs.List.{flat_map}
 use Rattle.std.proofs.lemmas.Grind.{flat_map-append}
 use Rattle.tfs_calls.specs.declared.call.Call.{Call}
 use Rattle.tfs_calls.specs.Reply.{ReplyValue}
+use Rattle.tfs_records.specs.Journal.{Journal}
 use Rattle.tfs_shared.specs.View.{SessionView}
 use Rattle.tfs_serve.specs.Gate.{Event, asked, before, after, Hears}
 use Rattle.tfs_serve.specs.Session.{SessionStep}
@@ -25,44 +26,45 @@ heard_as : (a b : Option (List Event)) (xs ys : List Event) → xs ≡ ys → He
 heard_as a b xs ys is h = subst (Hears a b) is h
 
 -- Answers, and more of them.
-pub gives_then : (a b c : SessionView) (xs ys : List Answer) → Gives a xs b → Gives b ys c → Gives a (xs ++ ys) c
-gives_then a b c [] ys p q = subst (λ (v : SessionView). Gives v ys c) p q
-gives_then a b c (x ∷ xs) ys p q = (p.0, p.1, gives_then p.0 b c xs ys p.2 q)
+pub gives_then : (o : Journal) (a b c : SessionView) (xs ys : List Answer) → Gives o a xs b → Gives o b ys c → Gives o a (xs ++ ys) c
+gives_then o a b c [] ys p q = subst (λ (v : SessionView). Gives o v ys c) p q
+gives_then o a b c (x ∷ xs) ys p q = (p.0, p.1, gives_then o p.0 b c xs ys p.2 q)
 
 -- Connections, and one more.
-gives_on_then : (a b c : SessionView) (connections : List (List Answer)) (answers : List Answer) → GivesOn a connections b → Gives b answers c
-    → GivesOn a (connections ++ answers ∷ []) c
-gives_on_then a b c [] answers p q = (c, subst (λ (v : SessionView). Gives v answers c) p q, refl)
-gives_on_then a b c (x ∷ xs) answers p q = (p.0, p.1, gives_on_then p.0 b c xs answers p.2 q)
+gives_on_then : (o : Journal) (a b c : SessionView) (connections : List (List Answer)) (answers : List Answer) → GivesOn o a connections b
+    → Gives o b answers c → GivesOn o a (connections ++ answers ∷ []) c
+gives_on_then o a b c [] answers p q = (c, subst (λ (v : SessionView). Gives o v answers c) p q, refl)
+gives_on_then o a b c (x ∷ xs) answers p q = (p.0, p.1, gives_on_then o p.0 b c xs answers p.2 q)
 
 -- No call was answered.
-pub answered_nothing : (t : Option (List Event)) (s : SessionView) → HasAnswered t t s s
-answered_nothing t s = record { answers = []; heard = hears_nothing t; gives = refl }
+pub answered_nothing : (o : Journal) (t : Option (List Event)) (s : SessionView) → HasAnswered o t t s s
+answered_nothing o t s = record { answers = []; heard = hears_nothing t; gives = refl }
 
 -- Calls were answered, and more of them.
-pub answered_then : (t u v : Option (List Event)) (a b c : SessionView) → HasAnswered t u a b → HasAnswered u v b c → HasAnswered t v a c
-answered_then t u v a b c p q = record {
+pub answered_then : (o : Journal) (t u v : Option (List Event)) (a b c : SessionView) → HasAnswered o t u a b → HasAnswered o u v b c
+    → HasAnswered o t v a c
+answered_then o t u v a b c p q = record {
   answers = p.answers ++ q.answers;
   heard = heard_as t v _ _ (sym (flat_map-append heard_of p.answers q.answers)) (hears_then t u v _ _ p.heard q.heard);
-  gives = gives_then a b c p.answers q.answers p.gives q.gives;
+  gives = gives_then o a b c p.answers q.answers p.gives q.gives;
 }
 
 -- One call was answered.
-pub answered_one : (t u : Option (List Event)) (a b : SessionView) (call : Call) (reply : ReplyValue) → SessionStep a call reply b
-    → Hears t u (before call ∷ after reply ∷ []) → HasAnswered t u a b
-answered_one t u a b call reply step heard = record {
+pub answered_one : (o : Journal) (t u : Option (List Event)) (a b : SessionView) (call : Call) (reply : ReplyValue)
+    → SessionStep o a call reply b → Hears t u (before call ∷ after reply ∷ []) → HasAnswered o t u a b
+answered_one o t u a b call reply step heard = record {
   answers = record { call = call; reply = reply } ∷ [];
   heard = heard;
   gives = (b, step, refl);
 }
 
 -- One more connection was admitted, and calls were answered on it.
-pub worked_on : (t u v w : Option (List Event)) (a b c : SessionView) → HasWorked t u a b [] → Hears u v (asked true ∷ [])
-    → HasAnswered v w b c → HasWorked t w a c []
-worked_on t u v w a b c p admitted q = record {
+pub worked_on : (o : Journal) (t u v w : Option (List Event)) (a b c : SessionView) → HasWorked o t u a b [] → Hears u v (asked true ∷ [])
+    → HasAnswered o v w b c → HasWorked o t w a c []
+worked_on o t u v w a b c p admitted q = record {
   connections = p.connections ++ q.answers ∷ [];
   heard = heard_as t w _ _ parts (hears_then t v w _ _ (hears_then t u v _ _ p.heard admitted) q.heard);
-  gives = gives_on_then a b c p.connections q.answers p.gives q.gives;
+  gives = gives_on_then o a b c p.connections q.answers p.gives q.gives;
 }
   where
     earlier : List Event
@@ -80,5 +82,6 @@ worked_on t u v w a b c p admitted q = record {
         ∙ sym (append-nil (flat_map heard_of_connection (p.connections ++ q.answers ∷ [])))
 
 -- One more connection was admitted that wasn't taken.
-pub worked_without : (t u v : Option (List Event)) (a b : SessionView) → HasWorked t u a b [] → Hears u v (asked true ∷ []) → HasWorked t v a b []
-worked_without t u v a b p admitted = worked_on t u v v a b b p admitted (answered_nothing v b)
+pub worked_without : (o : Journal) (t u v : Option (List Event)) (a b : SessionView) → HasWorked o t u a b [] → Hears u v (asked true ∷ [])
+    → HasWorked o t v a b []
+worked_without o t u v a b p admitted = worked_on o t u v v a b b p admitted (answered_nothing o v b)

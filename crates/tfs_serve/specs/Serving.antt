@@ -1,14 +1,15 @@
 -- What a worker's replies are over the journal that a run leaves.
-use Rattle.std.specs.Prelude.{◌≡◌, ◌⊎◌, ℕ, Bool, List, [], ◌∷◌, ◌++◌, flat_map, sum_by, Option}
+use Rattle.std.specs.Prelude.{◌≡◌, ◌⊎◌, ◌+◌, ◌<◌, ℕ, Bool, List, [], ◌∷◌, ◌++◌, length, get_or, flat_map, sum_by, Option}
 use Rattle.tfs_records.specs.Journal.{Journal, position_of}
-use Rattle.tfs_calls.specs.Refusal.{no_copy}
+use Rattle.tfs_calls.specs.Refusal.{no_copy, out_of_memory}
 use Rattle.tfs_calls.specs.Reply.{refused}
 use Rattle.tfs_calls.specs.Transition.{TableModel, Answers}
 use Rattle.tfs_table.specs.Lawful.{IsLawful}
 use Rattle.tfs_published.specs.Beginning.{BeginsWith}
 use Rattle.tfs_serve.specs.Gate.{Event, Hears}
-use Rattle.tfs_serve.specs.Session.{accepted_by}
+use Rattle.tfs_serve.specs.Session.{MayLackMemory, accepted_by}
 use Rattle.tfs_serve.specs.Standing.{AcceptedStand}
+use Rattle.tfs_serve.specs.Told.{positions_told, AreToldOnce}
 use Rattle.tfs_serve.specs.Working.{Answer, heard_of_connection, end_of_work}
 
 -- The reply is the transition of a table over a lawful beginning of the last journal, which begins with all that had been seen. What
@@ -18,6 +19,7 @@ pub record RepliesOver (last seen : Journal) (a : Answer) (next : Journal) : Typ
   pub after : TableModel
   pub fresh : BeginsWith before.journal seen
   pub answer : Answers before a.call a.reply after
+  pub memory : a.reply ≡ refused out_of_memory → MayLackMemory before.journal a.call
   pub leaves : after.journal ≡ next
   pub stood : BeginsWith last before.journal
   pub stands : BeginsWith last next
@@ -41,15 +43,35 @@ accepted_in = sum_by (λ a. accepted_by a.reply)
 abbrev pub answers_on : List (List Answer) → List Answer
 answers_on = flat_map (λ answers. answers)
 
--- A worker of a run from an opening journal to a last one. Its gate has heard of the connections that it was asked for and of each call
--- and reply on them, in order, and of nothing else. The replies are those in turn from the opening journal, and each change that one of
--- them tells as accepted stands in the last journal at the position that it tells; `seen` is the position that they had seen at the end,
--- and `accepted` counts the changes that they tell as accepted.
-pub record IsServed (opening last : Journal) (told now : Option (List Event)) (failed : Bool) (seen accepted : ℕ) : Type 0 where
-  pub connections : List (List Answer)
-  pub heard : Hears told now (flat_map heard_of_connection connections ++ end_of_work failed)
-  pub view : Journal
-  pub replies : RepliesInTurn last opening (answers_on connections) view
-  pub stand : AcceptedStand last (answers_on connections)
-  pub seen_is : seen ≡ position_of view
-  pub accepted_is : accepted ≡ accepted_in (answers_on connections)
+-- What a run leaves of a worker: what its gate was told, whether the listener gave it no connection, the position of what it has seen, and
+-- how many changes it told as accepted.
+pub record ServedView : Type 0 where
+  pub told : Option (List Event)
+  pub failed : Bool
+  pub seen : ℕ
+  pub accepted : ℕ
+
+-- A worker of a run from an opening journal to a last one, which answered on these connections. Its gate has heard of the connections that
+-- it was asked for and of each call and reply on them, in order, and of nothing else. The replies are those in turn from the opening
+-- journal, and each change that one of them tells as accepted stands in the last journal at the position that it tells.
+pub record IsServed (opening last : Journal) (connections : List (List Answer)) (told : Option (List Event)) (served : ServedView) : Type 0
+  where
+    pub heard : Hears told served.told (flat_map heard_of_connection connections ++ end_of_work served.failed)
+    pub view : Journal
+    pub replies : RepliesInTurn last opening (answers_on connections) view
+    pub stand : AcceptedStand last (answers_on connections)
+    pub seen_is : served.seen ≡ position_of view
+    pub accepted_is : served.accepted ≡ accepted_in (answers_on connections)
+
+-- A run from an opening journal to a last one, with a worker for each gate, by what the gates were told before. The last journal is lawful
+-- and begins with the opening one. Each worker has served on its connections. The entries beyond the opening ones are as many as changes
+-- were told as accepted, and the position of each is told by one reply of all.
+pub record IsRun (opening last : Journal) (told : List (Option (List Event))) (served : List ServedView) : Type 0 where
+  pub lawful : IsLawful last
+  pub begins : BeginsWith last opening
+  pub connections : List (List (List Answer))
+  pub each : (length connections ≡ length told) × (length served ≡ length told)
+  pub workers : (i : ℕ) (t : Option (List Event)) (s : ServedView) → i < length told
+      → IsServed opening last (get_or connections i []) (get_or told i t) (get_or served i s)
+  pub grows : length last.entries ≡ length opening.entries + sum_by (λ (s : ServedView). s.accepted) served
+  pub once : AreToldOnce opening last (flat_map (λ (answers : List (List Answer)). positions_told (answers_on answers)) connections)

@@ -2,6 +2,7 @@
 use Rattle.std.specs.Prelude.{◌≡◌, Bool, true, false, List, [], ◌∷◌, ◌++◌, flat_map, Option, if◌then◌else◌}
 use Rattle.tfs_calls.specs.declared.call.Call.{Call}
 use Rattle.tfs_calls.specs.Reply.{ReplyValue}
+use Rattle.tfs_records.specs.Journal.{Journal}
 use Rattle.tfs_shared.specs.View.{SessionView}
 use Rattle.tfs_serve.specs.Gate.{Event, asked, before, after, Hears}
 use Rattle.tfs_serve.specs.Session.{SessionStep}
@@ -19,28 +20,29 @@ heard_of a = before a.call ∷ after a.reply ∷ []
 abbrev pub heard_of_connection : List Answer → List Event
 heard_of_connection answers = asked true ∷ flat_map heard_of answers
 
--- A session gives answers in turn, each by a step, and nothing else becomes of it.
-abbrev pub Gives : SessionView → List Answer → SessionView → Type 0
-Gives old [] new = new ≡ old
-Gives old (a ∷ more) new = (between : SessionView) × SessionStep old a.call a.reply between × Gives between more new
+-- A session of a table with an opening journal gives answers in turn, each by a step, and nothing else becomes of it.
+abbrev pub Gives : Journal → SessionView → List Answer → SessionView → Type 0
+Gives opening old [] new = new ≡ old
+Gives opening old (a ∷ more) new = (between : SessionView) × SessionStep opening old a.call a.reply between × Gives opening between more new
 
 -- The same on one connection after another.
-abbrev pub GivesOn : SessionView → List (List Answer) → SessionView → Type 0
-GivesOn old [] new = new ≡ old
-GivesOn old (answers ∷ connections) new = (between : SessionView) × Gives old answers between × GivesOn between connections new
+abbrev pub GivesOn : Journal → SessionView → List (List Answer) → SessionView → Type 0
+GivesOn opening old [] new = new ≡ old
+GivesOn opening old (answers ∷ connections) new =
+    (between : SessionView) × Gives opening old answers between × GivesOn opening between connections new
 
 -- A session has answered calls, of all of which the gate has heard, and of nothing else.
-pub record HasAnswered (told now : Option (List Event)) (old new : SessionView) : Type 0 where
+pub record HasAnswered (opening : Journal) (told now : Option (List Event)) (old new : SessionView) : Type 0 where
   pub answers : List Answer
   pub heard : Hears told now (flat_map heard_of answers)
-  pub gives : Gives old answers new
+  pub gives : Gives opening old answers new
 
 -- A session has worked: on each connection that the gate admitted, one after another, it has answered calls. The gate has heard of all
 -- of that, then of this end, and of nothing else.
-pub record HasWorked (told now : Option (List Event)) (old new : SessionView) (end : List Event) : Type 0 where
+pub record HasWorked (opening : Journal) (told now : Option (List Event)) (old new : SessionView) (end : List Event) : Type 0 where
   pub connections : List (List Answer)
   pub heard : Hears told now (flat_map heard_of_connection connections ++ end)
-  pub gives : GivesOn old connections new
+  pub gives : GivesOn opening old connections new
 
 -- The last that a gate hears: its no, where the listener has not failed.
 abbrev pub end_of_work : Bool → List Event

@@ -1,8 +1,10 @@
 //! Laws of replies over the journal that a run leaves.
 
-ghost use Rattle.std.specs.Prelude.{List};
+ghost use Rattle.std.specs.Prelude.{List, Option, flat_map};
 ghost use Rattle.tfs_records.specs.Journal.{Journal};
-ghost use Rattle.tfs_serve.specs.Serving.{RepliesInTurn};
+ghost use Rattle.tfs_serve.specs.Following.{FollowOneJournal};
+ghost use Rattle.tfs_serve.specs.Gate.{Event};
+ghost use Rattle.tfs_serve.specs.Serving.{RepliesInTurn, ServedView, IsRun, answers_on};
 ghost use Rattle.tfs_serve.specs.Standing.{AcceptedStand};
 ghost use Rattle.tfs_serve.specs.Working.{Answer};
 
@@ -11,4 +13,12 @@ ghost use Rattle.tfs_serve.specs.Working.{Answer};
 #[tactic(auto, using(crate::proofs::Standing::accepted_stand))]
 pub fn accepted_changes_stand_in_the_last_journal()
     ensures stand { (last seen end : Journal) (answers : List Answer) → RepliesInTurn last seen answers end → AcceptedStand last answers }
+{}
+
+/// All replies of a run follow one lawful journal, which the run leaves: each, other than `NoCopy`, is the model's answer over a lawful
+/// beginning of it; each accepted change stands in it at the position that was told; and each position beyond the opening one was told by
+/// exactly one reply.
+pub fn all_replies_follow_one_journal()
+    ensures follow { (opening last : Journal) (told : List (Option (List Event))) (served : List ServedView)
+        → (run : IsRun opening last told served) → FollowOneJournal opening last (flat_map answers_on run.connections) }
 {}

@@ -15,7 +15,7 @@ pub use accepting::{AcceptError, AcceptFault, PAUSE_MILLISECONDS, Remedy, remedy
 pub use connection::{MAX_REQUEST_SECONDS, MAX_WAIT_SECONDS};
 pub use gate::{Gate, Open};
 pub use gated::Gated;
-pub use laws::accepted_changes_stand_in_the_last_journal;
+pub use laws::{accepted_changes_stand_in_the_last_journal, all_replies_follow_one_journal};
 pub use run::{Obstacle, Run, Served, Unserved, serve};
 pub use serving::work;
 pub use session_desk::{MAX_BYTES_AT_ONCE, Service, SessionDesk};

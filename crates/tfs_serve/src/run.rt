@@ -1,10 +1,10 @@
 //! A whole run: a table is shared, served on connections, and gathered.
 
-ghost use Rattle.std.specs.Prelude.{◌≡◌, ◌≢◌, ◌+◌, ◌≤◌, ◌<◌, ℕ, [], All, length, map, sum_by, slice_index_or, vec_capacity, IfOk, IfErr};
+ghost use Rattle.std.specs.Prelude.{◌≡◌, ◌≢◌, ◌+◌, ◌≤◌, ◌<◌, ℕ, [], length, map, slice_index_or, vec_capacity, IfOk, IfErr};
 ghost use Rattle.tfs_records.specs.Journal.{position_of};
-ghost use Rattle.tfs_table.specs.Lawful.{IsLawful};
 ghost use Rattle.tfs_published.specs.Beginning.{BeginsWith};
-ghost use Rattle.tfs_serve.specs.Serving.{IsServed};
+ghost use Rattle.tfs_shared.specs.View.{AreNew, new_session};
+ghost use Rattle.tfs_serve.specs.Serving.{IsRun};
 ghost use Rattle.tfs_serve.specs.Working.{HasWorked, end_of_work};
 ghost use Rattle.tfs_serve.specs.declared.run.Obstacle.TheVariants.{NoCopy};
 
@@ -67,10 +67,31 @@ struct Room<J: Naming, G: Gate> {
     served: Vec<Served<G>>,
 }
 
+/// What a run is asked for: the gates of its workers, and a listener.
+#[derive(Drop)]
+struct Asked<G: Gate, F: Drop> {
+    gates: Vec<G>,
+    listen: F,
+}
+
+/// What the history and the ledger of a run are made of.
+struct Blanks {
+    blank: Blank,
+    opened: Opened,
+}
+
+/// Who is to work: a gate and a session for each worker, and room for the workers.
+#[derive(Drop)]
+struct Crew<J: Naming, G: Gate> {
+    gates: Vec<G>,
+    sessions: Vec<Session<J>>,
+    room: Room<J, G>,
+}
+
 /// Shares the table among one worker for each gate, then listens, and has the workers answer connections until each has ended. Then it
 /// gives the table back: its journal is lawful, begins with the one before, and has one entry more for each change that a reply told
-/// as accepted. Each worker's replies are the transition of the model, each over a beginning of that journal with all that the worker
-/// had seen before.
+/// as accepted, at the position that this reply told and no other. Each worker's replies are the transition of the model, each over a
+/// beginning of that journal with all that the worker had seen before.
 pub fn serve<
     L: OpenListener<Stream = TcpStream> + Sync + Drop,
     K: Sink + Send + Drop,
@@ -87,19 +108,20 @@ pub fn serve<
 ) -> Result<Run<K, G, L>, Unserved<K, E>>
     requires number { (1 ≤ length gates.items) × (length gates.items ≤ 16) }
     requires callable { F.IsAlwaysCallable listen }
-    ensures lawful { IfOk result (λ run. IsLawful run.table.journal) }
-    ensures begins { IfOk result (λ run. BeginsWith run.table.journal table.journal) }
-    ensures served { IfOk result (λ run. (i : ℕ) (d e : _) → i < length gates.items
-        → IsServed table.journal run.table.journal (G.told (slice_index_or gates.items i d)) (G.told (slice_index_or run.served.items i e).gate)
-        (slice_index_or run.served.items i e).failed (slice_index_or run.served.items i e).seen (slice_index_or run.served.items i e).accepted) }
-    ensures each { IfOk result (λ run. length run.served.items ≡ length gates.items) }
-    ensures grows { IfOk result (λ run. length run.table.journal.entries
-        ≡ length table.journal.entries + sum_by (λ served. served.accepted) run.served.items) }
+    ensures run { IfOk result (λ run. IsRun table.journal run.table.journal (map G.told gates.items) (map (λ served. record {
+      told = G.told served.gate;
+      failed = served.failed;
+      seen = served.seen;
+      accepted = served.accepted;
+    }) run.served.items)) }
     ensures kept { IfErr result (λ unserved. BeginsWith unserved.table.journal table.journal) }
     ensures back { IfErr result (λ unserved. unserved.why ≢ NoCopy → unserved.table.journal ≡ table.journal) }
 {
     let blank = Blank::new(gates.len() as u64);
-    serve_named::<Brand, L, K, G, E, F, R>(rt, alloc, table, gates, listen, blank, Opened::new())
+    let opened = Opened::new();
+    let asked = Asked { gates, listen };
+    let blanks = Blanks { blank, opened };
+    serve_named::<Brand, L, K, G, E, F, R>(rt, alloc, table, asked, blanks)
 }
 
 /// A run over the history and the ledger that `J` names.
@@ -115,28 +137,24 @@ fn serve_named<
     rt: &R,
     alloc: Global,
     table: Table<K>,
-    gates: Vec<G>,
-    listen: F,
-    blank: Blank,
-    opened: Opened,
+    asked: Asked<G, F>,
+    blanks: Blanks,
 ) -> Result<Run<K, G, L>, Unserved<K, E>>
-    requires number { (1 ≤ length gates.items) × (length gates.items ≤ 16) }
-    requires callable { F.IsAlwaysCallable listen }
-    requires sessions { (length gates.items ≡ J.sessions) × (J.parts ≡ J.sessions) }
-    requires ledger { (blank.name ≡ J.name) × (blank.parts ≡ J.parts) }
-    requires book { opened ≡ J.book }
-    requires opening { table.journal ≡ J.opening }
-    ensures lawful { IfOk result (λ run. IsLawful run.table.journal) }
-    ensures begins { IfOk result (λ run. BeginsWith run.table.journal J.opening) }
-    ensures served { IfOk result (λ run. (i : ℕ) (d e : _) → i < length gates.items
-        → IsServed J.opening run.table.journal (G.told (slice_index_or gates.items i d)) (G.told (slice_index_or run.served.items i e).gate)
-        (slice_index_or run.served.items i e).failed (slice_index_or run.served.items i e).seen (slice_index_or run.served.items i e).accepted) }
-    ensures each { IfOk result (λ run. length run.served.items ≡ length gates.items) }
-    ensures grows { IfOk result (λ run. length run.table.journal.entries
-        ≡ length J.opening.entries + sum_by (λ served. served.accepted) run.served.items) }
+    requires number { (1 ≤ length asked.gates.items) × (length asked.gates.items ≤ 16) }
+    requires callable { F.IsAlwaysCallable asked.listen }
+    requires named { (length asked.gates.items ≡ J.sessions) × (J.parts ≡ J.sessions) × (blanks.blank.name ≡ J.name)
+        × (blanks.blank.parts ≡ J.parts) × (blanks.opened ≡ J.book) × (table.journal ≡ J.opening) }
+    ensures run { IfOk result (λ run. IsRun J.opening run.table.journal (map G.told asked.gates.items) (map (λ served. record {
+      told = G.told served.gate;
+      failed = served.failed;
+      seen = served.seen;
+      accepted = served.accepted;
+    }) run.served.items)) }
     ensures kept { IfErr result (λ unserved. BeginsWith unserved.table.journal J.opening) }
     ensures back { IfErr result (λ unserved. unserved.why ≢ NoCopy → unserved.table.journal ≡ J.opening) }
 {
+    let Asked { gates, listen } = asked;
+    let Blanks { blank, opened } = blanks;
     let number = gates.len();
     let (shared, sessions) = match share::<J, K, R>(rt, alloc, table, number, blank, opened) {
         Ok(made) => made,
@@ -159,7 +177,12 @@ fn serve_named<
             return Err(Unserved { table, why });
         }
     };
-    match attend(rt, alloc, shared, sessions, gates, room, listener) {
+    let crew = Crew {
+        gates,
+        sessions,
+        room,
+    };
+    match attend(rt, alloc, shared, crew, listener) {
         Ok(run) => Ok(run),
         Err(table) => {
             let why = Obstacle::NoCopy;
@@ -180,28 +203,27 @@ fn attend<
     rt: &R,
     alloc: Global,
     shared: Shared<J, K>,
-    sessions: Vec<Session<J>>,
-    gates: Vec<G>,
-    room: Room<J, G>,
+    crew: Crew<J, G>,
     listener: L,
 ) -> Result<Run<K, G, L>, Table<K>>
-    requires parts { J.parts ≡ J.sessions }
-    requires some { 1 ≤ J.sessions }
-    requires whole { (length sessions.items ≡ J.sessions) × (length gates.items ≡ J.sessions) }
-    requires new { All (λ session. session ≡ record { journal = J.opening; accepted = 0 }) sessions.items }
-    requires workers { (room.workers.items ≡ []) × (length gates.items ≤ vec_capacity room.workers) }
-    requires room { (room.sessions.items ≡ []) × (length gates.items ≤ vec_capacity room.sessions) }
-    requires ends { (room.served.items ≡ []) × (length gates.items ≤ vec_capacity room.served) }
-    ensures lawful { IfOk result (λ run. IsLawful run.table.journal) }
-    ensures begins { IfOk result (λ run. BeginsWith run.table.journal J.opening) }
-    ensures served { IfOk result (λ run. (i : ℕ) (d e : _) → i < length gates.items
-        → IsServed J.opening run.table.journal (G.told (slice_index_or gates.items i d)) (G.told (slice_index_or run.served.items i e).gate)
-        (slice_index_or run.served.items i e).failed (slice_index_or run.served.items i e).seen (slice_index_or run.served.items i e).accepted) }
-    ensures each { IfOk result (λ run. length run.served.items ≡ length gates.items) }
-    ensures grows { IfOk result (λ run. length run.table.journal.entries
-        ≡ length J.opening.entries + sum_by (λ served. served.accepted) run.served.items) }
+    requires some { 1 ≤ length crew.gates.items }
+    requires new { AreNew J.opening (length crew.gates.items) crew.sessions.items }
+    requires empty { (crew.room.workers.items ≡ []) × (crew.room.sessions.items ≡ []) × (crew.room.served.items ≡ []) }
+    requires room { (length crew.gates.items ≤ vec_capacity crew.room.workers) × (length crew.gates.items ≤ vec_capacity crew.room.sessions)
+        × (length crew.gates.items ≤ vec_capacity crew.room.served) }
+    ensures run { IfOk result (λ run. IsRun J.opening run.table.journal (map G.told crew.gates.items) (map (λ served. record {
+      told = G.told served.gate;
+      failed = served.failed;
+      seen = served.seen;
+      accepted = served.accepted;
+    }) run.served.items)) }
     ensures kept { IfErr result (λ table. BeginsWith table.journal J.opening) }
 {
+    let Crew {
+        gates,
+        sessions,
+        room,
+    } = crew;
     let Room {
         workers,
         sessions: room,
@@ -212,7 +234,8 @@ fn attend<
     let (sessions, served) = parted(workers, room, served);
     match gather(rt, shared, sessions) {
         Ok(table) => {
-            table.len();
+            // The journal is lawful.
+            table.is_kept();
             Ok(Run {
                 table,
                 served,
@@ -246,10 +269,7 @@ fn taken_back<J: Naming, K: Sink, R: Wait>(
     shared: Shared<J, K>,
     sessions: Vec<Session<J>>,
 ) -> Table<K>
-    requires parts { J.parts ≡ J.sessions }
-    requires some { 1 ≤ J.sessions }
-    requires whole { length sessions.items ≡ J.sessions }
-    requires new { All (λ session. session ≡ record { journal = J.opening; accepted = 0 }) sessions.items }
+    requires new { AreNew J.opening J.sessions sessions.items }
     ensures journal { result.journal ≡ J.opening }
 {
     match gather(rt, shared, sessions) {
@@ -273,17 +293,17 @@ impl<J: Naming, G: Gate + Drop> Room<J, G> {
     }
 }
 
-/// A worker for each gate, over sessions that have made no calls.
+/// A worker for each gate, over sessions that have made no calls: the last of them first.
 fn filled<J: Naming, G: Gate + Drop>(
     room: Vec<Worker<J, G>>,
     gates: Vec<G>,
     sessions: Vec<Session<J>>,
 ) -> Vec<Worker<J, G>>
     requires room { (room.items ≡ []) × (length gates.items ≤ vec_capacity room) }
-    requires as_many { length sessions.items ≡ length gates.items }
-    requires new { All (λ session. session ≡ record { journal = J.opening; accepted = 0 }) sessions.items }
+    requires new { AreNew J.opening (length gates.items) sessions.items }
     ensures gates { map (λ worker. worker.gate) result.items ≡ gates.items }
-    ensures sessions { All (λ worker. worker.session ≡ record { journal = J.opening; accepted = 0 }) result.items }
+    ensures sessions { (i : ℕ) (d : _) → i < length result.items
+        → (number : ℕ) × (number + i + 1 ≡ length gates.items) × ((slice_index_or result.items i d).session ≡ new_session J.opening number) }
 {
     let mut sessions = sessions;
     let mut workers = room;
@@ -316,7 +336,7 @@ fn worked<
 ) -> Vec<Worker<J, G>>
     ensures len { length result.items ≡ length workers.items }
     ensures worked { (i : ℕ) (d : _) → i < length workers.items
-        → HasWorked (G.told (slice_index_or workers.items i d).gate) (G.told (slice_index_or result.items i d).gate)
+        → HasWorked J.opening (G.told (slice_index_or workers.items i d).gate) (G.told (slice_index_or result.items i d).gate)
         (slice_index_or workers.items i d).session (slice_index_or result.items i d).session (end_of_work (slice_index_or result.items i d).failed) }
 {
     let mut workers = workers;

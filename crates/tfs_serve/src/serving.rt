@@ -34,8 +34,8 @@ pub fn work<L: OpenListener<Stream = TcpStream>, J: Naming, K: Sink, G: Gate, R:
     ensures ends { IfErr result (λ fault. IsFinal (error_of fault)) }
     ensures admitted { OnErr result (IsAdmitted (G.told gate.new)) }
     ensures later { IsLater session.old session.new }
-    ensures worked { OnOk result (HasWorked (G.told gate.old) (G.told gate.new) session.old session.new (asked false ∷ [])) }
-    ensures broken { OnErr result (HasWorked (G.told gate.old) (G.told gate.new) session.old session.new []) }
+    ensures worked { OnOk result (HasWorked J.opening (G.told gate.old) (G.told gate.new) session.old session.new (asked false ∷ [])) }
+    ensures broken { OnErr result (HasWorked J.opening (G.told gate.old) (G.told gate.new) session.old session.new []) }
 {
     let mut listening = Listening::new(listener);
     for _ in service.rt.forever() {
@@ -59,7 +59,7 @@ fn serve<J: Naming, K: Sink, G: Gate, R: Wait + Clock>(
     session: &mut Session<J>,
 )
     ensures later { IsLater session.old session.new }
-    ensures answered { HasAnswered (G.told gate.old) (G.told gate.new) session.old session.new }
+    ensures answered { HasAnswered J.opening (G.told gate.old) (G.told gate.new) session.old session.new }
 {
     if limit(stream).is_err() {
         return;
@@ -87,7 +87,7 @@ fn converse_once<I: Source, O: Outlet, J: Naming, K: Sink, G: Gate, R: Wait>(
     ensures loan { desk.new.desk.session.ghost_name ≡ desk.old.desk.session.ghost_name }
     ensures gate { desk.new.gate.ghost_name ≡ desk.old.gate.ghost_name }
     ensures later { IsLater desk.old.desk.session.now desk.new.desk.session.now }
-    ensures answered { HasAnswered (G.told desk.old.gate.now) (G.told desk.new.gate.now) desk.old.desk.session.now desk.new.desk.session.now }
+    ensures answered { HasAnswered J.opening (G.told desk.old.gate.now) (G.told desk.new.gate.now) desk.old.desk.session.now desk.new.desk.session.now }
 {
     let mut reads = Reads::new();
     let _ = converse(desk.desk.service.alloc, reader, writer, desk, &mut reads);

@@ -42,7 +42,7 @@ impl<'v, 's, 'm, J: Naming, K: Sink, R: Wait> Desk for SessionDesk<'v, 's, 'm, J
 
     // The desk keeps its loan, and the session answers.
     ghost step = { λ old call reply new. (new.session.ghost_name ≡ old.session.ghost_name)
-        × SessionStep old.session.now call reply new.session.now };
+        × SessionStep J.opening old.session.now call reply new.session.now };
 
     fn answer(&mut self, call: Call) -> Reply {
         match call {
@@ -59,7 +59,7 @@ fn read<J: Naming, K: Sink, R: Wait>(
     session: &mut Session<J>,
     name: &Name,
 ) -> Reply
-    ensures { SessionStep session.old (CallRead name.now) (reply_value result) session.new }
+    ensures { SessionStep J.opening session.old (CallRead name.now) (reply_value result) session.new }
 {
     match session.state(service.rt, service.shared, name) {
         Ok(doc) => Reply::State(doc),
@@ -74,7 +74,7 @@ fn ask<J: Naming, K: Sink>(
     name: &Name,
     query: &Query,
 ) -> Reply
-    ensures { SessionStep session.old (Impact name.now query.now) (reply_value result) session.new }
+    ensures { SessionStep J.opening session.old (Impact name.now query.now) (reply_value result) session.new }
 {
     match session.impact(shared, name, query) {
         Ok(answer) => Reply::Impact(answer),
@@ -90,9 +90,11 @@ fn change<J: Naming, K: Sink, R: Wait>(
     raw: Raw,
 ) -> Reply
     requires { HasFittingState raw }
-    ensures { SessionStep session.old (Change name raw) (reply_value result) session.new }
+    ensures { SessionStep J.opening session.old (Change name raw) (reply_value result) session.new }
 {
     a_change_is_answered_as_its_act_is();
+    // What the session has seen is lawful: a change that can't be read is answered over it.
+    session.is_kept();
     let draft = match read_in_turn(service, raw) {
         Ok(draft) => draft,
         Err(refusal) => return Reply::Refused(refusal),

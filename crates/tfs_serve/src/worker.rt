@@ -36,7 +36,7 @@ impl<J: Naming, G: Gate> Worker<J, G> {
         ensures later { IsLater self.old.session self.new.session }
         ensures admitted { self.new.failed ≡ true → IsAdmitted (G.told self.new.gate) }
         ensures closed { self.new.failed ≡ false → IsClosed (G.told self.new.gate) }
-        ensures worked { HasWorked (G.told self.old.gate) (G.told self.new.gate) self.old.session self.new.session
+        ensures worked { HasWorked J.opening (G.told self.old.gate) (G.told self.new.gate) self.old.session self.new.session
             (end_of_work self.new.failed) }
     {
         self.failed = work(service, listener, &mut self.gate, &mut self.session).is_err();
@@ -60,7 +60,7 @@ pub fn work_all<
     ensures closed { (i : ℕ) (d : _) → i < length workers.old
         → (slice_index_or workers.new i d).failed ≡ false → IsClosed (G.told (slice_index_or workers.new i d).gate) }
     ensures worked { (i : ℕ) (d : _) → i < length workers.old
-        → HasWorked (G.told (slice_index_or workers.old i d).gate) (G.told (slice_index_or workers.new i d).gate)
+        → HasWorked J.opening (G.told (slice_index_or workers.old i d).gate) (G.told (slice_index_or workers.new i d).gate)
         (slice_index_or workers.old i d).session (slice_index_or workers.new i d).session (end_of_work (slice_index_or workers.new i d).failed) }
 {
     let even = Mutex::new(());
@@ -73,7 +73,7 @@ pub fn work_all<
             ensures later { IsLater worker.entry.now.session worker.exit.now.session }
             ensures admitted { worker.exit.now.failed ≡ true → IsAdmitted (G.told worker.exit.now.gate) }
             ensures closed { worker.exit.now.failed ≡ false → IsClosed (G.told worker.exit.now.gate) }
-            ensures worked { HasWorked (G.told worker.entry.now.gate) (G.told worker.exit.now.gate) worker.entry.now.session
+            ensures worked { HasWorked J.opening (G.told worker.entry.now.gate) (G.told worker.exit.now.gate) worker.entry.now.session
                 worker.exit.now.session (end_of_work worker.exit.now.failed) }
         {
             let turn = if number % 2 == 0 { &even } else { &odd };

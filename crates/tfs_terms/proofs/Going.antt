@@ -1,6 +1,5 @@
 -- Terms of service, one after another.
-use Rattle.std.proofs.Common.{◌≡◌, ◌+◌, ◌<◌, ℕ, suc, Bool, List, length, get_or, sum_by, All, [], ◌∷◌, ◌++◌, Option, refl, sym, ◌∙◌, ap, subst, arith}
-use Rattle.std.specs.List.{flat_map}
+use Rattle.std.proofs.Common.{◌≡◌, ◌+◌, ◌<◌, ℕ, suc, Bool, List, length, get_or, map, sum_by, All, [], ◌∷◌, ◌++◌, Option, refl, sym, ◌∙◌, ap, subst, arith}
 use Rattle.std.proofs.lemmas.List.Elements.{All-nil, All-cons}
 use Rattle.std.proofs.lemmas.List.Sums.{sum_by-append}
 use Rattle.tfs_records.specs.Journal.{Journal}
@@ -10,7 +9,7 @@ use Rattle.tfs_published.specs.Beginning.{BeginsWith}
 use Rattle.tfs_published.proofs.Beginnings.{begins_with_itself}
 use Rattle.tfs_serve.specs.Gate.{Event}
 use Rattle.tfs_serve.specs.Working.{Answer}
-use Rattle.tfs_serve.specs.Serving.{IsServed, accepted_in}
+use Rattle.tfs_serve.specs.Serving.{ServedView, IsServed, IsRun, accepted_in, answers_on}
 use Rattle.tfs_terms.specs.Terms.{AnswersWithin, IsTerm, GoesBy, GoesOn, EndsOn}
 
 -- One more term.
@@ -34,44 +33,39 @@ goes_on_then first opening last next goes term rebased =
 pub ends_at : (first opening : Journal) → GoesOn first opening → EndsOn first opening
 ends_at first opening goes = (opening, goes, begins_with_itself opening)
 
-module _ {G V : Type 0} (told : G → Option (List Event)) (gate : V → G) (failed : V → Bool) (seen accepted : V → ℕ) (opening last : Journal)
-  where
-    -- The answers of each worker.
-    transcripts : (all : List V) → ((i : ℕ) (e : V) → i < length all
-        → (answers : List Answer) × AnswersWithin opening last answers × (accepted (get_or all i e) ≡ accepted_in answers))
-        → (workers : List (List Answer)) × All (AnswersWithin opening last) workers × (sum_by accepted all ≡ sum_by accepted_in workers)
-    transcripts [] each = ([], All-nil (AnswersWithin opening last), refl)
-    transcripts (v ∷ rest) each =
-        let one = each 0 v (omega arith) in
-        let more = transcripts rest (λ i e inside. each (suc i) e (omega (arith, inside))) in
-        let left = sum_by-append accepted (v ∷ []) rest in
-        let right = sum_by-append accepted_in (one.0 ∷ []) more.0 in
-        let first = one.2 in
-        let others = more.2 in
-        (one.0 ∷ more.0, All-cons (AnswersWithin opening last) one.0 more.0 one.1 more.1, omega (arith, left, right, first, others))
+-- The answers of each worker.
+transcripts : (opening last : Journal) (workers : List (List (List Answer))) (told : List (Option (List Event))) (served : List ServedView)
+    → length workers ≡ length told → length served ≡ length told
+    → ((i : ℕ) (t : Option (List Event)) (s : ServedView) → i < length told
+    → IsServed opening last (get_or workers i []) (get_or told i t) (get_or served i s))
+    → All (AnswersWithin opening last) (map answers_on workers)
+    × (sum_by (λ (s : ServedView). s.accepted) served ≡ sum_by accepted_in (map answers_on workers))
+transcripts opening last [] [] [] few same each = (All-nil (AnswersWithin opening last), refl)
+transcripts opening last [] (t ∷ told) served few same each = absurd (omega (arith, few))
+transcripts opening last (w ∷ workers) [] served few same each = absurd (omega (arith, few))
+transcripts opening last [] [] (s ∷ served) few same each = absurd (omega (arith, same))
+transcripts opening last (w ∷ workers) (t ∷ told) [] few same each = absurd (omega (arith, same))
+transcripts opening last (w ∷ workers) (t ∷ told) (s ∷ served) few same each =
+    let one = each 0 t s (omega arith) in
+    let more = transcripts opening last workers told served (omega (arith, few)) (omega (arith, same))
+    (λ i u v inside. each (suc i) u v (omega (arith, inside))) in
+    let left = sum_by-append (λ (v : ServedView). v.accepted) (s ∷ []) served in
+    let right = sum_by-append accepted_in (answers_on w ∷ []) (map answers_on workers) in
+    let first = one.accepted_is in
+    let others = more.1 in (
+      All-cons (AnswersWithin opening last) (answers_on w) (map answers_on workers) (one.view, one.replies) more.0,
+      omega (arith, left, right, first, others),
+    )
 
-    -- A run is a term.
-    pub term_of : (gates : List G) (all : List V) → IsLawful last → BeginsWith last opening
-        → ((i : ℕ) (d : G) (e : V) → i < length gates → IsServed opening last (told (get_or gates i d)) (told (gate (get_or all i e)))
-        (failed (get_or all i e)) (seen (get_or all i e)) (accepted (get_or all i e)))
-        → length all ≡ length gates → length last.entries ≡ length opening.entries + sum_by accepted all → IsTerm opening last
-    term_of gates all lawful begins served same grows = made (parts gates served same)
-      where
-        parts : (gs : List G) → ((i : ℕ) (d : G) (e : V) → i < length gs → IsServed opening last (told (get_or gs i d))
-            (told (gate (get_or all i e))) (failed (get_or all i e)) (seen (get_or all i e)) (accepted (get_or all i e)))
-            → length all ≡ length gs
-            → (workers : List (List Answer)) × All (AnswersWithin opening last) workers × (sum_by accepted all ≡ sum_by accepted_in workers)
-        parts [] each few = transcripts all (λ i e inside. absurd (omega (arith, inside, few)))
-        parts (x ∷ gs) each few = transcripts all (λ i e inside.
-            let is = each i x e (omega (arith, inside, few)) in
-            (flat_map (λ (answers : List Answer). answers) is.connections, (is.view, is.replies), is.accepted_is))
-
-        made : (workers : List (List Answer)) × All (AnswersWithin opening last) workers × (sum_by accepted all ≡ sum_by accepted_in workers)
-            → IsTerm opening last
-        made p = record {
-          lawful = lawful;
-          begins = begins;
-          workers = p.0;
-          replies = p.1;
-          grows = grows ∙ ap (λ (n : ℕ). length opening.entries + n) p.2;
-        }
+-- A run is a term.
+pub term_of : (opening last : Journal) (told : List (Option (List Event))) (served : List ServedView) → IsRun opening last told served
+    → IsTerm opening last
+term_of opening last told served run =
+    let parts = transcripts opening last run.connections told served run.each.0 run.each.1 run.workers in
+    record {
+      lawful = run.lawful;
+      begins = run.begins;
+      workers = map answers_on run.connections;
+      replies = parts.0;
+      grows = run.grows ∙ ap (λ (n : ℕ). length opening.entries + n) parts.1;
+    }

@@ -3,7 +3,7 @@ use Rattle.std.proofs.Common.{length}
 use Rattle.tfs_serve.proofs.run.serve.Given as goal
 
 abbrev pub ghosts-serve_named-J-Naming : goal.ghosts-serve_named-J-Naming
-ghosts-serve_named-J-Naming g a = record { book = a.opened; opening = a.table.journal; sessions = length a.gates.items }
+ghosts-serve_named-J-Naming g a = record { book = a.blanks.opened; opening = a.table.journal; sessions = length a.asked.gates.items }
 
 abbrev pub ghosts-serve_named-J-Ledger : goal.ghosts-serve_named-J-Ledger
-ghosts-serve_named-J-Ledger g a = record { name = a.blank.name; parts = a.blank.parts }
+ghosts-serve_named-J-Ledger g a = record { name = a.blanks.blank.name; parts = a.blanks.blank.parts }

@@ -3,7 +3,10 @@ use Rattle.tfs_serve.proofs.Returning as returning
 use Rattle.tfs_serve.proofs.run.taken_back.Goals as goal
 
 pub unreachable-requires : goal.unreachable-requires
-unreachable-requires g c = returning.no_strangers _ _ _ _ c.requires.whole c.requires.new c.in-Err.ensures.missing c.in-Err.ensures.ahead
+unreachable-requires g c =
+    returning.no_strangers _ _ _ _ c.requires.new.many (returning.all_new _ _ _ c.requires.new) c.in-Err.ensures.missing c.in-Err.ensures.ahead
 
 pub returns : goal.returns
-returns g c = record { journal = returning.taken_back _ _ _ c.requires.new c.in-Ok.ensures.opening c.in-Ok.ensures.counted }
+returns g c = record {
+  journal = returning.taken_back _ _ _ (returning.all_new _ _ _ c.requires.new) c.in-Ok.ensures.opening c.in-Ok.ensures.counted;
+}

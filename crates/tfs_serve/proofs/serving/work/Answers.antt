@@ -8,8 +8,8 @@ loop-preserved g c = (
   tt,
   tt,
   later_then _ _ _ c.loop.invariant.2 c.serve.ensures.later,
-  worked_on _ _ _ _ _ _ _ c.loop.invariant.3 c.if-not-admit.ensures.heard c.serve.ensures.answered,
+  worked_on _ _ _ _ _ _ _ _ c.loop.invariant.3 c.if-not-admit.ensures.heard c.serve.ensures.answered,
 )
 
 pub returns-in-Err-clause-broken : goal.returns-in-Err-clause-broken
-returns-in-Err-clause-broken g c = worked_without _ _ _ _ _ c.loop.invariant.3 c.if-not-admit.ensures.heard
+returns-in-Err-clause-broken g c = worked_without _ _ _ _ _ _ c.loop.invariant.3 c.if-not-admit.ensures.heard

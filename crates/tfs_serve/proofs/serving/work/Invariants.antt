@@ -7,4 +7,4 @@ use Rattle.tfs_serve.proofs.serving.work.Given as goal
 abbrev pub invariant-loop : goal.invariant-loop
 invariant-loop g l =
     (goal.iterator-loop g).can_next l.iterator' × (goal.iterator-loop g).is_finite l.iterator' × IsLater l.fn.session l.session
-    × HasWorked (g.G.Gate.told l.fn.gate) (g.G.Gate.told l.gate) l.fn.session l.session []
+    × HasWorked g.J.Naming.opening (g.G.Gate.told l.fn.gate) (g.G.Gate.told l.gate) l.fn.session l.session []

@@ -1,10 +1,16 @@
 -- A query is a step of the session.
 use Rattle.std.proofs.Common.{refl}
-use Rattle.tfs_serve.proofs.Steps.{impact_step}
+use Rattle.tfs_serve.proofs.Steps.{counts_none, impact_step}
 use Rattle.tfs_serve.proofs.session_desk.ask.Goals as goal
 
 pub returns-in-Ok : goal.returns-in-Ok
-returns-in-Ok g c = impact_step _ _ _ _ _ c.in-Ok.ensures.answer c.in-Ok.ensures.later c.in-Ok.ensures.accepted refl
+returns-in-Ok g c = (
+  counts_none _ _ _ _ c.in-Ok.ensures.signed refl,
+  impact_step g.J.Naming.opening _ _ _ _ _ c.in-Ok.ensures.answer c.in-Ok.ensures.later c.in-Ok.ensures.accepted refl,
+)
 
 pub returns-in-Err : goal.returns-in-Err
-returns-in-Err g c = impact_step _ _ _ _ _ c.in-Err.ensures.answer c.in-Err.ensures.later c.in-Err.ensures.accepted refl
+returns-in-Err g c = (
+  counts_none _ _ _ _ c.in-Err.ensures.signed refl,
+  impact_step g.J.Naming.opening _ _ _ _ _ c.in-Err.ensures.answer c.in-Err.ensures.later c.in-Err.ensures.accepted refl,
+)

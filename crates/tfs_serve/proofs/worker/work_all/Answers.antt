@@ -38,6 +38,6 @@ returns g c = record {
       let at = (c.for_each_mut.ensures i d inside).1 in
       let told = g.G.Gate.told in
       let new = slice_index_or c.for_each_mut.new.s i d in
-      subst (λ w. HasWorked (told w.gate) (told new.gate) w.session new.session (end_of_work new.failed)) at.argument_is
-      (subst (λ w. HasWorked (told at.argument.now.gate) (told w.gate) at.argument.now.session w.session (end_of_work w.failed)) at.left at.call.1.1.1);
+      subst (λ w. HasWorked g.J.Naming.opening (told w.gate) (told new.gate) w.session new.session (end_of_work new.failed)) at.argument_is
+      (subst (λ w. HasWorked g.J.Naming.opening (told at.argument.now.gate) (told w.gate) at.argument.now.session w.session (end_of_work w.failed)) at.left at.call.1.1.1);
 }

@@ -1,0 +1,239 @@
+-- A whole run, from what its workers did.
+use Rattle.std.proofs.Common.{◌≡◌, ◌+◌, ◌<◌, ◌≤◌, ℕ, zero, suc, Bool, List, length, map, get_or, sum_by, All, [], ◌∷◌, ◌++◌, Option, refl, sym, ◌∙◌, ap, subst, arith, length-append}
+use Rattle.std.specs.List.{flat_map}
+use Rattle.std.proofs.lemmas.List.{length-map, get_or-map}
+use Rattle.std.proofs.lemmas.List.Sums.{sum_by-cons}
+use mathlib.Core.List.{IsPrefix}
+use Rattle.tfs_records.specs.Journal.{Journal, BaseValue, position_of}
+use Rattle.tfs_table.specs.Lawful.{IsLawful}
+use Rattle.tfs_published.specs.Beginning.{BeginsWith}
+use Rattle.tfs_shared.specs.Signed.{AreSigned}
+use Rattle.tfs_shared.specs.View.{SessionView, new_session}
+use Rattle.tfs_serve.specs.Gate.{Event}
+use Rattle.tfs_serve.specs.Serving.{ServedView, IsServed, IsRun, accepted_in, answers_on}
+use Rattle.tfs_serve.specs.Told.{positions_told, times}
+use Rattle.tfs_serve.specs.Working.{Answer, HasWorked, end_of_work}
+use Rattle.tfs_serve.proofs.Replying.{served, all_given}
+use Rattle.tfs_serve.proofs.Returning.{HaveNumbers}
+use Rattle.tfs_serve.proofs.Tallying.{Tells, gives_tells, as_many_told}
+use Rattle.tfs_serve.proofs.Telling.{IsMadeAt, TellApart, TellsAlone, made_later, tell_apart, each_once}
+
+-- Sums over what is made of elements.
+sum_made : {W V : Type 0} (made : W → V) (f : V → ℕ) (xs : List W) → sum_by f (map made xs) ≡ sum_by (λ (w : W). f (made w)) xs
+sum_made made f [] = refl
+sum_made {W} made f (x ∷ xs) =
+    let rest = sum_made made f xs in
+    omega (arith, rest, sum_by-cons f (made x) (map made xs), sum_by-cons (λ (w : W). f (made w)) x xs)
+
+-- Sums over lists whose elements count as much at each place.
+sums_even : {A B : Type 0} (f : A → ℕ) (g : B → ℕ) (xs : List A) (ys : List B) → length xs ≡ length ys
+    → ((i : ℕ) (d : A) (e : B) → i < length xs → f (get_or xs i d) ≡ g (get_or ys i e)) → sum_by f xs ≡ sum_by g ys
+sums_even f g [] [] even same = refl
+sums_even f g [] (y ∷ ys) even same = absurd (omega (arith, even))
+sums_even f g (x ∷ xs) [] even same = absurd (omega (arith, even))
+sums_even f g (x ∷ xs) (y ∷ ys) even same =
+    let first = same 0 x y (omega arith) in
+    let rest = sums_even f g xs ys (omega (arith, even)) (λ i d e inside. same (suc i) d e (omega (arith, inside))) in
+    omega (arith, first, rest, sum_by-cons f x xs, sum_by-cons g y ys)
+
+-- As many numbers as the lists of elements have.
+length_all : {X : Type 0} (tell : X → List ℕ) (count : X → ℕ) (xs : List X) → ((x : X) → length (tell x) ≡ count x)
+    → length (flat_map tell xs) ≡ sum_by count xs
+length_all tell count [] same = refl
+length_all tell count (x ∷ xs) same =
+    let rest = length_all tell count xs same in
+    omega (arith, rest, same x, length-append (tell x) (flat_map tell xs), sum_by-cons count x xs)
+
+-- What there is for the first number, and for those behind it.
+chosen_more : {X : Type 0} (Q : ℕ → X → Type 0) (n : ℕ) → ((x : X) × Q 0 x)
+    → ((xs : List X) × (length xs ≡ n) × ((i : ℕ) (d : X) → i < n → Q (suc i) (get_or xs i d)))
+    → (xs : List X) × (length xs ≡ suc n) × ((i : ℕ) (d : X) → i < suc n → Q i (get_or xs i d))
+chosen_more {X} Q n first rest = (first.0 ∷ rest.0, ap suc rest.1, at)
+  where
+    at : (i : ℕ) (d : X) → i < suc n → Q i (get_or (first.0 ∷ rest.0) i d)
+    at zero d inside = first.1
+    at (suc i) d inside = rest.2 i d (omega (arith, inside))
+
+-- What there is for each number makes a list.
+chosen : {X : Type 0} (Q : ℕ → X → Type 0) (n : ℕ) → ((i : ℕ) → i < n → (x : X) × Q i x)
+    → (xs : List X) × (length xs ≡ n) × ((i : ℕ) (d : X) → i < n → Q i (get_or xs i d))
+chosen Q zero one = ([], refl, λ i d inside. absurd (omega (arith, inside)))
+chosen {X} Q (suc n) one =
+    chosen_more Q n (one 0 (omega arith)) (chosen (λ (i : ℕ) (x : X). Q (suc i) x) n (λ i inside. one (suc i) (omega (arith, inside))))
+
+-- The positions that a worker tells on its connections.
+abbrev told_on : List (List Answer) → List ℕ
+told_on connections = positions_told (answers_on connections)
+
+-- What is left of a worker.
+abbrev pub left_of : {W : Type 0} → (W → Option (List Event)) → (W → SessionView) → (W → Bool) → W → ServedView
+left_of told session failed w = record {
+  told = told w;
+  failed = failed w;
+  seen = position_of (session w).journal;
+  accepted = (session w).accepted;
+}
+
+-- Workers that began with new sessions, numbered down to the first, and have worked.
+module _ {W : Type 0} (told : W → Option (List Event)) (session : W → SessionView) (failed : W → Bool) (opening last : Journal) (old new : List W)
+  where
+    abbrev left : W → ServedView
+    left = left_of told session failed
+
+    -- What a worker did, with its number.
+    pub record HasServed (d : W) (i : ℕ) (connections : List (List Answer)) : Type 0 where
+      pub served : IsServed opening last connections (told (get_or old i d)) (left (get_or new i d))
+      pub number : ℕ
+      pub number_is : number + i + 1 ≡ length old
+      pub tells : Tells opening (new_session opening number) (session (get_or new i d)) (told_on connections)
+
+    abbrev pub AreNumbered : Type 0
+    AreNumbered = (i : ℕ) (d : W) → i < length old
+        → (number : ℕ) × (number + i + 1 ≡ length old) × (session (get_or old i d) ≡ new_session opening number)
+
+    abbrev pub WorkedEach : Type 0
+    WorkedEach = (i : ℕ) (d : W) → i < length old
+        → HasWorked opening (told (get_or old i d)) (told (get_or new i d)) (session (get_or old i d)) (session (get_or new i d))
+        (end_of_work (failed (get_or new i d)))
+
+    -- One worker.
+    one_served : IsLawful last → AreNumbered → WorkedEach → length new ≡ length old → All (λ (s : SessionView). BeginsWith last s.journal) (map session new)
+        → (d : W) (i : ℕ) → i < length old → (connections : List (List Answer)) × HasServed d i connections
+    one_served lawful numbered worked same begins d i inside =
+        let number = numbered i d inside in
+        let now = get_or new i d in
+        let in_new : i < length new = omega (arith, inside, same) in
+        let in_sessions : i < length (map session new) = omega (arith, in_new, length-map new session) in
+        let has : BeginsWith last (session now).journal =
+        subst (λ (s : SessionView). BeginsWith last s.journal) (get_or-map session new i d (session d) in_new) (begins i (session d) in_sessions) in
+        let did : HasWorked opening (told (get_or old i d)) (told now) (new_session opening number.0) (session now) (end_of_work (failed now)) =
+        subst (λ (s : SessionView). HasWorked opening (told (get_or old i d)) (told now) s (session now) (end_of_work (failed now)))
+        number.2 (worked i d inside) in (
+          did.connections,
+          record {
+            served = served opening last (told (get_or old i d)) (told now) number.0 (session now) (failed now) lawful has did;
+            number = number.0;
+            number_is = number.1;
+            tells = gives_tells opening (new_session opening number.0) (session now) (answers_on did.connections)
+                (all_given opening (told (get_or old i d)) (told now) (new_session opening number.0) (session now) (end_of_work (failed now)) did);
+          },
+        )
+
+    -- What a worker tells, it made.
+    tells_alone : (makers : List ℕ) → All (λ (s : SessionView). IsPrefix s.makers makers) (map session new) → length new ≡ length old
+        → (d : W) (i : ℕ) (connections : List (List Answer)) → i < length old → HasServed d i connections
+        → TellsAlone opening makers i (length old) (told_on connections)
+    tells_alone makers seen same d i connections inside has = record {
+      once = has.tells.once;
+      made = λ p some. (
+        has.number,
+        has.number_is,
+        made_later opening (session (get_or new i d)).makers makers p has.number early (has.tells.made p some).2,
+      );
+    }
+      where
+        in_new : i < length new
+        in_new = omega (arith, inside, same)
+
+        early : IsPrefix (session (get_or new i d)).makers makers
+        early = subst (λ (s : SessionView). IsPrefix s.makers makers) (get_or-map session new i d (session d) in_new)
+            (seen i (session d) (omega (arith, in_new, length-map new session)))
+
+    -- A position at which a change was made is one beyond the opening one.
+    made_within : (makers : List ℕ) (p m : ℕ) → IsMadeAt opening makers p m → (position_of opening < p) × (p ≤ position_of opening + length makers)
+    made_within makers p m made =
+        let at = made.position_is in
+        let parts = ap length made.parts in
+        let more = length-append made.front (m ∷ made.rest) in
+        (omega (arith, at), omega (arith, at, parts, more))
+
+    -- The run.
+    pub is_run : IsLawful last → BeginsWith last opening → AreNumbered → WorkedEach → length new ≡ length old
+        → All (λ (s : SessionView). BeginsWith last s.journal) (map session new) → AreSigned opening last (map session new)
+        → length last.entries ≡ length opening.entries + sum_by (λ (s : SessionView). s.accepted) (map session new)
+        → (d : W) → IsRun opening last (map told old) (map left new)
+    is_run lawful begins numbered worked same seen signed grows d = record {
+      lawful = lawful;
+      begins = begins;
+      connections = all.0;
+      each = (omega (arith, all.1, many), omega (arith, length-map new left, same, many));
+      workers = λ i t s inside.
+          let in_old : i < length old = omega (arith, inside, many) in
+          let in_new : i < length new = omega (arith, in_old, same) in
+          subst (λ (v : ServedView). IsServed opening last (get_or all.0 i []) (get_or (map told old) i t) v)
+          (sym (get_or-map left new i d s in_new))
+          (subst (λ (o : Option (List Event)). IsServed opening last (get_or all.0 i []) o (left (get_or new i d)))
+          (sym (get_or-map told old i d t in_old)) (all.2 i [] in_old).served);
+      grows = grows ∙ ap (λ (n : ℕ). length opening.entries + n) accepted_same;
+      once = λ p above within. each_once (position_of opening) (length signed.makers) told_all as_many apart.once
+          (λ q some. let made = apart.made q some in made_within signed.makers q made.0 made.2) p above (omega (arith, within, signed.counted));
+    }
+      where
+        many : length (map told old) ≡ length old
+        many = length-map old told
+
+        all : (xs : List (List (List Answer))) × (length xs ≡ length old)
+            × ((i : ℕ) (e : List (List Answer)) → i < length old → HasServed d i (get_or xs i e))
+        all = chosen (HasServed d) (length old) (one_served lawful numbered worked same seen d)
+
+        told_all : List ℕ
+        told_all = flat_map told_on all.0
+
+        apart : TellApart opening signed.makers 0 (length old) told_all
+        apart = tell_apart told_on opening signed.makers 0 (length old) all.0 (λ i e inside.
+            let in_old : i < length old = omega (arith, inside, all.1) in
+            let first : i ≡ 0 + i = omega arith in
+            subst (λ (n : ℕ). TellsAlone opening signed.makers n (length old) (told_on (get_or all.0 i e))) first
+            (tells_alone signed.makers signed.seen same d i (get_or all.0 i e) in_old (all.2 i e in_old)))
+
+        counted : sum_by (λ (s : SessionView). s.accepted) (map session new) ≡ sum_by (λ (c : List (List Answer)). accepted_in (answers_on c)) all.0
+        counted = sums_even (λ (s : SessionView). s.accepted) (λ (c : List (List Answer)). accepted_in (answers_on c)) (map session new) all.0
+            (length-map new session ∙ same ∙ sym all.1) (λ i s e inside.
+            let in_new : i < length new = omega (arith, inside, length-map new session) in
+            let in_old : i < length old = omega (arith, in_new, same) in
+            ap (λ (v : SessionView). v.accepted) (get_or-map session new i d s in_new) ∙ (all.2 i e in_old).served.accepted_is)
+
+        accepted_same : sum_by (λ (s : SessionView). s.accepted) (map session new) ≡ sum_by (λ (s : ServedView). s.accepted) (map left new)
+        accepted_same = sum_made session (λ (s : SessionView). s.accepted) new ∙ sym (sum_made left (λ (s : ServedView). s.accepted) new)
+
+        as_many : length told_all ≡ length signed.makers
+        as_many =
+            let base = ap (λ (b : BaseValue). b.position) begins.base in
+            let told_count = length_all told_on (λ (c : List (List Answer)). accepted_in (answers_on c)) all.0 (λ c. as_many_told (answers_on c)) in
+            let end = signed.counted in
+            omega (arith, base, grows, counted, told_count, end)
+
+-- What is made of what was made.
+map_made : {W V U : Type 0} (made : W → V) (f : V → U) (xs : List W) → map f (map made xs) ≡ map (λ (w : W). f (made w)) xs
+map_made made f [] = refl
+map_made made f (x ∷ xs) = ap (λ l. f (made x) ∷ l) (map_made made f xs)
+
+-- What is made alike of elements.
+map_alike : {W U : Type 0} (f g : W → U) (xs : List W) → ((w : W) → f w ≡ g w) → map f xs ≡ map g xs
+map_alike f g [] same = refl
+map_alike f g (x ∷ xs) same = ap (λ u. u ∷ map f xs) (same x) ∙ ap (λ l. g x ∷ l) (map_alike f g xs same)
+
+-- The run of workers for gates.
+pub run_of : {W G V : Type 0} (gate : W → G) (told : G → Option (List Event)) (session : W → SessionView) (failed : W → Bool) (made : W → V)
+    (view : V → ServedView) (opening last : Journal) (gates : List G) (old new : List W) (all : List V)
+    → ((w : W) → left_of (λ (x : W). told (gate x)) session failed w ≡ view (made w))
+    → map gate old ≡ gates → all ≡ map made new → 1 ≤ length gates → IsLawful last → BeginsWith last opening
+    → HaveNumbers session opening (length gates) old
+    → WorkedEach (λ (w : W). told (gate w)) session failed opening last old new → length new ≡ length old
+    → All (λ (s : SessionView). BeginsWith last s.journal) (map session new) → AreSigned opening last (map session new)
+    → length last.entries ≡ length opening.entries + sum_by (λ (s : SessionView). s.accepted) (map session new)
+    → IsRun opening last (map told gates) (map view all)
+run_of gate told session failed made view opening last gates old [] all views are_gates are_all some lawful begins numbered worked same seen signed
+    grows =
+    absurd (omega (arith, some, same, ap length are_gates, length-map old gate))
+run_of {W} {G} {V} gate told session failed made view opening last gates old (w ∷ rest) all views are_gates are_all some lawful begins numbered worked
+    same seen signed grows =
+    subst (λ (gs : List G). IsRun opening last (map told gs) (map view all)) are_gates
+    (subst (λ (os : List (Option (List Event))). IsRun opening last os (map view all)) (sym (map_made gate told old))
+    (subst (λ (vs : List V). IsRun opening last (map (λ (x : W). told (gate x)) old) (map view vs)) (sym are_all)
+    (subst (λ (ss : List ServedView). IsRun opening last (map (λ (x : W). told (gate x)) old) ss)
+    (map_alike (left_of (λ (x : W). told (gate x)) session failed) (λ (x : W). view (made x)) (w ∷ rest) views ∙ sym (map_made made view (w ∷ rest)))
+    (is_run (λ (x : W). told (gate x)) session failed opening last old (w ∷ rest) lawful begins (λ i d inside.
+    let x = numbered i d inside in
+    let at = x.1 in
+    (x.0, omega (arith, at, ap length are_gates, length-map old gate), x.2)) worked same seen signed grows w))))

@@ -1,0 +1,6 @@
+-- All replies of a run follow one journal.
+use Rattle.tfs_serve.proofs.Following.{run_follows}
+use Rattle.tfs_serve.proofs.laws.all_replies_follow_one_journal.Goals as goal
+
+pub returns : goal.returns
+returns c = record { follow = run_follows }

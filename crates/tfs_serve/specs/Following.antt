@@ -1,0 +1,28 @@
+-- What a run says in short: all replies follow one journal.
+use Rattle.std.specs.Prelude.{◌≡◌, ◌⊎◌, All, List}
+use Rattle.tfs_records.specs.Journal.{Journal}
+use Rattle.tfs_calls.specs.Refusal.{no_copy}
+use Rattle.tfs_calls.specs.Reply.{refused}
+use Rattle.tfs_calls.specs.Transition.{TableModel, Answers}
+use Rattle.tfs_table.specs.Lawful.{IsLawful}
+use Rattle.tfs_published.specs.Beginning.{BeginsWith}
+use Rattle.tfs_serve.specs.Standing.{AcceptedStand}
+use Rattle.tfs_serve.specs.Told.{positions_told, AreToldOnce}
+use Rattle.tfs_serve.specs.Working.{Answer}
+
+-- The reply is the model's answer over a lawful beginning of a journal.
+pub record FollowsJournal (last : Journal) (a : Answer) : Type 0 where
+  pub before : TableModel
+  pub after : TableModel
+  pub lawful : IsLawful before.journal
+  pub begins : BeginsWith last before.journal
+  pub answer : Answers before a.call a.reply after
+
+-- The last journal is lawful, and begins with the opening one. Each reply, other than `NoCopy`, follows it. Each accepted change stands in it at
+-- the position that its reply tells, and each position beyond the opening one is told by one reply.
+pub record FollowOneJournal (opening last : Journal) (answers : List Answer) : Type 0 where
+  pub lawful : IsLawful last
+  pub begins : BeginsWith last opening
+  pub follow : All (λ (a : Answer). (a.reply ≡ refused no_copy) ⊎ FollowsJournal last a) answers
+  pub stand : AcceptedStand last answers
+  pub once : AreToldOnce opening last (positions_told answers)
