@@ -1,6 +1,7 @@
 //! Chains of resources, each of which depends on the one before: a change of the first reaches all others.
 
 use super::index::version_of;
+use std::alloc::Global;
 use std::process::Abort;
 use std::test::Fail;
 
