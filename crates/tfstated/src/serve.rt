@@ -1,6 +1,6 @@
 //! The command `serve`: workers that answer connections, and the file of a journal.
 
-ghost use Rattle.std.specs.Prelude.{◌≡◌, ◌≤◌, length, IfOk};
+ghost use Rattle.std.specs.Prelude.{◌≡◌, ◌≤◌, false, length, IfOk};
 
 use crate::command::Serving;
 use crate::fault::{end_by, end_with, end_without_file};
@@ -81,7 +81,9 @@ fn opened(
     rt: &impl AllocGlobal,
     old: Option<Vec<u8>>,
     sink: FileSink,
-) -> Result<Table<FileSink>, OpenFault> {
+) -> Result<Table<FileSink>, OpenFault>
+    requires open { sink.has_failed ≡ false }
+{
     match old {
         Some(bytes) => {
             let (table, _) = Table::open(rt.alloc(), bytes.as_slice(), sink)?;
