@@ -19,8 +19,6 @@ mod shared;
 #[cfg(test)]
 mod surface;
 #[cfg(test)]
-mod terms;
-#[cfg(test)]
 mod texts;
 #[cfg(test)]
 mod waiting;

@@ -19,7 +19,7 @@ use tfs_table::Table;
 
 const REQUEST: &str = "UNLOCK /state/a HTTP/1.1\r\nHost: h\r\nConnection: close\r\n\r\n";
 
-pub(crate) const REPLY: &str = "HTTP/1.1 200 OK\r\nConnection: close\r\nContent-Length: 0\r\n\r\n";
+const REPLY: &str = "HTTP/1.1 200 OK\r\nConnection: close\r\nContent-Length: 0\r\n\r\n";
 
 /// The system's number for a process that has no descriptor left (errno(3): EMFILE).
 const NO_DESCRIPTOR: i32 = 24;
@@ -44,8 +44,8 @@ impl OpenListener for Lacking {
 
 /// A gate that admits one connection.
 #[derive(Drop)]
-pub(crate) struct Once {
-    pub(crate) is_open: bool,
+struct Once {
+    is_open: bool,
 }
 
 impl Gate for Once {
@@ -78,7 +78,7 @@ fn a_run_goes_on_after_descriptors_lacked_and_gives_the_table_back(
 }
 
 /// A connection on which the request was sent.
-pub(crate) fn sent<R: Abort + Net<Stream = TcpStream>>(rt: &R, address: SocketAddr) -> TcpStream {
+fn sent<R: Abort + Net<Stream = TcpStream>>(rt: &R, address: SocketAddr) -> TcpStream {
     let stream = TcpStream::connect(rt, address);
     let mut stream = stream.ok().expect(rt, "a connection");
     assert!(rt; stream.write_all(REQUEST.as_bytes()).is_ok());
