@@ -11,7 +11,7 @@ from pathlib import Path
 
 from checking import S1, S2, checks_in, expect, run_checks
 from serve_program import (LOOPBACK, Server, asked, calls_in, entries_of, free_port, fresh, hostile, limited, preloaded, push_large,
-                           reply_of, rest_of, run, send_all, state)
+                           reply_of, rest_of, run, send_all, state, zeros)
 from stdio_program import USAGE, request_text
 
 A, B = b'{"ID":"A" ,"Who":""}', b'{"ID":"B"}'
@@ -197,17 +197,18 @@ def pushed_by_sixteen(server, text):
 
 def check_sixteen_hostile_bodies_end_nothing():
     server = Server(workers=16, preexec_fn=limited(6 * 10**9))
-    statuses = pushed_by_sixteen(server, hostile(16 << 20))
-    expect(set(statuses) <= {200, 400, 503}, True, statuses)
+    for text in (hostile(16 << 20), zeros(16 << 20)):
+        statuses = pushed_by_sixteen(server, text)
+        expect(set(statuses) <= {200, 400, 503}, True, statuses)
     expect(server.ask("POST", "/state/a", S1), (200, b""))
     expect(server.process.poll(), None)
 
 
 def check_bodies_of_more_than_1_mib_are_read_two_at_a_time():
-    # One takes 130 MB. With one arena a thread's freed memory is there for the others.
-    server = Server(workers=16, env={"MALLOC_ARENA_MAX": "1"}, preexec_fn=limited(7 * 10**8))
-    expect(pushed_by_sixteen(server, hostile((1 << 20) + 1)), [400] * 16, "two at a time fit")
-    refused = any(503 in pushed_by_sixteen(server, hostile(1 << 20)) for _ in range(10))
+    # One takes 25 MB. With one arena a thread's freed memory is there for the others.
+    server = Server(workers=16, env={"MALLOC_ARENA_MAX": "1"}, preexec_fn=limited(3 * 10**8))
+    expect(pushed_by_sixteen(server, zeros((1 << 20) + 1)), [400] * 16, "two at a time fit")
+    refused = any(503 in pushed_by_sixteen(server, zeros(1 << 20)) for _ in range(10))
     expect(refused, True, "sixteen at a time, as bodies of 1 MiB are read, don't fit")
 
 

@@ -183,6 +183,11 @@ def hostile(length):
     return (b"[" + b'{"":0},' * ((length - 4) // 7)).ljust(length - 3) + b"{}]"
 
 
+def zeros(length):
+    """A list of so many bytes, each number of which takes many times its bytes to be read."""
+    return (b"[" + b"0," * ((length - 4) // 2)).ljust(length - 2) + b"0]"
+
+
 def push_large(server, text, statuses):
     """Pushes a text, and keeps the status of the reply; none where the connection ends without one."""
     try:
