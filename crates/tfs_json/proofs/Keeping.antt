@@ -1,12 +1,12 @@
 -- The grammar's loops, a turn at a time, under what is kept. After `Rattle.serde_json.proofs.Reading`.
-use Rattle.std.proofs.Common.{◌≡◌, ℕ, zero, suc, ◌-◌, ◌<◌, ◌≤◌, List, [], ◌∷◌, length, Bool, true, false, is_some, Option, Some, None, option_map, option_and_then, refl, sym, ap, ◌∙◌}
+use Rattle.std.proofs.Common.{◌≡◌, ℕ, zero, suc, ◌-◌, ◌<◌, ◌≤◌, List, length, Bool, true, false, is_some, Option, Some, None, option_map, option_and_then, refl, sym, ap, ◌∙◌}
 use Rattle.std.specs.Prelude.{MatchBool}
 use Rattle.std.specs.Borrow.{Bor}
 use Rattle.json.specs.Token.{Token}
 use Rattle.json.specs.Json.{Json, array, object, Items, no_items, item, Members, no_members, member, value, Parse, parse_map, after_end_array, read_key, items_step, items, members}
 use Rattle.json.specs.Value.{value_view}
 use Rattle.json.specs.declared.value.Value.{Value}
-use Rattle.json.proofs.Grammar.{left, left-parse_map, left_some, left_none, items_end, items_more, members_end, members_no_key, members_more}
+use Rattle.json.proofs.Grammar.{left, left-parse_map, left_some, items_end, items_more, members_end, members_no_key, members_more}
 use Rattle.json.proofs.Trees.{members_before, one_more_member, none_before}
 use Rattle.serde_json.specs.Read.{converted}
 use Rattle.tfs_json.specs.Kept.{is_wanted, with_member, kept, kept_items, kept_members}
@@ -148,11 +148,13 @@ not_there b (Some a) e = cc
 pub member_taken : {A : Type 0} (depth n : ℕ) (name : Bor (List ℕ)) (ts s r : List Token) (found more : List (Bor (List ℕ) × Value A))
     → 0 < n → read_key ts ≡ Some (Some name.now, s)
     → (b : Bool) → is_wanted name.now ≡ b → MatchBool b (PutsLast depth name s r found more) (PassesOver depth s r found more)
-    → parse_map (members_before found) (converted kept_members (members (value depth) n ts)) ≡ parse_map (members_before more) (converted kept_members (members (value depth) (n - 1) r))
+    → parse_map (members_before found) (converted kept_members (members (value depth) n ts))
+    ≡ parse_map (members_before more) (converted kept_members (members (value depth) (n - 1) r))
 member_taken depth n name ts s r found more some key true wanted put =
     let v = value_view put.member in
     let rest = converted kept_members (members (value depth) (n - 1) r) in
-    ap (parse_map (members_before found)) (member_read (value depth) n name.now ts s r v some key put.read ∙ ap (λ b. parse_map (with_member b name.now v) rest) wanted)
+    ap (parse_map (members_before found)) (member_read (value depth) n name.now ts s r v some key put.read
+    ∙ ap (λ b. parse_map (with_member b name.now v) rest) wanted)
     ∙ one_more_member found (name, put.member) rest
     ∙ ap (λ ms. parse_map (members_before ms) rest) (sym put.last)
 member_taken depth n name ts s r found more some key false other over =

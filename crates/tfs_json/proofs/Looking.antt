@@ -1,7 +1,7 @@
 -- What is found in a tree is what is found in the value that `serde_json` reads, and what is kept of it has the same at each
 -- name that is kept.
-use Rattle.std.proofs.Common.{◌≡◌, ℕ, List, [], ◌∷◌, map, Bool, true, false, cond, is_some, Option, Some, None, option_map, option_and_then, refl, sym, ap, subst, ◌∙◌}
-use Rattle.std.specs.Prelude.{⊤, ℤ, Float, negsuc}
+use Rattle.std.proofs.Common.{◌≡◌, ℕ, List, Bool, true, false, cond, is_some, Option, Some, None, option_map, option_and_then, refl, sym, ap, subst, ◌∙◌}
+use Rattle.std.specs.Prelude.{⊤, negsuc}
 use Rattle.std.specs.Option.{unwrap_or}
 use Rattle.std.specs.Str.{bytes_eq}
 use Rattle.std.specs.Cmp.Lexicographic.{bytes_decides}
@@ -9,17 +9,14 @@ use Rattle.json.specs.Json as json
 use Rattle.json.specs.Json.{Json}
 use Rattle.json.specs.Find.{later_or}
 use Rattle.json.specs.Find as finds
-use Rattle.fast_float.specs.Text.{Parts}
-use Rattle.serde_json.specs.Data.{Num, float, Data, array, object, number, item, Members, no_members, put, negative}
-use Rattle.serde_json.specs.Read.{number_of, number_from, of_json, of_items, of_members}
-use Rattle.serde_json.specs.Find.{get, get_member, as_str, as_number, as_u64, as_null}
+use Rattle.serde_json.specs.Data.{Data, array, object, number, item, Members, no_members, put, negative}
+use Rattle.serde_json.specs.Read.{number_of, of_json, of_items, of_members}
+use Rattle.serde_json.specs.Find.{get, get_member, as_str, as_number}
 use Rattle.serde_json.proofs.Views.{get_member-put, get_member-put_other}
 use Rattle.tfs_json.specs.Kept.{is_wanted, with_member, kept, kept_items, kept_members, SpellsKept}
 use Rattle.tfs_json.specs.Json.{json_value}
-use Rattle.tfs_json.specs.Tree.{tree_data, items_data, members_data, Tree, tree_view}
+use Rattle.tfs_json.specs.Tree.{tree_data, items_data, members_data}
 use Rattle.tfs_json.proofs.Spelling.{same_some}
-use Rattle.json.specs.Value.{items_view}
-use Rattle.serde_json.specs.View.{items_of}
 
 -- Where something is there, it is this.
 abbrev Is : {A : Type 0} → Option A → A → Type 0
@@ -59,7 +56,8 @@ mutual
   are_items : (js : json.Items) → Is (of_items js) (items_data js)
   are_items json.no_items = refl
   are_items (json.item j js) =
-      is_then (λ d. option_map (item d) (of_items js)) (of_json j) (tree_data j) _ (is_tree j) (is_map (item (tree_data j)) (of_items js) (items_data js) (are_items js))
+      is_then (λ d. option_map (item d) (of_items js)) (of_json j) (tree_data j) _ (is_tree j)
+      (is_map (item (tree_data j)) (of_items js) (items_data js) (are_items js))
 
   are_members : (ms : json.Members) (found : Members) → Is (of_members ms found) (members_data ms found)
   are_members json.no_members found = refl
@@ -97,7 +95,8 @@ mutual
   are_pruned_items : (js : json.Items) → Is (kept_items js) (pruned_items js)
   are_pruned_items json.no_items = refl
   are_pruned_items (json.item j js) =
-      is_then (λ d. option_map (json.item d) (kept_items js)) (kept j) (pruned j) _ (is_pruned j) (is_map (json.item (pruned j)) (kept_items js) (pruned_items js) (are_pruned_items js))
+      is_then (λ d. option_map (json.item d) (kept_items js)) (kept j) (pruned j) _ (is_pruned j)
+      (is_map (json.item (pruned j)) (kept_items js) (pruned_items js) (are_pruned_items js))
 
   are_pruned_members : (ms : json.Members) → Is (kept_members ms) (pruned_members ms)
   are_pruned_members json.no_members = refl
@@ -231,63 +230,6 @@ some_is x y e = cc
 is_there : {A : Type 0} (o : Option A) (a b : A) → Is o a → o ≡ Some b → a ≡ b
 is_there None a b i e = cc
 is_there (Some x) a b i e = sym i ∙ some_is x b e
-
--- The text of a tree is that of its value.
-pub as_str-tree : (j : Json) → as_str (tree_data j) ≡ finds.as_str j
-as_str-tree json.null = refl
-as_str-tree (json.boolean b) = refl
-as_str-tree (json.number s) = refl
-as_str-tree (json.string s) = refl
-as_str-tree (json.array js) = refl
-as_str-tree (json.object ms) = refl
-
--- What stands in for no number is no whole number.
-u64_or : (o : Option Num) → as_u64 (unwrap_or o (negative (negsuc 0))) ≡ option_and_then as_u64 o
-u64_or None = refl
-u64_or (Some n) = refl
-
--- The whole number of a tree is that of its value.
-pub as_u64-tree : (j : Json)
-    → option_and_then as_u64 (as_number (tree_data j)) ≡ option_and_then (λ s. option_and_then as_u64 (number_of s)) (finds.as_number j)
-as_u64-tree json.null = refl
-as_u64-tree (json.boolean b) = refl
-as_u64-tree (json.number s) = u64_or (number_of s)
-as_u64-tree (json.string s) = refl
-as_u64-tree (json.array js) = refl
-as_u64-tree (json.object ms) = refl
-
--- A number with a sign in front is no whole number of this kind.
-pub not_whole : (p : Parts) → option_and_then as_u64 (number_from true p) ≡ None
-not_whole p = by _ _ _ _
-  where
-    by : (b c : Bool) (z : ℤ) (x : Float) → option_and_then as_u64 (cond b (Some (negative z)) (cond c (Some (float x)) None)) ≡ None
-    by true c z x = refl
-    by false true z x = refl
-    by false false z x = refl
-
--- Two views one after another.
-twice_mapped : {R : Type 0} (seen : R → Json) (o : Option R) → option_map (λ v. tree_data (seen v)) o ≡ option_map tree_data (option_map seen o)
-twice_mapped seen None = refl
-twice_mapped seen (Some x) = refl
-
--- What is found in a tree is what `serde_json` finds in its value.
-pub find-tree : {R : Type 0} (seen : R → Json) (r : Option R) (name : List ℕ) (j : Json) → option_map seen r ≡ finds.get name j
-    → option_map (λ v. tree_data (seen v)) r ≡ get name (tree_data j)
-find-tree seen r name j e = twice_mapped seen r ∙ ap (option_map tree_data) e ∙ sym (get-tree name j)
-
--- So is whether it is null.
-pub null-tree : (j : Json) → is_some (as_null (tree_data j)) ≡ finds.is_null j
-null-tree json.null = refl
-null-tree (json.boolean b) = refl
-null-tree (json.number s) = refl
-null-tree (json.string s) = refl
-null-tree (json.array js) = refl
-null-tree (json.object ms) = refl
-
--- The elements of a tree are those of its value.
-pub items_view-data : (vs : List Tree) → items_of (map tree_view vs) ≡ items_data (items_view vs)
-items_view-data [] = refl
-items_view-data (v ∷ vs) = ap (item (tree_view v)) (items_view-data vs)
 
 -- A value that was kept is the value of a whole one.
 pub kept_of : (bytes : List ℕ) (tree : Json) → SpellsKept bytes tree → (j : Json) × (json_value bytes ≡ Some (tree_data j)) × (tree ≡ pruned j)

@@ -1,6 +1,6 @@
 -- What is kept of a JSON value: of objects the members of some names, in the order of the text. What JSON is, how deep it may
 -- nest and which numbers are in range is `serde_json`'s answer.
-use Rattle.std.specs.Prelude.{◌≡◌, ℕ, List, length, codes, Bool, true, false, ◌||◌, if◌then◌else◌, Option, Some, None, option_map, option_and_then}
+use Rattle.std.specs.Prelude.{◌≡◌, ℕ, List, length, codes, Bool, true, false, ◌||◌, Option, Some, option_map, option_and_then}
 use Rattle.std.specs.Str.{bytes_eq}
 use Rattle.json.specs.Token.{Token}
 use Rattle.json.specs.Lex.{tokens}

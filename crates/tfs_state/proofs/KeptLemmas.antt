@@ -35,8 +35,10 @@ same_dependency i j k x = ap (λ s. ok_or (option_and_then path_text s) (Depende
 -- The key of an instance, where it is given.
 key_of_value : (x : Json) → key_given (Some (kept_data x)) ≡ key_given (Some (tree_data x))
 key_of_value x =
-    ap (λ n. option_or (option_map (λ n. Some (by_number n)) (option_and_then as_u64 n)) (option_map (λ text. Some (by_text text)) (as_str (kept_data x)))) (as_number-pruned x)
-    ∙ ap (λ s. option_or (option_map (λ n. Some (by_number n)) (option_and_then as_u64 (as_number (tree_data x)))) (option_map (λ text. Some (by_text text)) s)) (as_str-pruned x)
+    ap (λ n. option_or (option_map (λ n. Some (by_number n)) (option_and_then as_u64 n))
+    (option_map (λ text. Some (by_text text)) (as_str (kept_data x)))) (as_number-pruned x)
+    ∙ ap (λ s. option_or (option_map (λ n. Some (by_number n)) (option_and_then as_u64 (as_number (tree_data x))))
+    (option_map (λ text. Some (by_text text)) s)) (as_str-pruned x)
 
 -- So is one that may be absent.
 same_key : (x : Json) → key_given (member_at (codes "index_key") (kept_data x)) ≡ key_given (member_at (codes "index_key") (tree_data x))
@@ -69,7 +71,8 @@ read_members i j members =
 module _ (i j : ℕ) where
   -- An instance is read alike by the same members.
   same_members : (key : Option (Option InstanceKey)) (deposed : Option (Option (List ℕ))) (list : Option (List Json))
-      → read_members i j (given_members key deposed (option_map (map kept_data) list)) ≡ read_members i j (given_members key deposed (option_map (map tree_data) list))
+      → read_members i j (given_members key deposed (option_map (map kept_data) list))
+      ≡ read_members i j (given_members key deposed (option_map (map tree_data) list))
   same_members None deposed list = refl
   same_members (Some k) None list = refl
   same_members (Some k) (Some d) None = refl
@@ -82,8 +85,11 @@ module _ (i j : ℕ) where
       let idx = key_given (member_at (codes "index_key") (tree_data x)) in
       let dep = deposed_of (tree_data x) in
       let list = list_of (member_of (codes "dependencies") x) in
-      ap (read_members i j) (then_const (as_object (kept_data x)) (as_object (tree_data x)) (given_members (key_given (member_at (codes "index_key") (kept_data x))) (deposed_of (kept_data x)) (list_at (codes "dependencies") (kept_data x))) (as_object-pruned x)
-      ∙ ap (λ k. option_and_then (λ _. given_members k (deposed_of (kept_data x)) (list_at (codes "dependencies") (kept_data x))) (as_object (tree_data x))) (same_key x)
+      ap (read_members i j) (then_const (as_object (kept_data x)) (as_object (tree_data x))
+      (given_members (key_given (member_at (codes "index_key") (kept_data x))) (deposed_of (kept_data x))
+      (list_at (codes "dependencies") (kept_data x))) (as_object-pruned x)
+      ∙ ap (λ k. option_and_then (λ _. given_members k (deposed_of (kept_data x)) (list_at (codes "dependencies") (kept_data x)))
+      (as_object (tree_data x))) (same_key x)
       ∙ ap (λ d. option_and_then (λ _. given_members idx d (list_at (codes "dependencies") (kept_data x))) (as_object (tree_data x))) (same_deposed x)
       ∙ ap (λ l. option_and_then (λ _. given_members idx dep l) (as_object (tree_data x))) (list_at-kept (codes "dependencies") x refl))
       ∙ there (as_object (tree_data x)) idx dep list
@@ -125,7 +131,8 @@ module _ (i : ℕ) where
 
   -- They are read alike by the same members.
   same_given : (path : Option (List ℕ)) (mode : Option Mode) (kind name : Option (List ℕ)) (list : Option (List Json))
-      → read_given i (given_resource path mode kind name (option_map (map kept_data) list)) ≡ read_given i (given_resource path mode kind name (option_map (map tree_data) list))
+      → read_given i (given_resource path mode kind name (option_map (map kept_data) list))
+      ≡ read_given i (given_resource path mode kind name (option_map (map tree_data) list))
   same_given None mode kind name list = refl
   same_given (Some p) None kind name list = refl
   same_given (Some p) (Some m) None name list = refl
@@ -155,7 +162,8 @@ module _ (i : ℕ) where
 
 -- The resources are read alike.
 same_list : (list : Option (List Json))
-    → result_and_then read_resources (ok_or (option_map (map kept_data) list) (Resource 0)) ≡ result_and_then read_resources (ok_or (option_map (map tree_data) list) (Resource 0))
+    → result_and_then read_resources (ok_or (option_map (map kept_data) list) (Resource 0))
+    ≡ result_and_then read_resources (ok_or (option_map (map tree_data) list) (Resource 0))
 same_list None = refl
 same_list (Some xs) = ap (result_map joined) (same_each read_resource same_resource 0 xs)
 

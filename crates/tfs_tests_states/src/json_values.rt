@@ -12,7 +12,8 @@ use tfs_json::{
 
 /// An object with members of each kind, of which one is there twice and two aren't kept.
 const OBJECT: &str =
-    r#"{"serial":18446744073709551615,"lineage":"\u00e9\n","version":4.0,"index_key":-1,"deposed":"","mode":1e0,"module":null,"instances":[{}],"dependencies":[],"instances":[1,null],"ID":7,"I\u0044":"A","id":"B","outputs":[{}]}"#;
+    r#"{"serial":18446744073709551615,"lineage":"\u00e9\n","version":4.0,"index_key":-1,"deposed":"","mode":1e0,
+"module":null,"instances":[{}],"dependencies":[],"instances":[1,null],"ID":7,"I\u0044":"A","id":"B","outputs":[{}]}"#;
 
 /// A member each: its name, the whole number, the text, the text that may be absent, how long the list is that may be absent,
 /// and whether it is there.

@@ -5,6 +5,7 @@ use super::rows::{parts_of, repeated};
 use std::alloc::Global;
 use std::process::Abort;
 use std::test::Fail;
+use tfs_state::StateFault::{Dependency, Instance, Resource, TooManyInstances};
 use tfs_state::{Doc, MAX_STATE_BYTES, StateFault};
 
 /// Reads a text.
@@ -280,24 +281,20 @@ fn expect_words(
 
 #[test]
 fn faults_are_told_in_words(rt: HostRuntime) -> Result<(), Fail> {
+    expect_words(&rt, Resource(3), "resource 3 of the state isn't one")?;
     expect_words(
         &rt,
-        StateFault::Resource(3),
-        "resource 3 of the state isn't one",
-    )?;
-    expect_words(
-        &rt,
-        StateFault::Instance(3, 1),
+        Instance(3, 1),
         "instance 1 of resource 3 of the state isn't one",
     )?;
     expect_words(
         &rt,
-        StateFault::Dependency(3, 1, 2),
+        Dependency(3, 1, 2),
         "dependency 2 of instance 1 of resource 3 of the state is no address",
     )?;
     expect_words(
         &rt,
-        StateFault::TooManyInstances,
+        TooManyInstances,
         "the state has more than 4096 instances",
     )
 }

@@ -3,7 +3,7 @@ use Rattle.std.proofs.Common.{◌≡◌, option_and_then, drop, get_or, true, fa
 use Rattle.fast_float.specs.Text.{scan}
 use Rattle.serde_json.specs.Find.{as_u64}
 use Rattle.serde_json.specs.Read.{number_of, number_from}
-use Rattle.tfs_json.proofs.Looking.{not_whole}
+use Rattle.tfs_json.proofs.Trees.{not_whole}
 use Rattle.tfs_json.proofs.numbers.whole_of.Goals as goal
 
 pub returns-then-has_minus : goal.returns-then-has_minus

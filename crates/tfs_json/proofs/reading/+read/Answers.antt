@@ -1,12 +1,12 @@
 -- A turn of each loop, and each token.
-use Rattle.std.proofs.Common.{◌≡◌, ◌-◌, ◌<◌, [], ◌∷◌, ◌++◌, length, true, false, Some, None, option_map, refl, sym, ap, ap₂, ◌∙◌, arith, rules}
+use Rattle.std.proofs.Common.{◌≡◌, ◌-◌, ◌<◌, [], ◌∷◌, ◌++◌, length, Some, None, option_map, refl, sym, ap, ap₂, ◌∙◌, arith, rules}
 use Rattle.json.specs.Token.{Token}
 use Rattle.json.specs.Json.{Json, array, object, parse_map, after_end_array, read_key, items, members, value}
 use Rattle.json.specs.Reads.{token_of}
 use Rattle.json.specs.Value.{value_view}
 use Rattle.json.specs.declared.value.Value.{String, Number, Bool, Null, the_lemmas}
-use Rattle.json.proofs.Grammar.{left_some, left_none, value_is, value-begin_array, value-begin_object, read_key-shorter}
-use Rattle.json.proofs.Trees.{items_before, members_before, items_before-no_items, members_before-no_members, one_more_item, one_more_member, none_before, view-Array, view-Object}
+use Rattle.json.proofs.Grammar.{value_is, value-begin_array, value-begin_object, read_key-shorter}
+use Rattle.json.proofs.Trees.{items_before, members_before, items_before-no_items, members_before-no_members, one_more_item, none_before, view-Array, view-Object}
 use Rattle.serde_json.specs.Read.{number_of, converted}
 use Rattle.tfs_json.specs.Kept.{is_wanted, kept, kept_items, kept_members}
 use Rattle.tfs_json.proofs.Keeping.{there, not_there, kept-array, kept-object, item_read, item_refused, items_over, member_refused, member_taken, key_refused, members_over}
@@ -34,13 +34,17 @@ read-returns-then-depth-eq0-2-clause-err g t c never =
 pub read-returns-in_err-read_items-in-BeginArray-clause-err : goal.read-returns-in_err-read_items-in-BeginArray-clause-err
 read-returns-in_err-read_items-in-BeginArray-clause-err g t c refused =
     let first : c.args.reader.now ≡ token_of c.in_ok-token.token ∷ c.next.new.self = grind arith in
-    let opened = ap (converted kept) (ap (value c.args.depth) (first ∙ ap (λ k. token_of k ∷ c.next.new.self) c.in-BeginArray.is) ∙ value-begin_array c.args.depth c.next.new.self (omega arith)) ∙ kept-array (items (value (c.args.depth - 1)) (length c.next.new.self) c.next.new.self) in
+    let opened = ap (converted kept) (ap (value c.args.depth) (first ∙ ap (λ k. token_of k ∷ c.next.new.self) c.in-BeginArray.is)
+    ∙ value-begin_array c.args.depth c.next.new.self (omega arith))
+    ∙ kept-array (items (value (c.args.depth - 1)) (length c.next.new.self) c.next.new.self) in
     opened ∙ ap (parse_map array) (c.read_items.ensures.err (grind arith))
 
 pub read-returns-in_err-read_members-in-BeginObject-clause-err : goal.read-returns-in_err-read_members-in-BeginObject-clause-err
 read-returns-in_err-read_members-in-BeginObject-clause-err g t c refused =
     let first : c.args.reader.now ≡ token_of c.in_ok-token.token ∷ c.next.new.self = grind arith in
-    let opened = ap (converted kept) (ap (value c.args.depth) (first ∙ ap (λ k. token_of k ∷ c.next.new.self) c.in-BeginObject.is) ∙ value-begin_object c.args.depth c.next.new.self (omega arith)) ∙ kept-object (members (value (c.args.depth - 1)) (length c.next.new.self) c.next.new.self) in
+    let opened = ap (converted kept) (ap (value c.args.depth) (first ∙ ap (λ k. token_of k ∷ c.next.new.self) c.in-BeginObject.is)
+    ∙ value-begin_object c.args.depth c.next.new.self (omega arith))
+    ∙ kept-object (members (value (c.args.depth - 1)) (length c.next.new.self) c.next.new.self) in
     opened ∙ ap (parse_map object) (c.read_members.ensures.err (grind arith))
 
 pub read-returns-in-String-clause-ok : goal.read-returns-in-String-clause-ok
@@ -89,14 +93,18 @@ read-returns-in-EndObject-clause-err g t c refused =
 pub read-returns-in_ok-read_items-in-BeginArray-clause-ok : goal.read-returns-in_ok-read_items-in-BeginArray-clause-ok
 read-returns-in_ok-read_items-in-BeginArray-clause-ok g t c =
     let first : c.args.reader.now ≡ token_of c.in_ok-token.token ∷ c.next.new.self = grind arith in
-    let opened = ap (converted kept) (ap (value c.args.depth) (first ∙ ap (λ k. token_of k ∷ c.next.new.self) c.in-BeginArray.is) ∙ value-begin_array c.args.depth c.next.new.self (omega arith)) ∙ kept-array (items (value (c.args.depth - 1)) (length c.next.new.self) c.next.new.self) in
+    let opened = ap (converted kept) (ap (value c.args.depth) (first ∙ ap (λ k. token_of k ∷ c.next.new.self) c.in-BeginArray.is)
+    ∙ value-begin_array c.args.depth c.next.new.self (omega arith))
+    ∙ kept-array (items (value (c.args.depth - 1)) (length c.next.new.self) c.next.new.self) in
     let found = c.in_ok-read_items-in-BeginArray in
     opened ∙ ap (parse_map array) found.ensures.ok ∙ ap (λ d. Some (d, c.read_items.new.reader)) (sym (view-Array found.field-0))
 
 pub read-returns-in_ok-read_members-in-BeginObject-clause-ok : goal.read-returns-in_ok-read_members-in-BeginObject-clause-ok
 read-returns-in_ok-read_members-in-BeginObject-clause-ok g t c =
     let first : c.args.reader.now ≡ token_of c.in_ok-token.token ∷ c.next.new.self = grind arith in
-    let opened = ap (converted kept) (ap (value c.args.depth) (first ∙ ap (λ k. token_of k ∷ c.next.new.self) c.in-BeginObject.is) ∙ value-begin_object c.args.depth c.next.new.self (omega arith)) ∙ kept-object (members (value (c.args.depth - 1)) (length c.next.new.self) c.next.new.self) in
+    let opened = ap (converted kept) (ap (value c.args.depth) (first ∙ ap (λ k. token_of k ∷ c.next.new.self) c.in-BeginObject.is)
+    ∙ value-begin_object c.args.depth c.next.new.self (omega arith))
+    ∙ kept-object (members (value (c.args.depth - 1)) (length c.next.new.self) c.next.new.self) in
     let found = c.in_ok-read_members-in-BeginObject in
     opened ∙ ap (parse_map object) found.ensures.ok ∙ ap (λ d. Some (d, c.read_members.new.reader)) (sym (view-Object found.field-0))
 
@@ -178,7 +186,8 @@ read_members-members-preserved g t c =
       n - 1,
       omega (arith, l.invariant.1),
       l.invariant.2
-          ∙ member_taken c.args.depth n name l.reader s r l.found.items c.take_member.new.found.items (omega (arith, l.invariant.1)) named (is_wanted name.now) refl done.ok,
+          ∙ member_taken c.args.depth n name l.reader s r l.found.items c.take_member.new.found.items (omega (arith, l.invariant.1)) named
+          (is_wanted name.now) refl done.ok,
       omega (arith, l.invariant.3),
     )
 

@@ -21,7 +21,8 @@ decreases-take_member g l = 3 * l.depth + 1
 abbrev pub invariant-read_items-items : goal.invariant-read_items-items
 invariant-read_items-items g l =
     (n : ℕ) × (length l.reader ≤ n)
-    × (converted kept_items (items (value l.depth) (length l.initial.reader) l.initial.reader) ≡ parse_map (items_before l.found.items) (converted kept_items (items (value l.depth) n l.reader)))
+    × (converted kept_items (items (value l.depth) (length l.initial.reader) l.initial.reader)
+    ≡ parse_map (items_before l.found.items) (converted kept_items (items (value l.depth) n l.reader)))
     × (length l.reader ≤ length l.initial.reader)
 
 abbrev pub decreases-read_items-items : goal.decreases-read_items-items
@@ -30,7 +31,8 @@ decreases-read_items-items g l = length l.reader
 abbrev pub invariant-read_members-members : goal.invariant-read_members-members
 invariant-read_members-members g l =
     (n : ℕ) × (length l.reader ≤ n)
-    × (converted kept_members (members (value l.depth) (length l.initial.reader) l.initial.reader) ≡ parse_map (members_before l.found.items) (converted kept_members (members (value l.depth) n l.reader)))
+    × (converted kept_members (members (value l.depth) (length l.initial.reader) l.initial.reader)
+    ≡ parse_map (members_before l.found.items) (converted kept_members (members (value l.depth) n l.reader)))
     × (length l.reader ≤ length l.initial.reader)
 
 abbrev pub decreases-read_members-members : goal.decreases-read_members-members
