@@ -1,6 +1,7 @@
 """The limits of `tfstated serve`: how long a client may wait or make it wait, how many connections it serves at once, and how many reads
 one of them gets. The checks that wait for time to go by are run beside each other, each on a server of its own."""
 import concurrent.futures
+import contextlib
 import functools
 import os
 import socket
@@ -15,11 +16,12 @@ from stdio_program import request_text
 STARTING = threading.Lock()
 MAX_READS, MAX_WORKERS = 1048576, 16
 LONG = S1.ljust(16 << 20)
-# A write that has sent a part waits its ten seconds for the rest, and tells then how much it has sent; the connection ends by the first
-# that can't send anything. So it takes ten seconds or a few times as many, as the system's buffers want it.
-WRITE_SECONDS = (9, 45)
-READ_SECONDS = (9, 18)
+# Ten seconds in which nothing can be written, after those in which the system's buffers take something.
+WRITE_SECONDS = (9, 30)
+IDLE_SECONDS = (1.9, 6)
 REQUEST_SECONDS = (59, 72)
+# A minute, and a second for each 1,000,000 of the bytes of a long reply; then a look, and what was written before.
+REPLY_SECONDS = (75, 90)
 SLOW = []
 
 
@@ -47,6 +49,13 @@ def small_connection(server):
 def expect_between(seconds, limits, about):
     """Fails where something took less or more time than it may."""
     expect(limits[0] < seconds < limits[1], True, f"{about}: {seconds:.1f} s")
+
+
+def read_slowly(connection):
+    """Reads 4 KB twice a second, until there is nothing more or the connection is closed."""
+    with contextlib.suppress(OSError):
+        while connection.recv(4096):
+            time.sleep(0.5)
 
 
 def expect_next(server, began, limits, about):
@@ -83,11 +92,23 @@ def check_a_client_that_reads_slowly_gets_all():
 
 
 @slow
+def check_a_client_that_reads_too_slowly_is_left_at_the_limit_of_its_reply():
+    server = started(1)
+    expect(server.ask("POST", "/state/a", LONG), (200, b""))
+    with small_connection(server) as connection:
+        connection.sendall(request_text("GET", "/state/a"))
+        began = time.monotonic()
+        threading.Thread(target=read_slowly, args=(connection,), daemon=True).start()
+        time.sleep(SECONDS)  # the next client waits no longer than that
+        expect_next(server, began, REPLY_SECONDS, "the client after one that reads slowly")
+
+
+@slow
 def check_the_17th_client_is_served_once_a_silent_one_is_left():
     server, silent = started(MAX_WORKERS), []
     for _ in range(MAX_WORKERS):
         silent.append(server.connect())
-    expect_next(server, time.monotonic(), READ_SECONDS, "the client after sixteen that are silent")
+    expect_next(server, time.monotonic(), IDLE_SECONDS, "the client after sixteen that are silent")
     for number, connection in enumerate(silent):
         with connection:
             expect(connection.recv(1), b"", f"silent client {number} is left")

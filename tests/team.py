@@ -124,7 +124,7 @@ class Client(threading.Thread):
     def __init__(self, number, team):
         super().__init__(daemon=True)
         self.number, self.team, self.rng = number, team, random.Random(number)
-        self.connection, self.server = None, None
+        self.connection, self.server, self.used = None, None, 0
 
     def run(self):
         while (server := self.team.current()) is not None:
@@ -151,6 +151,8 @@ class Client(threading.Thread):
 
     def ask(self, method, target, body=None):
         """The status and the body of the reply."""
+        if time.monotonic() - self.used > 1:
+            self.drop()  # the server closes it soon
         if self.connection is None:
             host, port = self.server.address.split(":")
             self.connection = http.client.HTTPConnection(host, int(port), timeout=SECONDS)
@@ -158,7 +160,9 @@ class Client(threading.Thread):
         fields = {"User-Agent": "Go-http-client/1.1", "Content-Type": "application/json", "Accept-Encoding": "gzip", **digest}
         self.connection.request(method, target, body=body, headers=fields)
         with self.connection.getresponse() as reply:
-            return reply.status, reply.read()
+            status, text = reply.status, reply.read()
+        self.used = time.monotonic()
+        return status, text
 
     def submit(self, change, method, target, body):
         """Asks for a change, and keeps it where it is acknowledged: the status and the body of the reply."""

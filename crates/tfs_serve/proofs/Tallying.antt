@@ -138,4 +138,11 @@ pub as_many_told : (answers : List Answer) → length (positions_told answers) �
 as_many_told [] = refl
 as_many_told (a ∷ more) =
     let rest = as_many_told more in
-    omega (arith, counted_told a.reply, rest, length-append (position_told a.reply) (positions_told more), sum_by-cons (λ (b : Answer). accepted_by b.reply) a more)
+    omega (
+      arith,
+      counted_told a.reply,
+      rest,
+      length-append (position_told a.reply) (positions_told more),
+      sum_by-cons
+          (λ (b : Answer). accepted_by b.reply) a more,
+    )

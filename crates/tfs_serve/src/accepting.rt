@@ -3,11 +3,14 @@
 ghost use Rattle.std.specs.Prelude.{◌≡◌, Some, IfErr};
 ghost use Rattle.tfs_serve.specs.Accepting.{IsFinal, error_of, remedy_for, remedy_by_number};
 
+use crate::limits::LOOK_MILLISECONDS;
 use std::io::ErrorKind;
-use std::net::OpenListener;
+use std::net::{OpenListener, TcpListener, TcpStream};
+use std::os::fd::OwnedFd;
 use std::sync::Wait;
-use std::thread;
+use std::sync::atomic::{AtomicBool, Ordering};
 use std::time::{Clock, Duration};
+use std::{io, thread};
 use thiserror::Error;
 
 /// A worker waits so long before it asks again for a connection where the system lacks descriptors or memory.
@@ -30,7 +33,7 @@ pub struct AcceptFault {
 impl AcceptFault {
     /// The error.
     pub fn error(&self) -> AcceptError
-        ensures { result ≡ error_of self.now }
+        ensures value { result ≡ error_of self.now }
     {
         self.error
     }
@@ -138,22 +141,36 @@ impl<'l, L: OpenListener> Listener for Listening<'l, L> {
     }
 }
 
-/// The next connection. It waits until there is one, or the listener has told an error after which it is of no use.
+/// A listener whose waits look up now and then, so that a worker which waits sees that conversations are to end. With another one it sees
+/// that at the next connection.
+pub fn limit_waits(listener: TcpListener) -> io::Result<TcpListener> {
+    // The option is the socket's; the type of a listener can't set it.
+    let socket = TcpStream::from(OwnedFd::from(listener));
+    socket.set_read_timeout(Some(Duration::from_millis(LOOK_MILLISECONDS)))?;
+    Ok(TcpListener::from(OwnedFd::from(socket)))
+}
+
+/// The next connection. It waits until there is one, the listener has told an error after which it is of no use, or conversations are to
+/// end: then there is none.
 pub(crate) fn accepted<L: Listener, R: Wait + Clock>(
     rt: &R,
     listener: &mut L,
-) -> Result<L::Stream, AcceptFault>
+    ended: &AtomicBool,
+) -> Result<Option<L::Stream>, AcceptFault>
     ensures told { IfErr result (λ fault. L.told listener.new ≡ Some (error_of fault)) }
     ensures ends { IfErr result (λ fault. IsFinal (error_of fault)) }
 {
     for _ in rt.forever() {
         match listener.accept() {
-            Ok(stream) => return Ok(stream),
+            Ok(stream) => return Ok(Some(stream)),
             Err(error) => match remedy_of(error.kind, error.number) {
                 Remedy::Again => {}
                 Remedy::Pause => thread::sleep(rt, Duration::from_millis(PAUSE_MILLISECONDS)),
                 Remedy::End => return Err(AcceptFault { error }),
             },
+        }
+        if ended.load(Ordering::SeqCst) {
+            return Ok(None);
         }
     }
     unreachable!()

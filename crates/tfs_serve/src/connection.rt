@@ -1,92 +1,158 @@
-//! Connections with limits of time.
+//! The two ends of a connection, with limits of time.
 
-use std::cell::Cell;
+ghost use Rattle.std.specs.Prelude.{◌<◌, IfOk};
+ghost use Rattle.std.specs.Io.{ReadsAtMost, WritesAtMost};
+ghost use Rattle.std.specs.Io.KnownBytes.{ReadConsumes, WriteAppends};
+
+use crate::limits::{LOOK_MILLISECONDS, MAX_LOOKS};
+use crate::timing::Timing;
 use std::io;
-use std::io::{Read, Write};
+use std::io::{ErrorKind, Read, Write};
 use std::net::TcpStream;
 use std::time::{Clock, Duration};
-use tfs_conversation::{LentFault, Outlet, Source, Watched};
+use tfs_conversation::{LentFault, Outlet, Source};
 
-/// A read or a write that waits longer than these seconds ends its connection.
-pub const MAX_WAIT_SECONDS: u64 = 10;
-
-/// A request that isn't whole these seconds after its first byte ends its connection, at the next read.
-pub const MAX_REQUEST_SECONDS: u64 = 60;
-
-/// Sets the limits of time of a connection, and that what is written goes out at once.
+/// Has reads and writes of a connection look up now and then, and what is written go out at once.
 pub(crate) fn limit(stream: &TcpStream) -> io::Result<()> {
-    let wait = Duration::from_secs(MAX_WAIT_SECONDS);
-    stream.set_read_timeout(Some(wait))?;
-    stream.set_write_timeout(Some(wait))?;
+    let look = Duration::from_millis(LOOK_MILLISECONDS);
+    stream.set_read_timeout(Some(look))?;
+    stream.set_write_timeout(Some(look))?;
     stream.set_nodelay(true)
 }
 
-/// The reading end of a connection, which tells what its stream tells. It keeps when the request that is read began, and fails where that
-/// is too long ago.
+/// The reading end of a connection, which tells what its stream tells. It fails where that fails, where the client takes too long, and
+/// where the conversation is to end.
 #[derive(Drop)]
-pub(crate) struct Incoming<'r, 'b, R: Clock, S: Read> {
-    pub(crate) rt: &'r R,
-    pub(crate) stream: Watched<S>,
-    pub(crate) began: &'b Cell<Option<Duration>>,
+pub(crate) struct Incoming<'t, 'r, 'e, R: Clock, S: Read> {
+    timing: &'t Timing<'r, 'e, R>,
+    stream: S,
+    has_failed: bool,
 }
 
-impl<'r, 'b, R: Clock, S: Read> Incoming<'r, 'b, R, S> {
-    /// Whether the request that is read began too long ago. Where no clock tells, it didn't.
-    fn is_late(&self) -> bool {
-        let Some(began) = self.began.get() else {
-            return false;
-        };
-        match self.rt.monotonic() {
-            Ok(now) => now.saturating_sub(began) > Duration::from_secs(MAX_REQUEST_SECONDS),
-            Err(_) => false,
-        }
-    }
-
-    /// Keeps when the request began.
-    fn begin(&self) {
-        if self.began.get().is_some() {
-            return;
-        }
-        if let Ok(now) = self.rt.monotonic() {
-            self.began.set(Some(now));
+impl<'t, 'r, 'e, R: Clock, S: Read> Incoming<'t, 'r, 'e, R, S> {
+    /// It hasn't failed.
+    pub(crate) fn new(timing: &'t Timing<'r, 'e, R>, stream: S) -> Incoming<'t, 'r, 'e, R, S> {
+        Incoming {
+            timing,
+            stream,
+            has_failed: false,
         }
     }
 }
 
-impl<'r, 'b, R: Clock, S: Read> Source for Incoming<'r, 'b, R, S> {
-    ghost remaining = { λ i. S.remaining i.stream.inner };
+impl<'t, 'r, 'e, R: Clock, S: Read> Source for Incoming<'t, 'r, 'e, R, S> {
+    ghost remaining = { λ i. S.remaining i.stream };
 
-    ghost failed = { λ i. i.stream.has_failed };
+    ghost failed = { λ i. i.has_failed };
 
     fn read(&mut self, buf: &mut [u8]) -> Result<usize, LentFault> {
-        if self.is_late() {
-            self.stream.has_failed = true;
+        if self.has_failed || self.timing.ends_reading() {
+            self.has_failed = true;
             return Err(LentFault);
         }
-        match self.stream.read(buf) {
+        let result = read_in_time(self.timing, &mut self.stream, buf);
+        self.has_failed = result.is_err();
+        result
+    }
+}
+
+/// Reads once something has come.
+#[tactic(auto, using(crate::proofs::Keeping::keeps_then, crate::proofs::Keeping::kept_read))]
+fn read_in_time<R: Clock, S: Read>(
+    timing: &Timing<'_, '_, R>,
+    stream: &mut S,
+    buf: &mut [u8],
+) -> Result<usize, LentFault>
+    ensures bound { ReadsAtMost result buf.new }
+    ensures bytes { ReadConsumes (S.remaining stream.old) (S.remaining stream.new) result buf.new }
+{
+    let since = timing.now();
+    for _look in 0..MAX_LOOKS {
+        match stream.read(buf) {
             Ok(count) => {
-                self.begin();
-                Ok(count)
+                timing.has_read();
+                return Ok(count);
             }
-            Err(fault) => Err(fault),
+            Err(error) => {
+                if !passes(&error) || timing.ends_waiting(since) {
+                    return Err(LentFault);
+                }
+            }
+        }
+    }
+    Err(LentFault)
+}
+
+/// The writing end of a connection, which tells what its stream tells. It fails where that fails or takes nothing, where the client
+/// takes too long, and where the conversation is to end.
+#[derive(Drop)]
+pub(crate) struct Outgoing<'t, 'r, 'e, R: Clock, S: Write> {
+    timing: &'t Timing<'r, 'e, R>,
+    stream: S,
+    has_failed: bool,
+}
+
+impl<'t, 'r, 'e, R: Clock, S: Write> Outgoing<'t, 'r, 'e, R, S> {
+    /// It hasn't failed.
+    pub(crate) fn new(timing: &'t Timing<'r, 'e, R>, stream: S) -> Outgoing<'t, 'r, 'e, R, S> {
+        Outgoing {
+            timing,
+            stream,
+            has_failed: false,
         }
     }
 }
 
-/// The writing end of a connection, which tells what its stream tells. A reply ends the time of its request.
-#[derive(Drop)]
-pub(crate) struct Outgoing<'b, S: Write> {
-    pub(crate) stream: Watched<S>,
-    pub(crate) began: &'b Cell<Option<Duration>>,
-}
+impl<'t, 'r, 'e, R: Clock, S: Write> Outlet for Outgoing<'t, 'r, 'e, R, S> {
+    ghost contents = { λ o. S.contents o.stream };
 
-impl<'b, S: Write> Outlet for Outgoing<'b, S> {
-    ghost contents = { λ o. S.contents o.stream.inner };
-
-    ghost failed = { λ o. o.stream.has_failed };
+    ghost failed = { λ o. o.has_failed };
 
     fn write(&mut self, text: &[u8]) -> Result<usize, LentFault> {
-        self.began.set(None);
-        self.stream.write(text)
+        self.timing.has_written(0);
+        if self.has_failed || self.timing.ends_writing(text.len()) {
+            self.has_failed = true;
+            return Err(LentFault);
+        }
+        let result = write_in_time(self.timing, &mut self.stream, text);
+        self.has_failed = result.is_err();
+        result
+    }
+}
+
+/// Writes once something is taken.
+#[tactic(auto, using(crate::proofs::Keeping::keeps_then, crate::proofs::Keeping::kept_write))]
+fn write_in_time<R: Clock, S: Write>(
+    timing: &Timing<'_, '_, R>,
+    stream: &mut S,
+    text: &[u8],
+) -> Result<usize, LentFault>
+    ensures bound { WritesAtMost result text.now }
+    ensures bytes { WriteAppends (S.contents stream.old) (S.contents stream.new) result text.now }
+    ensures some { IfOk result (λ n. 0 < n) }
+{
+    let since = timing.now();
+    for _look in 0..MAX_LOOKS {
+        match stream.write(text) {
+            Ok(0) => return Err(LentFault),
+            Ok(count) => {
+                timing.has_written(count);
+                return Ok(count);
+            }
+            Err(error) => {
+                if !passes(&error) || timing.ends_waiting_to_write(since, text.len()) {
+                    return Err(LentFault);
+                }
+            }
+        }
+    }
+    Err(LentFault)
+}
+
+/// Whether a read or a write is tried again after this error: it has waited, or a signal came.
+fn passes(error: &io::Error) -> bool {
+    match error.kind() {
+        ErrorKind::WouldBlock | ErrorKind::Interrupted => true,
+        _ => false,
     }
 }

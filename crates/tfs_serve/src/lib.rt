@@ -3,20 +3,29 @@
 
 mod accepting;
 mod connection;
+mod crew;
 mod gate;
 mod gated;
 mod laws;
+mod leaving;
+mod limits;
 mod run;
+mod runtime;
 mod serving;
 mod session_desk;
+mod timing;
 mod worker;
 
-pub use accepting::{AcceptError, AcceptFault, PAUSE_MILLISECONDS, Remedy, remedy_of};
-pub use connection::{MAX_REQUEST_SECONDS, MAX_WAIT_SECONDS};
+pub use accepting::{AcceptError, AcceptFault, PAUSE_MILLISECONDS, Remedy, limit_waits, remedy_of};
 pub use gate::{Gate, Open};
 pub use gated::Gated;
 pub use laws::{accepted_changes_stand_in_the_last_journal, all_replies_follow_one_journal};
-pub use run::{Obstacle, Run, Served, Unserved, serve};
+pub use limits::{
+    LOOK_MILLISECONDS, MAX_ENDING_SECONDS, MAX_IDLE_SECONDS, MAX_REPLY_SECONDS,
+    MAX_REQUEST_SECONDS, MAX_WAIT_SECONDS, REPLY_BYTES_A_SECOND,
+};
+pub use run::{Obstacle, Run, Served, Unserved, serve, serve_until};
+pub use runtime::Runtime;
 pub use serving::work;
 pub use session_desk::{MAX_BYTES_AT_ONCE, Service, SessionDesk};
 pub use tfs_conversation::{

@@ -11,16 +11,17 @@ use crate::connection::{Incoming, Outgoing, limit};
 use crate::gate::Gate;
 use crate::gated::Gated;
 use crate::session_desk::{Service, SessionDesk};
-use std::cell::Cell;
+use crate::timing::Timing;
 use std::net::{OpenListener, TcpStream};
 use std::sync::Wait;
 use std::time::Clock;
-use tfs_conversation::{Outlet, Reads, Source, Watched, converse};
+use tfs_conversation::{Outlet, Reads, Source, converse};
 use tfs_records::Sink;
 use tfs_shared::{Naming, Session};
 
 /// Takes connections one after the other while the gate admits, and has a conversation over the session on each. A fault of a
 /// connection ends that connection alone; one that was gone before it was taken is passed over, and the gate isn't asked again for it.
+/// Where conversations are to end, a wait for a connection ends too, and the gate is asked again.
 /// Afterwards the session has seen all that it had seen before; what became of it came of the calls that it answered, and the gate has
 /// heard of all of these.
 #[tactic(auto, using(crate::proofs::Later::later_itself, crate::proofs::Later::later_then))]
@@ -42,38 +43,47 @@ pub fn work<L: OpenListener<Stream = TcpStream>, J: Naming, K: Sink, G: Gate, R:
         if !gate.admit() {
             return Ok(());
         }
-        let stream = match accepted(service.rt, &mut listening) {
-            Ok(stream) => stream,
+        match accepted(service.rt, &mut listening, service.ended) {
+            Ok(stream) => serve(service, stream, gate, session),
             Err(fault) => return Err(fault),
-        };
-        serve(service, &stream, gate, session);
+        }
     }
     unreachable!()
 }
 
-/// Has a conversation on a connection.
+/// Has a conversation on a connection, if there is one.
 fn serve<J: Naming, K: Sink, G: Gate, R: Wait + Clock>(
     service: &Service<'_, J, K, R>,
-    stream: &TcpStream,
+    stream: Option<TcpStream>,
     gate: &mut G,
     session: &mut Session<J>,
 )
     ensures later { IsLater session.old session.new }
     ensures answered { HasAnswered J.opening (G.told gate.old) (G.told gate.new) session.old session.new }
 {
-    if limit(stream).is_err() {
+    let Some(stream) = stream else {
+        return;
+    };
+    if limit(&stream).is_err() {
         return;
     }
-    let began = Cell::new(None);
-    let mut reader = Incoming {
-        rt: service.rt,
-        stream: Watched::new(stream),
-        began: &began,
-    };
-    let mut writer = Outgoing {
-        stream: Watched::new(stream),
-        began: &began,
-    };
+    let timing = Timing::new(service.rt, service.ended);
+    serve_in_time(&timing, &stream, service, gate, session);
+}
+
+/// Has a conversation on a connection, whose time begins.
+fn serve_in_time<J: Naming, K: Sink, G: Gate, R: Wait, C: Clock>(
+    timing: &Timing<'_, '_, C>,
+    stream: &TcpStream,
+    service: &Service<'_, J, K, R>,
+    gate: &mut G,
+    session: &mut Session<J>,
+)
+    ensures later { IsLater session.old session.new }
+    ensures answered { HasAnswered J.opening (G.told gate.old) (G.told gate.new) session.old session.new }
+{
+    let mut reader = Incoming::new(timing, stream);
+    let mut writer = Outgoing::new(timing, stream);
     let desk = SessionDesk { service, session };
     converse_once(&mut reader, &mut writer, &mut Gated { desk, gate });
 }

@@ -8,6 +8,7 @@ ghost use Rattle.tfs_calls.specs.declared.call.Call.TheVariants.{Read as CallRea
 ghost use Rattle.tfs_serve.specs.Session.{SessionStep};
 
 use std::alloc::Global;
+use std::sync::atomic::AtomicBool;
 use std::sync::{Mutex, MutexGuard, Wait};
 use tfs_calls::{Call, Draft, Query, Raw, Refusal, Reply, a_change_is_answered_as_its_act_is};
 use tfs_conversation::Desk;
@@ -19,13 +20,15 @@ use tfs_shared::{Naming, Session, Shared};
 pub const MAX_BYTES_AT_ONCE: usize = 1_048_576;
 
 /// What the sessions of a shared table are served with: the handle to wait, the allocator, the table, and a lock of its own. A push of
-/// more than 1 MiB is read while that is locked, and it is free again before the table's is taken.
+/// more than 1 MiB is read while that is locked, and it is free again before the table's is taken. Once `ended` is set, conversations are
+/// to end between two requests.
 #[derive(Drop)]
 pub struct Service<'s, J: Naming, K: Sink, R: Wait> {
     pub rt: &'s R,
     pub alloc: Global,
     pub shared: &'s Shared<J, K>,
     pub turn: &'s Mutex<()>,
+    pub ended: &'s AtomicBool,
 }
 
 /// A desk that asks a shared table through a session, which it is lent. Changes and reads wait for the table's lock; impact queries

@@ -7,10 +7,12 @@ ghost use Rattle.tfs_serve.specs.Session.{IsLater};
 ghost use Rattle.tfs_serve.specs.Working.{HasWorked, end_of_work};
 
 use crate::gate::Gate;
+use crate::runtime::Runtime;
 use crate::serving::work;
 use crate::session_desk::Service;
 use std::alloc::Global;
 use std::net::{OpenListener, TcpStream};
+use std::sync::atomic::AtomicBool;
 use std::sync::{Mutex, Wait};
 use std::thread;
 use std::thread::Threads;
@@ -63,6 +65,34 @@ pub fn work_all<
         → HasWorked J.opening (G.told (slice_index_or workers.old i d).gate) (G.told (slice_index_or workers.new i d).gate)
         (slice_index_or workers.old i d).session (slice_index_or workers.new i d).session (end_of_work (slice_index_or workers.new i d).failed) }
 {
+    let ended = AtomicBool::new(false);
+    let runtime = Runtime {
+        rt,
+        alloc,
+        ended: &ended,
+    };
+    work_until(&runtime, listener, workers, shared);
+}
+
+/// The same until conversations are asked to end and the gates have said no.
+pub(crate) fn work_until<
+    L: OpenListener<Stream = TcpStream> + Sync,
+    J: Naming + Send + Sync,
+    K: Sink + Send,
+    G: Gate + Send,
+    R: Threads + Wait + Clock + Sync,
+>(runtime: &Runtime<'_, R>, listener: &L, workers: &mut [Worker<J, G>], shared: &Shared<J, K>)
+    ensures later { (i : ℕ) (d : _) → i < length workers.old
+        → IsLater (slice_index_or workers.old i d).session (slice_index_or workers.new i d).session }
+    ensures admitted { (i : ℕ) (d : _) → i < length workers.old
+        → (slice_index_or workers.new i d).failed ≡ true → IsAdmitted (G.told (slice_index_or workers.new i d).gate) }
+    ensures closed { (i : ℕ) (d : _) → i < length workers.old
+        → (slice_index_or workers.new i d).failed ≡ false → IsClosed (G.told (slice_index_or workers.new i d).gate) }
+    ensures worked { (i : ℕ) (d : _) → i < length workers.old
+        → HasWorked J.opening (G.told (slice_index_or workers.old i d).gate) (G.told (slice_index_or workers.new i d).gate)
+        (slice_index_or workers.old i d).session (slice_index_or workers.new i d).session (end_of_work (slice_index_or workers.new i d).failed) }
+{
+    let (rt, alloc, ended) = (runtime.rt, runtime.alloc, runtime.ended);
     let even = Mutex::new(());
     let odd = Mutex::new(());
     thread::for_each_mut(
@@ -82,6 +112,7 @@ pub fn work_all<
                 alloc,
                 shared,
                 turn,
+                ended,
             };
             worker.run(&service, listener)
         },

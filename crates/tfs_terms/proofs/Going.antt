@@ -29,6 +29,10 @@ pub goes_on_then : (first opening last next : Journal) → GoesOn first opening 
 goes_on_then first opening last next goes term rebased =
     (goes.0 ++ last ∷ [], goes_by_then first opening last next goes.0 goes.1 term rebased)
 
+-- A journal begins with itself.
+pub begins_itself : (j : Journal) → BeginsWith j j
+begins_itself = begins_with_itself
+
 -- The opening journal of a term itself is an end.
 pub ends_at : (first opening : Journal) → GoesOn first opening → EndsOn first opening
 ends_at first opening goes = (opening, goes, begins_with_itself opening)

@@ -53,16 +53,21 @@ pub(crate) fn read(rt: &(impl AllocGlobal + Env)) -> Option<Command> {
         ("check", Some(file), None, None, None) => Some(Command::Check(file)),
         ("rebase", Some(old), Some(new), None, None) => Some(Command::Rebase(old, new)),
         ("serve", Some(address), Some(number), Some(new), old) => {
-            let workers = workers_in(number.as_str())?;
-            Some(Command::Serve(Serving {
-                address,
-                workers,
-                new,
-                old,
-            }))
+            serve_with(address, number.as_str(), new, old)
         }
         _ => None,
     }
+}
+
+/// The command `serve` with these arguments; none where the number is none of workers.
+fn serve_with(address: String, number: &str, new: String, old: Option<String>) -> Option<Command> {
+    let workers = workers_in(number)?;
+    Some(Command::Serve(Serving {
+        address,
+        workers,
+        new,
+        old,
+    }))
 }
 
 /// The number of workers that a text tells: decimal, without leading zeros or a sign, from 1 to 16.

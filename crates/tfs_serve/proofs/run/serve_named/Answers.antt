@@ -1,13 +1,7 @@
--- A table that wasn't served has the opening journal.
+-- A table that wasn't shared has the opening journal.
 use Rattle.std.proofs.Common.{◌∙◌, ap}
 use Rattle.tfs_serve.proofs.Later.{begins_as}
 use Rattle.tfs_serve.proofs.run.serve_named.Goals as goal
 
 pub returns-in-Err-clause-kept : goal.returns-in-Err-clause-kept
 returns-in-Err-clause-kept g c = begins_as _ _ (ap (λ t. t.journal) c.in-Err.ensures.back ∙ c.requires.named.5)
-
-pub returns-in_default-clause-kept : goal.returns-in_default-clause-kept
-returns-in_default-clause-kept g c = begins_as _ _ c.taken_back-table.ensures.journal
-
-pub returns-in-Err-listen-clause-kept : goal.returns-in-Err-listen-clause-kept
-returns-in-Err-listen-clause-kept g c = begins_as _ _ c.taken_back-table-in-Err-listen.ensures.journal

@@ -26,6 +26,8 @@ returns-clause-answered g c =
     let told = g.G.Gate.told in
     call_reaches _ (λ a b. HasAnswered g.J.Naming.opening (told a.gate.now) (told b.gate.now) a.desk.session.now b.desk.session.now)
     (λ s. answered_nothing g.J.Naming.opening (told s.gate.now) s.desk.session.now)
-    (λ a b d p q. answered_then g.J.Naming.opening (told a.gate.now) (told b.gate.now) (told d.gate.now) a.desk.session.now b.desk.session.now d.desk.session.now p q)
-    (λ old new call reply step. answered_one g.J.Naming.opening (told old.gate.now) (told new.gate.now) old.desk.session.now new.desk.session.now call reply step.1.0.1 step.1.1)
+    (λ a b d p q. answered_then g.J.Naming.opening (told a.gate.now) (told b.gate.now) (told d.gate.now) a.desk.session.now b.desk.session.now
+    d.desk.session.now p q)
+    (λ old new call reply step. answered_one g.J.Naming.opening (told old.gate.now) (told new.gate.now) old.desk.session.now new.desk.session.now call
+    reply step.1.0.1 step.1.1)
     _ _ _ _ _ _ _ _ _ c.converse.ensures.ended c.converse.ensures.fault

@@ -1,7 +1,7 @@
 -- The sessions of the workers so far, and what became of these.
 use Rattle.std.proofs.Common.{◌≡◌, ◌≤◌, length, map, vec_capacity}
 use Rattle.tfs_records.specs.Journal.{position_of}
-use Rattle.tfs_serve.proofs.run.parted.Given as goal
+use Rattle.tfs_serve.proofs.leaving.parted.Given as goal
 
 abbrev pub invariant-loop-worker : goal.invariant-loop-worker
 invariant-loop-worker g l = record {

@@ -4,6 +4,7 @@ use denote.Builtin.{unit}
 use denote.Exit.{no}
 use denote.Param.{param}
 use denote.Param.Send.{sendable, param_sync, arg_sync, shr_sync}
+use Rattle.std.proofs.sync.atomic.AtomicBool.TheSendSync as atomic
 use Rattle.std.proofs.sync.Mutex.TheSendSync as mutex
 use Rattle.std.proofs.alloc.Global.TheSendSync as global
 use Rattle.tfs_shared.proofs.Crossing.{shared_sync}
@@ -11,16 +12,16 @@ use Rattle.tfs_serve.specs.Accepting.{IsAdmitted}
 use Rattle.tfs_serve.specs.Gate.{IsClosed}
 use Rattle.tfs_serve.specs.Session.{IsLater}
 use Rattle.tfs_serve.specs.Working.{HasWorked, end_of_work}
-use Rattle.tfs_serve.proofs.Captures.{six_sync}
-use Rattle.tfs_serve.proofs.worker.work_all.Goals as goal
+use Rattle.tfs_serve.proofs.Captures.{seven_sync}
+use Rattle.tfs_serve.proofs.worker.work_until.Goals as goal
 
 pub for_each_mut-requires-sync-F : goal.for_each_mut-requires-sync-F
 for_each_mut-requires-sync-F g c κs within =
     let table = shared_sync (param 1 g.row.J) (param 2 g.row.K) g.J.Naming g.J.Ledger g.K.Sink c.type_bounds.send-K in
     let turn = mutex.the_sync unit (search sendable) in
-    param_sync 2 _ (arg_sync _ no _ (six_sync _ _ _ _ _ _ _
+    param_sync 2 _ (arg_sync _ no _ (seven_sync _ _ _ _ _ _ _ _
     (shr_sync _ _ _ turn) (shr_sync _ _ _ turn) (shr_sync _ _ _ c.type_bounds.sync-R) (shr_sync _ _ _ global.the_sync) (shr_sync _ _ _ table)
-    (shr_sync _ _ _ c.type_bounds.sync-L)))
+    (shr_sync _ _ _ atomic.the_sync) (shr_sync _ _ _ c.type_bounds.sync-L)))
 
 pub returns : goal.returns
 returns g c = record {
@@ -39,5 +40,6 @@ returns g c = record {
       let told = g.G.Gate.told in
       let new = slice_index_or c.for_each_mut.new.s i d in
       subst (λ w. HasWorked g.J.Naming.opening (told w.gate) (told new.gate) w.session new.session (end_of_work new.failed)) at.argument_is
-      (subst (λ w. HasWorked g.J.Naming.opening (told at.argument.now.gate) (told w.gate) at.argument.now.session w.session (end_of_work w.failed)) at.left at.call.1.1.1);
+      (subst (λ w. HasWorked g.J.Naming.opening (told at.argument.now.gate) (told w.gate) at.argument.now.session w.session (end_of_work w.failed))
+      at.left at.call.1.1.1);
 }

@@ -4,7 +4,7 @@ use Rattle.tfs_published.specs.Beginning.{BeginsWith}
 use Rattle.tfs_shared.specs.Signed.{AreSigned}
 use Rattle.tfs_shared.specs.View.{SessionView}
 use Rattle.tfs_serve.proofs.Running.{run_of}
-use Rattle.tfs_serve.proofs.run.attend.Goals as goal
+use Rattle.tfs_serve.proofs.crew.attend.Goals as goal
 
 pub returns-in-Ok : goal.returns-in-Ok
 returns-in-Ok g c =
@@ -19,7 +19,7 @@ returns-in-Ok g c =
     record {
       run = run_of (λ w. w.gate) told (λ w. w.session) (λ w. w.failed) _ _ opening last c.args.crew.gates.items c.filled-workers.result.items
           c.worked-workers.result.items c.parted-sessions.result.1.items (λ w. refl) c.filled-workers.ensures.gates
-          c.parted-sessions.ensures.served c.requires.some c.is_kept.ensures.kept.lawful c.in-Ok.ensures.opening
+          c.parted-sessions.ensures.served c.requires.some c.in-Ok.ensures.lawful c.in-Ok.ensures.opening
           c.filled-workers.ensures.sessions c.worked-workers.ensures.worked c.worked-workers.ensures.len begun signed grows;
       kept = tt;
     }

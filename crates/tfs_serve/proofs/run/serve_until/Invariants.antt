@@ -1,6 +1,6 @@
 -- The names of the history and of the ledger that were just opened, and the journal that the table has.
 use Rattle.std.proofs.Common.{length}
-use Rattle.tfs_serve.proofs.run.serve.Given as goal
+use Rattle.tfs_serve.proofs.run.serve_until.Given as goal
 
 abbrev pub ghosts-serve_named-J-Naming : goal.ghosts-serve_named-J-Naming
 ghosts-serve_named-J-Naming g a = record { book = a.blanks.opened; opening = a.table.journal; sessions = length a.asked.gates.items }

@@ -1,0 +1,111 @@
+//! What a run leaves.
+
+ghost use Rattle.std.specs.Prelude.{◌≡◌, ◌+◌, ◌≤◌, All, [], length, map, sum_by, vec_capacity, IfOk, IfErr};
+ghost use Rattle.tfs_records.specs.Journal.{position_of};
+ghost use Rattle.tfs_table.specs.Lawful.{IsLawful};
+ghost use Rattle.tfs_published.specs.Beginning.{BeginsWith};
+ghost use Rattle.tfs_shared.specs.Signed.{AreSigned};
+ghost use Rattle.tfs_shared.specs.View.{AreNew};
+
+use crate::gate::Gate;
+use crate::run::Served;
+use crate::worker::Worker;
+use std::sync::Wait;
+use tfs_records::Sink;
+use tfs_shared::{Naming, Session, Shared, Strangers, gather};
+use tfs_table::Table;
+
+/// The table of sessions that have made no calls.
+pub(crate) fn taken_back<J: Naming, K: Sink, R: Wait>(
+    rt: &R,
+    shared: Shared<J, K>,
+    sessions: Vec<Session<J>>,
+) -> Table<K>
+    requires new { AreNew J.opening J.sessions sessions.items }
+    ensures journal { result.journal ≡ J.opening }
+{
+    match gather(rt, shared, sessions) {
+        Ok(table) => table,
+        Err(_) => unreachable!(),
+    }
+}
+
+/// The table of sessions that have worked, with all that they have seen; or, where a session had seen more than the table's journal, the
+/// table alone.
+pub(crate) fn gathered<J: Naming, K: Sink, R: Wait>(
+    rt: &R,
+    shared: Shared<J, K>,
+    sessions: Vec<Session<J>>,
+) -> Result<Table<K>, Table<K>>
+    ensures opening { IfOk result (λ table. BeginsWith table.journal J.opening) }
+    ensures lawful { IfOk result (λ table. IsLawful table.journal) }
+    ensures seen { IfOk result (λ table. All (λ session. BeginsWith table.journal session.journal) sessions.items) }
+    ensures signed { IfOk result (λ table. AreSigned J.opening table.journal sessions.items) }
+    ensures counted { IfOk result (λ table. length table.journal.entries
+        ≡ length J.opening.entries + sum_by (λ session. session.accepted) sessions.items) }
+    ensures kept { IfErr result (λ table. BeginsWith table.journal J.opening) }
+{
+    match gather(rt, shared, sessions) {
+        Ok(table) => {
+            // The journal is lawful.
+            table.is_kept();
+            Ok(table)
+        }
+        Err(strangers) => {
+            let Strangers {
+                shared,
+                sessions: _sessions,
+                why: _,
+            } = strangers;
+            Err(shared.close(rt))
+        }
+    }
+}
+
+/// The sessions of workers, and what became of each worker.
+pub(crate) fn parted<J: Naming, G: Gate + Drop>(
+    workers: Vec<Worker<J, G>>,
+    sessions: Vec<Session<J>>,
+    served: Vec<Served<G>>,
+) -> (Vec<Session<J>>, Vec<Served<G>>)
+    requires sessions { (sessions.items ≡ []) × (length workers.items ≤ vec_capacity sessions) }
+    requires served { (served.items ≡ []) × (length workers.items ≤ vec_capacity served) }
+    ensures sessions { result.0.items ≡ map (λ worker. worker.session) workers.items }
+    ensures served { result.1.items ≡ map (λ worker. record {
+      gate = worker.gate;
+      failed = worker.failed;
+      seen = position_of worker.session.journal;
+      accepted = worker.session.accepted;
+    }) workers.items }
+{
+    let mut sessions = sessions;
+    let mut all = served;
+    for worker in workers {
+        let Worker {
+            gate,
+            session,
+            failed,
+        } = worker;
+        let served = served_by(&session, gate, failed);
+        sessions.push(session).unwrap();
+        all.push(served).unwrap();
+    }
+    (sessions, all)
+}
+
+/// What became of a worker with this session.
+fn served_by<J: Naming, G: Gate>(session: &Session<J>, gate: G, failed: bool) -> Served<G>
+    ensures value { result ≡ record {
+      gate = gate;
+      failed = failed;
+      seen = position_of session.now.journal;
+      accepted = session.now.accepted;
+    } }
+{
+    Served {
+        gate,
+        failed,
+        seen: session.seen(),
+        accepted: session.accepted(),
+    }
+}
