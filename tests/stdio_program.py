@@ -1,46 +1,22 @@
 """Gets the built program for the checks, and runs it over pipes."""
 import fcntl
-import os
 import socket
 import struct
 import subprocess
-import sys
 import termios
 import threading
 import time
-from pathlib import Path
 
+from built import program
 from checking import SECONDS, STARTED, expect
+from repository import TOP
 
-TOP = Path(__file__).resolve().parent.parent
 CRATE = TOP / "crates" / "tfstated"
-BUILT = CRATE / "out" / "tfstated"
 MAX_READ = 65536
 USAGE = b"usage: tfstated stdio | check FILE | rebase OLD NEW | serve ADDR WORKERS NEW [OLD]\n"
 
 
-def is_current():
-    """Whether the program was built after the last change of what it is built from."""
-    if not BUILT.is_file():
-        return False
-    built = BUILT.stat().st_mtime
-    sources = [TOP / "crates.txt", *TOP.glob("crates/*/src/**/*.rt")]
-    return all(source.stat().st_mtime <= built for source in sources)
-
-
-def program():
-    """The path of the program. `rt ci` leaves it built; where it isn't there, or is older than its sources, it is proved
-    and built now. The variable TFSTATED names another build."""
-    if "TFSTATED" in os.environ:
-        return os.environ["TFSTATED"]
-    if not is_current():
-        built = subprocess.run(["rt", "run", "--", "stdio"], cwd=CRATE, stdin=subprocess.DEVNULL, check=False)
-        if built.returncode != 0:
-            sys.exit("the program can't be built: see `rt run` in crates/tfstated")
-    return str(BUILT)
-
-
-PROGRAM = program()
+PROGRAM = program("tfstated", "stdio")
 
 
 def run(data, *arguments, **how):

@@ -1,0 +1,78 @@
+//! The command `check`: what the journals of a folder are, and whether each goes on from the one before it.
+
+use std::alloc::Global;
+use std::io::{self, Write};
+use std::process::ExitCode;
+use tfs_files::{End, Fault, Place, end_by, files_of, numbers_here};
+use tfs_folder::{Chosen, FolderFile, choose};
+use tfs_journal::End as JournalEnd;
+use tfs_records::Discard;
+use tfs_table::Table;
+
+/// Prints a line for each journal of a folder, and one for the journal that a start goes on from. Gives the program's status.
+pub(crate) fn run(rt: &HostRuntime, folder: &str) -> ExitCode {
+    match checked(rt, folder) {
+        Ok(()) => ExitCode::SUCCESS,
+        Err(end) => end_by(rt, folder, end),
+    }
+}
+
+/// Checks a folder.
+fn checked(rt: &HostRuntime, folder: &str) -> Result<(), End> {
+    let numbers = numbers_here(rt, folder)?;
+    let files = files_of(rt, folder, numbers.as_slice(), None)?;
+    if tell_files(rt, files.as_slice()).is_err() {
+        return Err(End::at(Place::Command, Fault::Write));
+    }
+    match choose(rt.alloc(), files, 0) {
+        Ok(chosen) => match tell_choice(rt, &chosen) {
+            Ok(()) => Ok(()),
+            Err(_) => Err(End::at(Place::Command, Fault::Write)),
+        },
+        Err(unchosen) => Err(End::unchosen(unchosen, 0)),
+    }
+}
+
+/// Prints a line for each file.
+fn tell_files(rt: &HostRuntime, files: &[FolderFile]) -> io::Result<()> {
+    for file in files {
+        let line = line_of(rt.alloc(), file)?;
+        rt.println(line.as_str())?;
+    }
+    Ok(())
+}
+
+/// What a journal is: its base, its position, its names and its end, or its fault.
+fn line_of(alloc: Global, file: &FolderFile) -> io::Result<String> {
+    let name = file.name();
+    match Table::open(alloc, file.bytes(), Discard) {
+        Ok((table, end)) => {
+            let (base, position, names) = (
+                table.base().position(),
+                table.position(),
+                table.names(),
+            );
+            let end = end_text(alloc, end)?;
+            Ok(format!(in alloc; "{name}: base {base}, position {position}, {names} names, {end}")?)
+        }
+        Err(fault) => Ok(format!(in alloc; "{name}: {fault}")?),
+    }
+}
+
+/// How a journal ends.
+fn end_text(alloc: Global, end: JournalEnd) -> io::Result<String> {
+    match end {
+        JournalEnd::Whole => Ok(String::from_str(alloc, "whole")?),
+        JournalEnd::Torn(at) => Ok(format!(in alloc; "torn at byte {at}")?),
+        JournalEnd::Damaged(at) => Ok(format!(in alloc; "damaged at byte {at}")?),
+    }
+}
+
+/// Prints which journal a start goes on from.
+fn tell_choice(rt: &HostRuntime, chosen: &Chosen) -> io::Result<()> {
+    let (number, position) = (chosen.number, chosen.table.position());
+    if let Some(left) = chosen.left {
+        println!(rt; "journal-{left:010}.tfj was left by a start that failed")?;
+    }
+    println!(rt; "a start goes on from journal-{number:010}.tfj at position {position}")
+}

@@ -1,0 +1,43 @@
+//! The start of a server: the lock, the address, the least position, and the table.
+
+use crate::command::Serving;
+use std::fs::{self, File};
+use std::net::TcpListener;
+use tfs_files::{End, Fault, Place, PositionFile, Start, least_position, locked, raised, started};
+use tfs_records::FileSink;
+use tfs_table::Table;
+
+/// A folder that is ready to be served: its lock, which is kept as long as the file is open, the listener, the file of the least position,
+/// and the table over its next journal.
+#[derive(Drop)]
+pub(crate) struct Ready {
+    pub(crate) lock: File,
+    pub(crate) listener: TcpListener,
+    pub(crate) least: Option<PositionFile>,
+    pub(crate) table: Table<FileSink>,
+}
+
+/// Takes the lock of a folder and the address, and makes the folder's next journal; or ends by the first fault.
+pub(crate) fn start(rt: &HostRuntime, asked: &Serving<'_>) -> Result<Ready, End> {
+    let begins = asked.start.first.is_some();
+    if begins {
+        let _ = fs::create_dir_all(rt, asked.start.folder);
+    }
+    let lock = locked(rt, asked.start.folder)?;
+    let Ok(listener) = TcpListener::bind(rt, asked.listen) else {
+        return Err(End::at(Place::Address, Fault::CannotBind));
+    };
+    let least = PositionFile::named(rt, asked.least_file, begins)?;
+    let start = Start {
+        least: least_position(asked.start.least, &least),
+        ..asked.start
+    };
+    let table = started(rt, &start)?;
+    let least = raised(rt, least, table.position())?;
+    Ok(Ready {
+        lock,
+        listener,
+        least,
+        table,
+    })
+}

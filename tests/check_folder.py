@@ -1,0 +1,297 @@
+"""Runs `tfstatectl` on folders of journals: starts on whole and broken ones, histories that parted, starts that were cut off, and folders at
+random, which are compared with a plain model. No change that was acknowledged may be missing afterwards, and what a person has to look
+at is never passed over."""
+import os
+import random
+import shutil
+import sys
+
+from check_commands import some_journal, some_record
+from checking import S1, S2, checks_in, expect, run_checks
+from folder_model import Fault, chosen, number_of, started
+from folder_program import Serving, ended, run, served
+from folders import (A, B, LOCK, LOOPBACK, NEWEST, PUSH1, PUSH2, PUSH3, REBASED, SHORT, all_of, at_once, fresh, journals, named)
+from repository import TOP
+
+EMPTY = b"TFJ1\n"
+STATUSES = {"TornBase": 3, "Damaged": 4, "Unlawful": 5, "NoJournal": 6, "NotFirst": 6, "Parted": 6, "TooFar": 6, "TwoOfName": 6,
+            "NotAtLeast": 7, "NoFolder": 8, "Locked": 1, "CannotWrite": 1, "CannotBind": 1, "CannotRead": 1}
+
+
+def refused(folder, fault, about, *words):
+    """A start that ends with a fault, and changes nothing: what it tells."""
+    before = all_of(folder)
+    status, output, errors = ended(folder, *words)
+    expect((status, output, f": {fault}" in errors, len(errors.splitlines())), (STATUSES[fault], "", True, 1), f"{about}: {errors}")
+    expect(all_of(folder), before, f"{about}: nothing is changed")
+    return errors
+
+
+def old_of(folder):
+    """What the journals hold that were put away, by their numbers."""
+    return journals(folder / "old")
+
+
+def check_help_and_version():
+    version = (TOP / "VERSION").read_text().split("\n")
+    expect(run("--version"), (0, f"tfstatectl {version[0]} ({version[1]})\n", ""))
+    status, output, errors = run("--help")
+    expect((status, errors), (0, ""))
+    expect(all(word in output for word in ("serve", "check", "Status:")), True, output)
+    status, output, _ = run("serve", "--help")
+    options = ("--listen", "--workers", "--keep", "--first", "--at-least", "FOLDER")
+    expect((status, [word for word in options if word not in output]), (0, []))
+
+
+def check_wrong_arguments():
+    folder = fresh(n1=NEWEST)
+    table = [(), ("serve",), ("check",), ("serve", folder, "more"), ("serve", folder, "--workers", "0"), ("serve", folder, "--workers", "17"),
+             ("serve", folder, "--workers", "x"), ("serve", folder, "--keep", "-1"), ("serve", folder, "--at-least", "x"),
+             ("serve", folder, "--unknown"), ("other", folder), ("serve", folder, "--listen")]
+    for words in table:
+        status, output, errors = run(*words)
+        expect((status, output, bool(errors)), (2, "", True), words)
+    taken = Serving(fresh(n1=SHORT)).listens()
+    for address in ("nowhere", LOOPBACK, f"{LOOPBACK}:x", f"{LOOPBACK}:65536", f"{LOOPBACK}:{taken.port}"):
+        errors = refused(folder, "CannotBind", address, "--listen", address)
+        expect(address in errors, True, errors)
+
+
+def check_the_first_start_is_asked_for():
+    folder = fresh()
+    shutil.rmtree(folder)
+    status, _, errors = ended(folder)
+    expect((status, "NoFolder" in errors, folder.exists()), (8, True, False), errors)
+    folder.mkdir()
+    errors = refused(folder, "NoJournal", "an empty folder")
+    expect("--first" in errors, True, errors)
+    answer, line = served(folder, "--first")
+    expect((answer, " 0 names" in line), ((404, b'{"error":"NoState"}'), True), line)
+    expect(journals(folder), {1: b"TFJ2\n" + started(0, EMPTY)[5:]})
+    refused(folder, "NotFirst", "it has a journal", "--first")
+    for inside in ("journal-0000000007.tfj", "old/journal-0000000007.tfj", "served"):
+        had = fresh()
+        (had / inside).parent.mkdir(exist_ok=True)
+        (had / inside).write_bytes(EMPTY)
+        errors = refused(had, "NotFirst", inside, "--first")
+        expect(inside.startswith("served") or named(7) in errors, True, errors)
+
+
+def check_a_folder_begins_with_a_file():
+    for data in (EMPTY + PUSH1 + PUSH2 + LOCK, NEWEST, NEWEST[:-1] + b"", REBASED):
+        folder, given = fresh(), fresh() / "given"
+        given.write_bytes(data)
+        answer, _ = served(folder, "--first", given)
+        expect(answer, (200, S2), data)
+        expect((journals(folder), given.read_bytes()), ({1: started(0, data)}, data))
+    for data, fault in ((NEWEST[:40], "TornBase"), (b"TFJ3\n", "Damaged"), (SHORT + PUSH2 + PUSH1, "Unlawful")):
+        folder, given = fresh(), fresh() / "given"
+        given.write_bytes(data)
+        refused(folder, fault, data, "--first", given)
+    refused(fresh(), "CannotRead", "no file", "--first", fresh() / "none")
+
+
+def check_each_start_goes_on_in_a_shorter_journal():
+    folder = fresh(n1=EMPTY)
+    for serial in range(1, 6):
+        server, text = Serving(folder, "--keep", "2").listens(), S1.replace(b"1 ", b"%d " % serial)
+        if serial > 1:
+            expect(server.ask("GET", "/state/a"), (200, text.replace(b"%d " % serial, b"%d " % (serial - 1))))
+        expect(server.ask("POST", "/state/a", text), (200, b""))
+        line = server.kill()
+        expect(f"{named(serial + 1)}.tfj from position {serial - 1}: " in line, True, line)
+        expect((sorted(journals(folder)), sorted(old_of(folder))), ([serial + 1], [1, 2, 3, 4, 5][max(0, serial - 2) : serial]))
+    expect((folder / f"{named(6)}.tfj").stat().st_mode & 0o777, 0o600, "nobody else reads it")
+
+
+def check_journals_that_went_before_are_put_away():
+    table = [({"n4": NEWEST}, [4]), ({"n3": NEWEST, "n4": REBASED}, [3, 4]), ({"n1": EMPTY + PUSH1, "n3": NEWEST, "n4": REBASED}, [1, 3, 4])]
+    for files, numbers in table:
+        folder = fresh(**files)
+        answer, line = served(folder)
+        expect((answer, " from position 3: 92 bytes, 1 names, " in line), ((200, S2), True), line)
+        expect(old_of(folder), {number: files[f"n{number}"] for number in numbers})
+        expect(journals(folder), {5: REBASED})
+
+
+def check_names_of_others_are_left_alone():
+    folder = fresh(n3=NEWEST)
+    others = ("journal-1.tfj", "copy.tfj", "journal-0000000004 (1).tfj", "journal-0000000009.tfj.part", "Journal-0000000009.tfj",
+              "journal-00000000009.tfj", "journal-000000000x.tfj", "journal-0000000009.tfk", b"journal-\xff00000009.tfj")
+    for name in others:
+        (folder / os.fsdecode(name)).write_bytes(SHORT)
+    before = all_of(folder)
+    expect(served(folder)[0], (200, S2))
+    after = all_of(folder)
+    expect([name for name in before if name != f"{named(3)}.tfj" and after.get(name) != before[name]], [])
+
+
+def start_refused(case):
+    """A start over journals of which that of number 4 can't be gone on with."""
+    about, files, fault = case
+    errors = refused(fresh(**files), fault, about)
+    expect(named(4) in errors, True, f"{about}: {errors}")
+
+
+def check_what_cant_be_gone_on_with_stops_the_start():
+    changed = NEWEST[:60] + bytes([NEWEST[60] ^ 1]) + NEWEST[61:]
+    late = NEWEST[:-1] + bytes([NEWEST[-1] ^ 1])
+    table = [("a base", changed, "Damaged"), ("the last record", late, "Damaged"), ("a header", b"TFJ3\n", "Damaged"),
+             ("a lower serial", SHORT + PUSH2 + PUSH1, "Unlawful"), ("a write without the lock", NEWEST + PUSH3, "Unlawful"),
+             ("part of a base", NEWEST[:50], "TornBase"), ("no bytes", b"", "TornBase"), ("part of a header", b"TF", "TornBase")]
+    others = [{}, {"n5": REBASED}, {"n5": REBASED, "n6": REBASED}]
+    at_once(start_refused, [(about, {**other, "n4": data}, fault) for about, data, fault in table for other in others])
+
+
+def check_histories_that_parted_stop_the_start():
+    """A went on with number 3 when B had gone on from it, or another history has the later number."""
+    table = [({"n3": SHORT + PUSH2, "n4": SHORT + LOCK}, "one was cut off, and lived on"), ({"n3": NEWEST, "n4": SHORT}, "an older copy"),
+             ({"n3": SHORT, "n4": b"TFJ2\n" + started(0, SHORT + PUSH2)[5:]}, "a later one is missing between"),
+             ({"n3": NEWEST, "n4": EMPTY}, "an empty one"), ({"n3": SHORT, "n4": EMPTY + PUSH1}, "the same in format 1"),
+             ({"n3": NEWEST, "n4": NEWEST}, "the same bytes"), ({"n2": SHORT, "n4": NEWEST[: len(SHORT) - 1] + b"", "n5": REBASED}, "a gap")]
+    for files, about in table[:-1]:
+        errors = refused(fresh(**files), "Parted", about)
+        expect(named(4) in errors, True, errors)
+    folder = fresh(n3=SHORT)
+    first = Serving(folder).listens()
+    other = fresh(n4=(folder / f"{named(4)}.tfj").read_bytes())
+    expect(first.ask("POST", "/state/a", S2), (200, b""), "A lives on")
+    second = Serving(other).listens()
+    expect(second.ask("LOCK", "/state/a", B), (200, b""), "B was started from a copy")
+    first.kill()
+    second.kill()
+    shutil.copy(other / f"{named(5)}.tfj", folder)
+    refused(folder, "Parted", "A's change isn't B's")
+
+
+def start_over_a_cut_base(count):
+    """Starts where the start before was cut off when it had written so many bytes of the new journal."""
+    folder = fresh(n3=NEWEST, n4=REBASED[:count])
+    expect(served(folder)[0], (200, S2), f"the first {count} bytes")
+    is_cut = count < len(REBASED)
+    expect((folder / "failed-start").exists(), is_cut, f"the first {count} bytes")
+    expect((journals(folder), sorted(old_of(folder))), ({5: REBASED}, [3] if is_cut else [3, 4]))
+
+
+def check_a_start_that_was_cut_off_is_set_aside():
+    at_once(start_over_a_cut_base, [*range(8), *range(8, len(REBASED), 7), len(REBASED) - 1, len(REBASED)])
+    for cut in (REBASED[:30] + bytes([REBASED[30] ^ 1]), SHORT[:40], REBASED[:12] + b"\1"):
+        start_refused(("no beginning of it", {"n3": NEWEST, "n4": cut}, "TornBase"))
+
+
+def check_a_torn_end_is_left_out():
+    for count in range(len(NEWEST) - len(LOCK) + 1, len(NEWEST), 8):
+        folder = fresh(n3=NEWEST[:count])
+        server = Serving(folder).listens()
+        expect(server.ask("GET", "/state/a"), (200, S2), f"{count} bytes")
+        expect(server.ask("LOCK", "/state/a", A), (200, b""), "the lock that was torn was never acknowledged")
+        server.kill()
+
+
+def check_two_of_one_name_stop_the_start():
+    folder = fresh(n3=NEWEST)
+    (folder / "old").mkdir()
+    (folder / "old" / f"{named(3)}.tfj").write_bytes(SHORT)
+    refused(folder, "TwoOfName", "old/ has it, too")
+
+
+def check_the_lock_keeps_two_servers_off_one_folder():
+    folder = fresh(n1=SHORT)
+    first = Serving(folder).listens()
+    refused(folder, "Locked", "the folder is served")
+    expect(first.ask("POST", "/state/a", S2), (200, b""))
+    first.kill()
+    expect(served(folder)[0], (200, S2))
+
+
+def is_sound(data):
+    try:
+        return bool(started(0, data))
+    except Fault:
+        return False
+
+
+def mostly_sound(chance, journal, made):
+    """What is made of a journal at random, again and again until it is sound, but for a few."""
+    data = made(journal)
+    while not is_sound(data) and chance.random() < 0.95:
+        data = made(journal)
+    return data
+
+
+def some_folder(chance):
+    """The files of a folder at random: journals that follow one another, most of them sound."""
+    journal, files = mostly_sound(chance, b"", lambda _: some_journal(chance)), {}
+    for number in sorted(chance.sample(range(1, 30), chance.choice([0, 1, 2, 2, 2, 3, 3, 4]))):
+        for _ in range(chance.choice([0, 0, 1, 2])):
+            journal = mostly_sound(chance, journal, lambda data: data + some_record(chance))
+        files[f"{named(number)}.tfj"] = journal
+        if not is_sound(journal):
+            journal = mostly_sound(chance, b"", lambda _: some_journal(chance))
+        elif chance.random() < 0.95:
+            journal = started(number, journal)
+    return files
+
+
+def broken(chance, files):
+    """The same folder, of which at times a file is cut, grown, swapped with another one, or has another name."""
+    names = sorted(files)
+    kind = chance.choice(["none", "none", "cut", "cut last", "grow", "swap", "rename"]) if names else "none"
+    if kind in ("cut", "cut last"):
+        name = names[-1] if kind == "cut last" else chance.choice(names)
+        files[name] = files[name][: chance.randrange(len(files[name]) + 1)]
+    elif kind == "grow":
+        files[chance.choice(names)] += some_record(chance)
+    elif kind == "swap":
+        first, second = chance.choice(names), chance.choice(names)
+        files[first], files[second] = files[second], files[first]
+    elif kind == "rename":
+        files[chance.choice([f"{named(31)}.tfj.part", "copy", f"{named(31)}.tfj"])] = files.pop(chance.choice(names))
+    return files
+
+
+def expect_random(case):
+    """A start on a folder at random does what the model says, and so does `check`: the name of the fault, or of none."""
+    turn, files = case
+    folder = fresh()
+    for name, data in files.items():
+        (folder / name).write_bytes(data)
+    about = f"folder {turn}: {files}"
+    try:
+        number, data, left = chosen(files)
+    except Fault as fault:
+        errors = refused(folder, fault.args[0], about)
+        expect(fault.args[1] is None or named(fault.args[1]) in errors, True, f"{about}: {errors}")
+        expect(run("check", folder)[0], STATUSES[fault.args[0]], about)
+        return fault.args[0]
+    expect(run("check", folder)[0], 0, about)
+    server = Serving(folder).listens()
+    server.kill()
+    new = max(number_of(name) for name in files if number_of(name) is not None) + 1
+    expect(journals(folder), {new: started(number, data)}, about)
+    put_away = {number_of(name): content for name, content in files.items() if number_of(name) not in (None, left)}
+    expect(old_of(folder), put_away, about)
+    return "left" if left else "served"
+
+
+def check_random_folders_are_served_as_the_model_says():
+    chance = random.Random(20260611)
+    cases = [(turn, broken(chance, some_folder(chance))) for turn in range(500)]
+    met = set(at_once(expect_random, cases))
+    expect(met, {"NoJournal", "Damaged", "Unlawful", "TornBase", "Parted", "TooFar", "left", "served"}, "each end is met")
+
+
+def check_check_tells_of_each_journal():
+    folder = fresh(n3=NEWEST, n4=REBASED[:40])
+    wanted = (f"{named(3)}.tfj: base 1, position 3, 1 names, whole\n{named(4)}.tfj: the journal ends inside its base\n"
+              f"{named(4)}.tfj was left by a start that failed\na start goes on from {named(3)}.tfj at position 3\n")
+    before = all_of(folder)
+    expect(run("check", folder), (0, wanted, ""))
+    status, output, errors = run("check", fresh(n3=NEWEST, n4=SHORT))
+    expect((status, output.count("\n"), "Parted" in errors, named(4) in errors), (6, 2, True, True), errors)
+    expect(all_of(folder), before)
+    expect((run("check", fresh())[0], run("check", fresh() / "none")[0]), (6, 8))
+
+
+if __name__ == "__main__":
+    sys.exit(run_checks(checks_in(globals())))

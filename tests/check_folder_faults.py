@@ -1,0 +1,168 @@
+"""Starts of `tfstatectl` that are killed at each call, on disks that are full, and over journals of which a byte has changed: the next start has
+all that was acknowledged, or ends with a named fault."""
+import os
+import resource
+import shutil
+import signal
+import subprocess
+import sys
+
+from checking import S2, checks_in, expect, run_checks
+from folder_program import Serving, ended, served
+from journal_reader import read_journal
+from serve_program import preloaded
+from folders import A, B, NEWEST, PUSH1, REBASED, S1, S3, all_of, at_once, fresh, journals, named
+
+EMPTY = b"TFJ1\n"
+
+
+def expect_newest(server):
+    """Checks that a server has all that the journal NEWEST has."""
+    expect(server.listens().ask("GET", "/state/a"), (200, S2))
+    expect(server.ask("LOCK", "/state/a", A), (423, B))
+
+
+def limit_files(size):
+    """Lets files grow to a size, and takes the signal away that would tell."""
+    def limit():
+        signal.signal(signal.SIGXFSZ, signal.SIG_IGN)
+        resource.setrlimit(resource.RLIMIT_FSIZE, (size, size))
+    return limit
+
+
+def check_files_that_cant_grow_lose_nothing():
+    for size in (0, 1, 40, len(REBASED) - 1):
+        folder = fresh(n1=NEWEST)
+        status, _, errors = ended(folder, preexec_fn=limit_files(size))
+        expect((status, "CannotWrite" in errors), (1, True), f"files of {size} bytes: {errors}")
+        expect(all_of(folder), {f"{named(1)}.tfj": NEWEST}, f"files of {size} bytes")
+        expect(served(folder)[0], (200, S2))
+    folder = fresh(n1=NEWEST)
+    server = Serving(folder, preexec_fn=limit_files(len(REBASED) + 30))
+    expect_newest(server)
+    expect(server.ask("POST", "/state/a?ID=B", S3), (500, b'{"error":"JournalFault"}'))
+    status, errors = server.end()
+    expect((status, f"{folder}: JournalFault" in errors), (10, True), errors)
+    reads = Serving(folder, "--serve-reads", preexec_fn=limit_files(len(REBASED) + 30)).listens()
+    expect(reads.ask("POST", "/state/a?ID=B", S3), (500, b'{"error":"JournalFault"}'))
+    expect(reads.ask("POST", "/state/a?ID=B", S3), (503, b'{"error":"JournalStopped"}'))
+    expect(reads.ask("GET", "/state/a"), (200, S2))
+    reads.kill()
+    again = Serving(folder)
+    expect_newest(again)
+    again.kill()
+
+
+LEFT = {"n2": EMPTY + PUSH1, "n3": NEWEST, "n4": REBASED, "n5": REBASED[:50]}
+
+
+def kill_at(turn):
+    """Kills a start before the call whose turn it is, and starts again."""
+    folder = fresh(**LEFT)
+    (folder / f"{named(6)}.tfj.part").write_bytes(REBASED[:50])
+    server = Serving(folder, env={**os.environ, "LD_PRELOAD": SHIM, "TURN": str(turn)})
+    expect(server.end()[0], -signal.SIGKILL, f"turn {turn}")
+    expect(served(folder)[0], (200, S2), f"turn {turn}")
+    expect(sorted(journals(folder / "old"))[:3], [2, 3, 4], f"turn {turn}")
+    expect(list(journals(folder).values()), [REBASED], f"turn {turn}")
+
+
+def check_a_kill_at_each_call_loses_nothing():
+    folder, count = fresh(**LEFT), fresh() / "count"
+    Serving(folder, env={**os.environ, "LD_PRELOAD": SHIM, "TURN": "0", "COUNT": str(count)}).listens().kill()
+    turns = len(count.read_bytes())
+    expect(turns > 15, True, f"there are {turns} calls")
+    at_once(kill_at, range(1, turns + 1))
+
+
+def kill_first_at(turn):
+    """Kills the first start of a folder before the call whose turn it is, and asks for it again."""
+    folder = fresh()
+    server = Serving(folder, "--first", env={**os.environ, "LD_PRELOAD": SHIM, "TURN": str(turn)})
+    expect(server.end()[0], -signal.SIGKILL, f"turn {turn}")
+    is_made = bool(journals(folder))
+    expect(served(folder, *([] if is_made else ["--first"]))[0][0], 404, f"turn {turn}")
+
+
+def check_a_first_start_that_is_killed_is_done_again():
+    count = fresh() / "count"
+    Serving(fresh(), "--first", env={**os.environ, "LD_PRELOAD": SHIM, "TURN": "0", "COUNT": str(count)}).listens().kill()
+    turns = len(count.read_bytes())
+    expect(turns > 3, True, f"there are {turns} calls")
+    at_once(kill_first_at, range(1, turns + 1))
+
+
+def start_over_a_changed_byte(place):
+    """Turns a byte's lowest bit: the start ends, or, where a length now reaches over the end, nothing before it is missing."""
+    data = NEWEST[:place] + bytes([NEWEST[place] ^ 1]) + NEWEST[place + 1 :]
+    folder, (_, _, _, entries, end) = fresh(n4=data), read_journal(data)
+    if end.startswith("damaged") or end == "torn 5":
+        status, _, errors = ended(folder)
+        expect((status, named(4) in errors), (3 if end == "torn 5" else 4, True), f"byte {place}: {errors}")
+        expect(journals(folder), {4: data}, f"byte {place}")
+        return
+    kept = [fields[-1] for kind, _, fields in entries if kind == "push"]
+    expect(served(folder)[0], (200, (kept or [S1])[-1]), f"byte {place}")
+    expect(journals(folder / "old"), {4: data}, "the old file stays")
+
+
+def check_changed_bytes_of_the_newest_journal():
+    at_once(start_over_a_changed_byte, range(len(NEWEST)))
+
+
+def fill(path, pages):
+    """Fills a disk by a file, but for so many pages."""
+    with open(path, "wb", buffering=0) as file:
+        try:
+            while file.write(bytes(4096)):
+                pass
+        except OSError:
+            pass
+        file.truncate(max(0, file.tell() - 4096 * pages))
+
+
+def start_on_a_full_disk(folder, pages):
+    """Whether a start fails on a disk with so many pages left. What is acknowledged there is there when the disk has room."""
+    fill(folder / "filled", pages)
+    server = Serving(folder)
+    if server.line:
+        expect_newest(server)
+        changed = S3[:-1] + b',"x":"' + b"y" * 70000 + b'"}'
+        expect(server.ask("POST", "/state/a?ID=B", changed)[0], 500, "a change with no room for it")
+        server.kill()
+    else:
+        status, errors = server.end()
+        expect((status, "CannotWrite" in errors), (1, True), errors)
+    (folder / "filled").unlink()
+    again = Serving(folder)
+    expect_newest(again)
+    again.kill()
+    return not server.line
+
+
+def why_not_mounted(folder):
+    """Makes a small file system in a folder: why there is none, or nothing where there is."""
+    if not shutil.which("mount"):
+        return "the command mount is missing"
+    made = subprocess.run(["mount", "-t", "tmpfs", "-o", "size=64k", "none", str(folder)], stderr=subprocess.PIPE, check=False)
+    return made.returncode and (made.stderr.decode(errors="replace").strip() or f"mount ends with status {made.returncode}")
+
+
+def check_a_full_disk_loses_nothing():
+    """Where a small file system can't be made, the checks with files that can't grow stand for this one, and a line says so."""
+    folder = fresh()
+    why = why_not_mounted(folder)
+    if why:
+        print(f"left out: starts on a full disk, since no small file system can be made here: {why}", flush=True)
+        return
+    try:
+        (folder / f"{named(1)}.tfj").write_bytes(NEWEST)
+        failed = [start_on_a_full_disk(folder, pages) for pages in (0, 0, 1, 1, 2)]
+        expect(True in failed, True, "a start fails where nothing is left")
+    finally:
+        subprocess.run(["umount", "-l", str(folder)], check=False)
+
+
+if __name__ == "__main__":
+    SHIM = preloaded("kill_calls.c")
+    sys.exit(run_checks(checks_in(globals())))

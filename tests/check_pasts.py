@@ -1,0 +1,134 @@
+"""Starts of `tfstatectl` below a least position, which a file has that the server and copies raise, and starts that pass over a journal whose
+entries the newest one lacks."""
+import sys
+from concurrent.futures import ThreadPoolExecutor
+
+from checking import S1, S2, checks_in, expect, run_checks
+from folder_program import Serving, ended, run, served
+from journal_reader import base_text
+from folders import NEWEST, PUSH1, PUSH2, REBASED, SHORT, all_of, fresh, journals, named
+
+STATUSES = {"NotAtLeast": 7, "NoPosition": 7, "CannotRead": 1, "NotPast": 2, "Parted": 6, "TwoOfName": 6}
+
+
+def refused(folder, fault, *words):
+    """A start that ends with a fault, and changes nothing: what it tells."""
+    before = all_of(folder)
+    status, output, errors = ended(folder, *words)
+    expect((status, output, f": {fault}" in errors), (STATUSES[fault], "", True), errors)
+    expect(all_of(folder), before, fault)
+    return errors
+
+
+def position_in(path):
+    """The position that a file has."""
+    return int(path.read_text())
+
+
+def check_an_older_past_is_refused():
+    folder = fresh(n3=NEWEST)
+    errors = refused(folder, "NotAtLeast", "--at-least", "4")
+    expect("its position is 3, and the least one is 4" in errors and named(3) in errors, True, errors)
+    expect(served(folder, "--at-least", "3")[0], (200, S2))
+
+
+def check_a_file_has_the_least_position():
+    folder, file = fresh(n3=NEWEST), fresh() / "least"
+    for text, least in (("4\n", 4), ("00000000000000000005\n", 5), ("18446744073709551615", 2**64 - 1)):
+        file.write_text(text)
+        errors = refused(folder, "NotAtLeast", "--at-least-file", file)
+        expect(f"its position is 3, and the least one is {least}" in errors, True, errors)
+    file.write_text("2\n")
+    expect("the least one is 9" in refused(folder, "NotAtLeast", "--at-least", "9", "--at-least-file", file), True, "the greater one counts")
+    for text in ("", "x\n", "-1\n", "1 2\n", "18446744073709551616\n", "0" * 30, "1.0"):
+        file.write_text(text)
+        errors = refused(folder, "NoPosition", "--at-least-file", file)
+        expect(str(file) in errors, True, errors)
+    file.unlink()
+    refused(folder, "NoPosition", "--at-least-file", file)
+    refused(folder, "CannotRead", "--at-least-file", file.parent)
+
+
+def push(server, name, serial):
+    text = S1.replace(b"1 ", b"%d " % serial)
+    expect(server.ask("POST", f"/state/{name}", text), (200, b""))
+
+
+def check_the_server_raises_the_file_with_each_change():
+    folder, file = fresh(n3=NEWEST), fresh() / "least"
+    file.write_text("1\n")
+    server = Serving(folder, "--at-least-file", file).listens()
+    expect(position_in(file), 3)
+    for serial in range(1, 4):
+        push(server, "b", serial)
+        expect(position_in(file), 3 + serial)
+    expect(server.ask("POST", "/state/b", S1)[0], 409)
+    with ThreadPoolExecutor(2) as pool:
+        list(pool.map(lambda name: [push(server, name, serial) for serial in range(1, 9)], ("c", "d")))
+    server.kill()
+    expect(position_in(file), 22, "no worker lowers it")
+    refused(fresh(n3=NEWEST), "NotAtLeast", "--at-least-file", file)
+    expect(served(folder, "--at-least-file", file)[0], (200, S2))
+
+
+def check_a_folder_that_begins_makes_the_file():
+    folder, file = fresh(), fresh() / "least"
+    expect(served(folder, "--first", "--at-least-file", file)[0][0], 404)
+    expect(position_in(file), 0)
+    expect(served(folder, "--at-least-file", file)[0][0], 404)
+
+
+def check_a_copy_raises_the_file():
+    source, target, file = fresh(n3=NEWEST), fresh(), fresh() / "least"
+    expect(run("copy", source, target, "--at-least-file", file)[0], 0)
+    expect(position_in(file), 3)
+    older = fresh(n3=SHORT)
+    status, _, errors = run("copy", older, fresh(), "--at-least-file", file)
+    expect((status, "its position is 1, and the least one is 3" in errors, named(3) in errors), (7, True, True), errors)
+    expect(position_in(file), 3)
+
+
+def base_of(position, lock, state):
+    return b"TFJ2\n" + base_text(position, [(b"a", lock, state)])
+
+
+def passed_over(folder, *words):
+    """Serves a folder, passes over its journal of number 3, and kills the server: the answer for `a`, and the lines of the start."""
+    server = Serving(folder, "--accept-past", *words).listens()
+    answer = server.ask("GET", "/state/a")
+    return answer, server.kill().splitlines()
+
+
+def check_a_journal_is_passed_over():
+    """The journal of number 4 went on from one of the places of that of number 3, or from none: how many entries are lost."""
+    other = base_of(1, b"", S2)
+    table = [(NEWEST, SHORT, S1, "2 of its entries are lost"), (NEWEST, base_of(2, b"", S2), S2, "1 of its entries are lost"),
+             (NEWEST, REBASED, S2, "0 of its entries are lost"), (NEWEST, base_of(3, b"", S2), S2, "2 of its entries are lost"),
+             (NEWEST, other, S2, "2 of its entries are lost"), (NEWEST, base_of(9, b"", S1), S1, "2 of its entries are lost"),
+             (b"TFJ1\n" + PUSH1 + PUSH2, SHORT, S1, "1 of its entries are lost"), (SHORT, other, S2, "0 of its entries are lost"),
+             (NEWEST[:-1] + b"x", other, S2, "it can't be read, and its entries are lost")]
+    for past, newest, state, lost in table:
+        folder = fresh(n3=past, n4=newest)
+        answer, lines = passed_over(folder, folder / f"{named(3)}.tfj")
+        expect((answer, len(lines), f"{named(3)}.tfj is passed over: {lost}" in lines[0]), ((200, state), 2, True), lines)
+        expect((sorted(journals(folder)), journals(folder / "old")), ([5], {3: past, 4: newest}), lost)
+
+
+def check_what_is_passed_over_is_named():
+    files = {"n2": SHORT, "n3": NEWEST, "n4": SHORT}
+    refused(fresh(**files), "Parted")
+    for name in (f"{named(3)}.tfj", f"./{named(3)}.tfj", f"/elsewhere/{named(3)}.tfj"):
+        refused(fresh(**files, n5=base_of(2, b"", S1)), "Parted", "--accept-past", name)
+        expect(passed_over(fresh(n3=NEWEST, n4=SHORT), name)[0], (200, S1))
+    for name in (f"{named(4)}.tfj", f"{named(1)}.tfj", named(3), "", "old", f"{named(3)}.tfj/"):
+        errors = refused(fresh(**files), "NotPast", "--accept-past", name)
+        expect(name in errors, True, errors)
+    folder = fresh(n3=NEWEST, n4=SHORT)
+    (folder / "old").mkdir()
+    (folder / "old" / f"{named(3)}.tfj").write_bytes(SHORT)
+    refused(folder, "TwoOfName", "--accept-past", f"{named(3)}.tfj")
+    expect(run("serve", folder, "--accept-past", "x", "--first")[0], 2)
+
+
+if __name__ == "__main__":
+    sys.exit(run_checks(checks_in(globals())))

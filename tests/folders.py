@@ -1,0 +1,67 @@
+"""Folders of journals for the checks, each of its own, and what servers on them are asked."""
+import concurrent.futures
+import random
+import socket
+import tempfile
+from pathlib import Path
+
+from checking import S1, S2
+from journal_reader import base_text, push_content, record_text
+
+FOLDER = tempfile.TemporaryDirectory(prefix="tfstated-")
+LOOPBACK = "127.0.0.1"
+NUMBER, GIVEN = iter(range(10**6)), set()
+A, B = b'{"ID":"A" ,"Who":""}', b'{"ID":"B"}'
+S3 = S1.replace(b"1 ", b"3 ")
+PUSH1, PUSH2, PUSH3 = (record_text(3, b"a", push_content(b"", text)) for text in (S1, S2, S3))
+LOCK = record_text(1, b"a", B)
+SHORT = b"TFJ2\n" + base_text(1, [(b"a", b"", S1)])
+NEWEST = SHORT + PUSH2 + LOCK
+REBASED = b"TFJ2\n" + base_text(3, [(b"a", B, S2)])
+
+
+def fresh(**files):
+    """A folder that no check has used, with journals in it: `n3` is the journal of number 3."""
+    folder = Path(FOLDER.name) / f"folder-{next(NUMBER)}"
+    folder.mkdir()
+    for name, content in files.items():
+        (folder / f"{named(int(name[1:]))}.tfj").write_bytes(content)
+    return folder
+
+
+def named(number):
+    return f"journal-{number:010}"
+
+
+def journals(folder):
+    """What the journals of a folder hold, by their numbers."""
+    return {int(path.stem[8:]): path.read_bytes() for path in folder.glob("*.tfj")}
+
+
+def all_of(folder):
+    """Every file of a folder with its bytes, but for its lock."""
+    paths = [path for path in folder.rglob("*") if path.is_file() and path.name != "lock"]
+    return {str(path.relative_to(folder)): path.read_bytes() for path in paths}
+
+
+def free_port():
+    """A port of the loopback that nobody uses at this moment, below those that connections get, and that this didn't give before."""
+    while True:
+        port = random.randrange(10_000, 32_000)
+        with socket.socket() as probe:
+            if port not in GIVEN and probe.connect_ex((LOOPBACK, port)) != 0:
+                GIVEN.add(port)
+                return port
+
+
+def at_once(work, cases):
+    """Does the work of each case, of a few at once; fails where one does."""
+    with concurrent.futures.ThreadPoolExecutor(8) as pool:
+        return list(pool.map(work, cases))
+
+
+def ask_over(connection, method, target, body=None, headers=None):
+    """The status and the body of the reply to one request."""
+    connection.request(method, target, body, headers or {})
+    reply = connection.getresponse()
+    return reply.status, reply.read()
