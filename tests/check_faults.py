@@ -124,7 +124,7 @@ def check_workers_go_on_once_descriptors_are_there_again():
     server.leave_free(server.lowest_free() + 1)
     held = [server.connect() for _ in range(4)]
     expect(asked(held[0], "GET", "/state/a")[0], 404)
-    time.sleep(0.5)  # in which the other three find no descriptor, more than once
+    time.sleep(1)  # in which the other three find no descriptor, more than once
     server.leave_free(256)
     for number, connection in enumerate(held):
         expect(asked(connection, "POST", f"/state/n{number}", S1), (200, b""), f"connection {number}, beside the others")

@@ -247,7 +247,7 @@ def check_a_name_that_had_an_accepted_act_counts():
         ("DELETE", "/state/z?ID=A", b"", LOCK_LOST),
         ("GET", "/state/z", b"", NO_STATE),
         *[("LOCK", f"/state/n{number}", A, OK) for number in range(MAX_NAMES)],
-        ("LOCK", "/state/z", A, TABLE_FULL),
+        ("LOCK", f"/state/n{MAX_NAMES}", B, TABLE_FULL),
         ("UNLOCK", "/state/z", b"", TABLE_FULL),
         ("DELETE", "/state/z", b"", TABLE_FULL),
         ("POST", "/state/z", S1, TABLE_FULL),
@@ -267,9 +267,9 @@ def check_a_name_that_had_an_accepted_act_counts():
 def check_a_journal_has_65536_entries():
     expect_talk([
         *[("LOCK", "/state/a", B, OK)] * MAX_ENTRIES,
-        ("LOCK", "/state/z", A, JOURNAL_FULL),
+        ("LOCK", "/state/z", B, JOURNAL_FULL),
         ("LOCK", "/state/a", B, JOURNAL_FULL),
-        ("UNLOCK", "/state/a", b"", JOURNAL_FULL),
+        ("UNLOCK", "/state/a", B, JOURNAL_FULL),
         ("POST", "/state/a?ID=B", S1, JOURNAL_FULL),
         ("DELETE", "/state/a?ID=B", b"", JOURNAL_FULL),
         ("LOCK", "/state/a", A, locked_by(B)),
@@ -280,7 +280,7 @@ def check_a_journal_has_65536_entries():
     expect_talk([
         *[("LOCK", f"/state/n{number}", A, OK) for number in range(MAX_NAMES)],
         *[("LOCK", "/state/n0", A, OK)] * (MAX_ENTRIES - MAX_NAMES),
-        ("LOCK", "/state/n0", A, JOURNAL_FULL),
+        ("UNLOCK", "/state/n0", b"", JOURNAL_FULL),
         ("LOCK", "/state/z", A, TABLE_FULL),
     ])
 

@@ -1,5 +1,6 @@
 """Runs `tfstated serve` and talks to it over sockets: its faults, what clients that go away leave, journals that are gone on with,
 the order of syncing and replying, and bodies that are meant to take all memory."""
+import concurrent.futures
 import os
 import resource
 import signal
@@ -10,6 +11,7 @@ import time
 from pathlib import Path
 
 from checking import S1, S2, checks_in, expect, run_checks
+from sample_states import chain
 from serve_program import (LOOPBACK, Server, asked, calls_in, entries_of, free_port, fresh, hostile, limited, preloaded, push_large,
                            reply_of, rest_of, run, send_all, state, zeros)
 from stdio_program import USAGE, request_text
@@ -95,15 +97,27 @@ def check_a_client_that_goes_away_ends_its_connection_alone():
     expect(server.ask("GET", "/state/b")[0], 404, "after a reset")
 
 
-def check_a_silent_client_is_left_after_ten_seconds():
+def expect_left(text, least, most):
+    """Fails where a client that has sent this, and is silent then, isn't left in this time, or the next one isn't served."""
     server = Server(workers=1)
     with server.connect() as silent, server.connect() as waiting:
-        began = time.monotonic()
         waiting.sendall(request_text("GET", "/state/a"))
-        expect(silent.recv(1), b"", "the silent connection is closed")
+        silent.sendall(text)
+        began = time.monotonic()
+        with silent.makefile("rb") as file:
+            rest_of(file)
+        expect(least < time.monotonic() - began < most, True, f"the client after {text}")
         with waiting.makefile("rb") as file:
             expect(reply_of(file)[0], 404)
-        expect(5 < time.monotonic() - began < 20, True, "about ten seconds")
+
+
+def check_an_idle_connection_is_closed_after_two_seconds():
+    for text in (b"", request_text("GET", "/state/b")):
+        expect_left(text, 1.9, 6)
+
+
+def check_a_client_that_is_silent_within_a_request_is_left_after_ten_seconds():
+    expect_left(b"\r\n", 9, 20)
 
 
 def check_a_slow_request_is_ended_after_a_minute():
@@ -210,6 +224,51 @@ def check_bodies_of_more_than_1_mib_are_read_two_at_a_time():
     expect(pushed_by_sixteen(server, zeros((1 << 20) + 1)), [400] * 16, "two at a time fit")
     refused = any(503 in pushed_by_sixteen(server, zeros(1 << 20)) for _ in range(10))
     expect(refused, True, "sixteen at a time, as bodies of 1 MiB are read, don't fit")
+
+
+def limit_stack():
+    """Lets each thread have a stack of 256 KiB."""
+    resource.setrlimit(resource.RLIMIT_STACK, (1 << 18, 1 << 18))
+
+
+def check_the_deepest_requests_fit_into_a_stack_of_256_kib():
+    server = Server(workers=4, preexec_fn=limit_stack)
+    for depth, statuses in ((126, (200, 200)), (127, (400, 400)), (10**6, (400, 400))):
+        deep = b"[" * depth + b"]" * depth
+        push = server.ask("POST", f"/state/a{depth}", S1[:-1] + b',"outputs":' + deep + b"}")
+        lock = server.ask("LOCK", f"/state/b{depth}", b'{"ID":"A","Info":' + deep + b"}")
+        expect((push[0], lock[0]), statuses, f"{depth} lists in one another")
+    expect(server.process.poll(), None)
+
+
+def check_a_session_answers_each_call_at_the_limits_of_everything():
+    name, identifier, most = "n" * 64, "i" * 256, 2**64 - 1
+    lock, text = (b'{"ID":"%s"}' % identifier.encode()).ljust(1 << 16), chain(4096, serial=most).ljust(16 << 20)
+    reached = ",".join(f'"t.r{number}"' for number in range(1, 4096))
+    answer = f'{{"instances":[{reached}],"position":2,"serial":{most}}}'.encode()
+    table = [
+        ("LOCK", f"/state/{name}", lock, (200, b"")), ("POST", f"/state/{name}?ID={identifier}", text, (200, b"")),
+        ("GET", f"/state/{name}", b"", (200, text)), ("LOCK", f"/state/{name}", B, (423, lock)),
+        ("GET", f"/impact/{name}/any?" + "&".join(["of=t.r0"] * 64), b"", (200, answer)),
+        ("DELETE", f"/state/{name}?ID={identifier}", b"", (200, b"")), ("GET", f"/state/{name}", b"", (404, b'{"error":"NoState"}')),
+        ("UNLOCK", f"/state/{name}", lock, (200, b"")),
+    ]
+    server = Server(workers=1)
+    with server.connect() as connection:
+        for *request, reply in table:
+            expect(asked(connection, *request) == reply, True, request[:2])
+
+
+def check_each_push_of_more_than_1_mib_gives_its_turn_back():
+    server, long = Server(workers=4), [text.ljust((1 << 20) + 1) for text in (S1, S2)]
+
+    def push_two(number):
+        with server.connect() as connection:
+            return [asked(connection, "POST", f"/state/n{number}", text) for text in long]
+
+    with concurrent.futures.ThreadPoolExecutor(4) as pool:
+        expect(list(pool.map(push_two, range(4))), [[(200, b"")] * 2] * 4, "two on each of four connections")
+    expect(server.ask("GET", "/state/n3"), (200, long[1]))
 
 
 def check_a_long_module_path_is_taken_and_its_answer_is_not():

@@ -19,7 +19,7 @@ A, B = b'{"ID":"A" ,"Who":""}', b'{"ID":"B"}'
 WHOLE = b"TFJ2\n" + base_text(0, []) + record_text(3, b"a", push_content(b"", S1)) + record_text(1, b"a", B)
 NO_MEMORY = (503, b'{"error":"OutOfMemory"}')
 TALK = [("POST", "/state/a", S1), ("GET", "/state/a", b""), ("LOCK", "/state/a", B), ("LOCK", "/state/a", A),
-        ("GET", "/impact/a/any?of=t.a", b"")]
+        ("GET", "/impact/a/any?of=t.a", b""), ("UNLOCK", "/state/a", B)]
 # How long a small request may take beside bodies that are read for seconds, and how many are to be answered meanwhile. Who waits for one
 # of these bodies each time gets far fewer answers. Where memory runs out, some may be refused, at most a tenth.
 SMALL_SECONDS, SMALL_ANSWERS = 5, 120
@@ -99,7 +99,7 @@ def told_without(number):
     table, replies = Table(), []
     for each, request in enumerate(TALK):
         replies.append(None if each == number else reply_of(io.BytesIO(table.reply(Request(*request)))))
-    kinds = {"POST": "push", "LOCK": "lock"}
+    kinds = {"POST": "push", "LOCK": "lock", "UNLOCK": "unlock"}
     changes = [each for each, (method, _, _) in enumerate(TALK) if method in kinds and replies[each] and replies[each][0] == 200]
     return replies, [kinds[TALK[each][0]] for each in changes]
 
@@ -146,11 +146,11 @@ def long_module_path():
 
 @contextlib.contextmanager
 def asking(connection):
-    """Asks for the state of b each second on a connection, which is to be shown each time."""
+    """Asks for the state of b twice a second on a connection, which is to be shown each time."""
     ended, replies = threading.Event(), []
 
     def ask():
-        while not ended.wait(1):
+        while not ended.wait(0.5):
             replies.append(asked(connection, "GET", "/state/b"))
 
     thread = threading.Thread(target=ask)
@@ -187,10 +187,10 @@ def in_chunks(text, size):
 
 def check_chunks_take_the_memory_of_the_bytes_in_them():
     server, text = Server(workers=1), S1.ljust(1 << 20)
+    push = in_chunks(text, 16)
     with server.connect() as connection:
         expect(asked(connection, "POST", "/state/b", S1), (200, b""))
         before = most_memory(server)
-        push = in_chunks(text, 16)
         connection.sendall(push)
         with connection.makefile("rb") as file:
             expect(reply_of(file), (200, b""))

@@ -83,7 +83,9 @@ def check_sessions_push_the_same_states():
         accepted = sum(at_once(server, count, push_all))
         expect(CHANGES <= accepted <= CHANGES * count, True, f"{accepted} pushes of {count} sessions are accepted")
         expect(server.ask("GET", "/state/a"), (200, bare(CHANGES)))
-        serials = [json.loads(parts[1])["serial"] for _, _, parts in entries_of(server.kill())]
+        journal = server.kill()
+        expect(run("check", fresh(journal))[1], 0, "the journal is lawful")
+        serials = [json.loads(parts[1])["serial"] for _, _, parts in entries_of(journal)]
         expect((len(serials), serials), (accepted, sorted(serials)), f"{count} sessions: an entry for each, and no serial falls")
 
 

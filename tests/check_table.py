@@ -1,14 +1,21 @@
 """Counts and refuses the requests for memory of one push to a table, by a preloaded shim: those inside `Table::apply` are what the
-program makes beyond reading the push. Their number doesn't grow with the state."""
+program makes beyond reading the push. Their number doesn't grow with the state. And those of tables that are made, opened and rebased:
+where one is refused, the sink was given no byte."""
 import sys
 
-from checking import checks_in, expect, run_checks
+from checking import S1, checks_in, expect, run_checks
+from journal_reader import push_content, record_text
 from refused_requests import FOREVER, build_shim, built, run_refused
 from sample_states import chain
 
 build_shim()
 PROGRAM = built("tfs_probe")
 DONE, REFUSED = b"done 1\n", b"refused OutOfMemory\n"
+
+# A journal of two entries, and what is told of each table that is made with ample memory: its position, and what its sink was given.
+JOURNAL = (b"TFJ1\n" + record_text(3, b"a", push_content(b"", S1)) + record_text(1, b"a", b'{"ID":"B"}')).hex().encode()
+MADE = {"new": b"made at 0, 31 bytes\n", "open": b"made at 2, 130 bytes\n", "rebase": b"made at 2, 92 bytes\n"}
+UNMADE = b"NoMemory, 0 bytes\n"
 
 
 def ran(text, word, first=0, last=0):
@@ -45,6 +52,15 @@ def check_all_requests_from_one_on_that_are_refused_end_in_one_line():
     for number in range(before + 1, after + 1):
         output, status, _ = ran(text, "apply", number, FOREVER)
         expect((output, status), (REFUSED, 1), f"from request {number} on")
+
+
+def check_memory_is_refused_before_a_sink_is_given_anything():
+    for word, made in MADE.items():
+        output, status, requests = ran(JOURNAL, word)
+        expect((output, status), (made, 0), word)
+        told = {ran(JOURNAL, word, number, last)[:2] for number in range(1, requests + 1) for last in (number, FOREVER)}
+        expect(told - {(b"", 1), (made, 0)}, {(UNMADE, 0)}, f"{word}: requests for the table are refused, beside those for the input")
+        expect(ran(JOURNAL, word, requests + 1, FOREVER)[:2], (made, 0), f"{word}: there is no further request")
 
 
 if __name__ == "__main__":

@@ -5,6 +5,7 @@
 mod addresses;
 mod files;
 mod input;
+mod making;
 mod reading;
 mod shared;
 mod state;
@@ -57,6 +58,7 @@ fn probe<R: AllocGlobal + Print + Wait>(rt: &R, words: &[&str], text: &str) -> R
         ["journal"] => reading::print_readings(rt, text),
         ["table", "read"] => push(rt, false, text.as_bytes()),
         ["table", "apply"] => push(rt, true, text.as_bytes()),
+        ["table", word] => making::print_made(rt, word, text.trim_end()),
         ["shared", word] => make_calls(rt, Word::read(word)?, text.as_bytes()),
         _ => bail!(
             "the words are addresses, state, index, journal, append, table, shared or stress, and what README.md says behind them"
@@ -77,5 +79,7 @@ fn probe_all<R: AllocGlobal + Print + Wait>(rt: &R, text: &str) -> Result<()> {
         bail!("the input has two lines");
     };
     state::print_impacts(rt, state, address)?;
+    let first = journals.lines().next();
+    making::print_made(rt, "rebase", first.unwrap_or(""))?;
     reading::print_readings(rt, journals)
 }

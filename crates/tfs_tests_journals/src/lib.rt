@@ -7,9 +7,13 @@ mod ample;
 #[cfg(test)]
 mod files;
 #[cfg(test)]
+mod folders;
+#[cfg(test)]
 mod helpers;
 #[cfg(test)]
 mod journals;
+#[cfg(test)]
+mod limits;
 #[cfg(test)]
 mod opened;
 #[cfg(test)]

@@ -56,6 +56,9 @@ const OPENINGS: &str = "104 104 = 2 130 Whole
 104 5 = 0 31 Whole
 104 3 = 0 31 Torn(0)
 104 0 = 0 31 Torn(0)
+changed 104 = Damaged(5)
+137 137 = Unlawful(2)
+137 71 = 1 97 Whole
 130 130 = 2 130 Whole
 92 92 = 0 92 Whole
 92 5 = TornBase

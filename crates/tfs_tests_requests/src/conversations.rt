@@ -52,13 +52,14 @@ impl io::Write for Taking {
     }
 }
 
-/// How a conversation over a new table ends. Its input comes in reads of at most so many bytes, and is read to its end.
+/// How a conversation over a new table ends, and how many entries the table has then. Its input comes in reads of at most so many bytes,
+/// and is read to its end.
 fn talk<W: io::Write>(
     rt: &(impl Alloc<A = Global> + Abort),
     input: &str,
     most: usize,
     writer: &mut W,
-) -> Result<Ended, ServeFault> {
+) -> (Result<Ended, ServeFault>, usize) {
     let mut table = Table::new(rt.alloc(), Discard).ok().expect(rt, "a table");
     let mut reader = Watched::new(Pieces {
         rest: input.as_bytes(),
@@ -69,13 +70,13 @@ fn talk<W: io::Write>(
     let mut reads = Reads::new();
     let ended = converse_over_table(rt.alloc(), &mut reader, &mut writer, &mut table, &mut reads);
     assert!(rt; reader.inner.told_end || ended.is_err());
-    ended
+    (ended, table.len())
 }
 
 /// An input that comes in reads of at most so many bytes is read to its end.
 fn is_read(rt: &(impl Alloc<A = Global> + Abort), input: &str, most: usize, end: Ended) {
     let mut writer = Vec::new(rt.alloc());
-    assert!(rt; talk(rt, input, most, &mut writer) == Ok(end), "{most}");
+    assert!(rt; talk(rt, input, most, &mut writer).0 == Ok(end), "{most}");
 }
 
 #[test]
@@ -87,8 +88,8 @@ fn the_input_is_read_to_its_end(rt: HostRuntime) -> Result<(), Fail> {
     Ok(())
 }
 
-/// A writer that takes at most so many bytes a call, and so many in all, has the front of the replies to the input, and the
-/// conversation ends so.
+/// A writer that takes at most so many bytes a call, and so many in all, has the front of the replies to the input, whose first request is
+/// accepted, and the conversation ends so.
 fn is_taken(
     rt: &(impl Alloc<A = Global> + Abort),
     input: &str,
@@ -101,7 +102,10 @@ fn is_taken(
         most,
         room,
     };
-    assert!(rt; talk(rt, input, usize::MAX, &mut writer) == end, "{room}");
+    assert!(rt;
+        talk(rt, input, usize::MAX, &mut writer) == (end, 1),
+        "{room}"
+    );
     assert!(rt; writer.taken.as_slice() == front, "{room}");
 }
 
@@ -155,10 +159,11 @@ fn a_long_state_is_written_in_pieces(rt: HostRuntime) -> Result<(), Fail> {
     Ok(())
 }
 
-/// Gives its bytes in one read, and then fails.
+/// Gives its bytes in reads of at most so many, and then fails.
 #[derive(Drop)]
 struct Failing<'i> {
     rest: &'i [u8],
+    most: usize,
 }
 
 impl<'i> io::Read for Failing<'i> {
@@ -166,7 +171,7 @@ impl<'i> io::Read for Failing<'i> {
         if self.rest.is_empty() {
             return Err(io::Error::from(io::ErrorKind::ConnectionReset));
         }
-        let count = buf.len().min(self.rest.len());
+        let count = self.most.min(buf.len()).min(self.rest.len());
         let (piece, rest) = self.rest.split_at(count);
         buf[..count].copy_from_slice(piece);
         self.rest = rest;
@@ -174,26 +179,85 @@ impl<'i> io::Read for Failing<'i> {
     }
 }
 
-/// How a conversation over a new table ends whose reader fails behind the input, and how many entries the table has then.
-fn broken_off(
+/// How a conversation over a new table ends, how many reads it makes, and how many entries the table has then.
+fn broken_off<I: io::Read + Drop>(
     rt: &(impl Alloc<A = Global> + Abort),
-    input: &[u8],
+    reader: I,
     writer: &mut Vec<u8>,
-) -> (Result<Ended, ServeFault>, usize) {
+) -> (Result<Ended, ServeFault>, u64, usize) {
     let mut table = Table::new(rt.alloc(), Discard).ok().expect(rt, "a table");
-    let mut reader = Watched::new(Failing { rest: input });
+    let mut reader = Watched::new(reader);
     let mut writer = Watched::new(writer);
     let mut reads = Reads::new();
     let ended = converse_over_table(rt.alloc(), &mut reader, &mut writer, &mut table, &mut reads);
-    assert!(rt; reader.has_failed && !writer.has_failed);
-    (ended, table.len())
+    assert!(rt; reader.has_failed == (ended == Err(ServeFault::Read)) && !writer.has_failed);
+    (ended, reads.used(), table.len())
+}
+
+/// A reader that fails behind the first so many bytes of the push and the read, which come in reads of at most so many, leaves so many
+/// bytes of their replies.
+fn leaves(
+    rt: &(impl Alloc<A = Global> + Abort),
+    replies: &str,
+    (count, most): (usize, usize),
+    written: usize,
+) {
+    let (rest, _) = PUSH_AND_READ.as_bytes().split_at(count.min(130));
+    let (front, _) = replies.as_bytes().split_at(written.min(replies.len()));
+    let mut writer = Vec::new(rt.alloc());
+    let reads = count.div_ceil(most.max(1)).saturating_add(1) as u64;
+    let ended = broken_off(rt, Failing { rest, most }, &mut writer);
+    let entries = if written == 0 { 0 } else { 1 };
+    assert!(rt; ended == (Err(ServeFault::Read), reads, entries), "{count}");
+    assert!(rt; writer.as_slice() == front, "{count}");
 }
 
 #[test]
 fn a_reader_that_fails_behind_a_message_leaves_its_reply(rt: HostRuntime) -> Result<(), Fail> {
+    let replies = replies_to(&rt, S1)?;
+    leaves(&rt, replies.as_str(), (96, 96), 38);
+    for count in 0..131 {
+        let written = if count < 96 {
+            0
+        } else if count < 130 {
+            38
+        } else {
+            150
+        };
+        leaves(&rt, replies.as_str(), (count, 1), written);
+    }
+    Ok(())
+}
+
+/// Gives its bytes one a read, and then blanks without end.
+#[derive(Drop)]
+struct Endless<'i> {
+    rest: &'i [u8],
+}
+
+impl<'i> io::Read for Endless<'i> {
+    fn read(&mut self, buf: &mut [u8]) -> io::Result<usize> {
+        let Some(first) = buf.first_mut() else {
+            return Ok(0);
+        };
+        *first = b' ';
+        if let [byte, rest @ ..] = self.rest {
+            *first = *byte;
+            self.rest = rest;
+        }
+        Ok(1)
+    }
+}
+
+#[test]
+fn a_body_of_16_mib_that_comes_byte_by_byte_takes_too_many_reads(
+    rt: HostRuntime,
+) -> Result<(), Fail> {
+    let reader = Endless {
+        rest: b"POST /state/a HTTP/1.1\r\nHost: h\r\nContent-Length: 16777216\r\n\r\n",
+    };
     let mut writer = Vec::new(rt.alloc());
-    let (push, _) = PUSH_AND_READ.as_bytes().split_at(96);
-    assert!(rt; broken_off(&rt, push, &mut writer) == (Err(ServeFault::Read), 1));
-    assert!(rt; writer.as_slice() == DONE.as_bytes());
+    let ended = broken_off(&rt, reader, &mut writer);
+    assert!(rt; ended == (Err(ServeFault::TooManyReads), 1_048_576, 0) && writer.is_empty());
     Ok(())
 }

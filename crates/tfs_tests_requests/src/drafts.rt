@@ -23,22 +23,32 @@ pub(crate) fn name_of(rt: &(impl Alloc<A = Global> + Abort)) -> Name {
 }
 
 /// The chain with a serial.
-fn chain_of(rt: &(impl Alloc<A = Global> + Abort), serial: u64) -> String {
+pub(crate) fn chain_of(rt: &(impl Alloc<A = Global> + Abort), serial: u64) -> String {
     let text = format!(in rt.alloc();
         "{{\"version\":4,\"serial\":{serial},\"lineage\":\"L1\",\"resources\":[{FIRST},{SECOND},{THIRD}]}}"
     );
     text.ok().expect(rt, "a state")
 }
 
-/// The bytes of the chain with a serial.
-fn bytes_of(rt: &(impl Alloc<A = Global> + Abort), serial: u64) -> Vec<u8> {
-    let text = chain_of(rt, serial);
-    text.as_bytes().to_vec(rt.alloc()).ok().expect(rt, "bytes")
-}
-
 /// The push of the chain with a serial.
 pub(crate) fn push_of(rt: &(impl Alloc<A = Global> + Abort), serial: u64) -> Draft {
-    let bytes = bytes_of(rt, serial);
+    let text = chain_of(rt, serial);
+    push_of_text(rt, text.as_str())
+}
+
+/// Two instances that depend on each other, of serial 1.
+const CIRCLE: &str = r#"{"version":4,"serial":1,"lineage":"L1","resources":[
+{"mode":"managed","type":"t","name":"a","instances":[{"dependencies":["t.b"]}]},
+{"mode":"managed","type":"t","name":"b","instances":[{"dependencies":["t.a"]}]}]}"#;
+
+/// The push of the circle.
+pub(crate) fn circle(rt: &(impl Alloc<A = Global> + Abort)) -> Draft {
+    push_of_text(rt, CIRCLE)
+}
+
+/// The push of a state.
+fn push_of_text(rt: &(impl Alloc<A = Global> + Abort), text: &str) -> Draft {
+    let bytes = text.as_bytes().to_vec(rt.alloc()).ok().expect(rt, "bytes");
     assert!(rt; bytes.len() <= MAX_STATE_BYTES);
     let draft = Draft::read(rt.alloc(), Raw::Push(None, Bytes::new(bytes)));
     draft.ok().expect(rt, "a draft")

@@ -3,9 +3,13 @@
 #![tactic(auto)]
 
 #[cfg(test)]
+mod calls;
+#[cfg(test)]
 mod conversations;
 #[cfg(test)]
 mod drafts;
+#[cfg(test)]
+mod ending;
 #[cfg(test)]
 mod framing;
 #[cfg(test)]
@@ -19,7 +23,11 @@ mod shared;
 #[cfg(test)]
 mod surface;
 #[cfg(test)]
+mod terms;
+#[cfg(test)]
 mod texts;
+#[cfg(test)]
+mod transcripts;
 #[cfg(test)]
 mod waiting;
 #[cfg(test)]

@@ -1,6 +1,6 @@
 //! What sessions of a shared table are answered. No call is refused: no copy is behind or has lost its version.
 
-use crate::drafts::{name_of, push_of, query_of, unlock_of};
+use crate::drafts::{chain_of, circle, name_of, push_of, query_of, unlock_of};
 use std::alloc::Global;
 use std::process::Abort;
 use std::sync::Wait;
@@ -30,7 +30,7 @@ pub(crate) fn unlock<J: Naming, K: Sink, R: Wait + Abort + Alloc<A = Global>>(
     session.submit(rt, shared, name_of(rt), draft).ok()
 }
 
-/// The serial of the state that is read under the lock.
+/// The serial of the state that is read under the lock, which is the chain.
 pub(crate) fn read<J: Naming, K: Sink, R: Wait + Abort + Alloc<A = Global>>(
     rt: &R,
     shared: &Shared<J, K>,
@@ -38,7 +38,9 @@ pub(crate) fn read<J: Naming, K: Sink, R: Wait + Abort + Alloc<A = Global>>(
 ) -> u64 {
     let name = name_of(rt);
     let state = session.state(rt, shared, &name).ok();
-    state.expect(rt, "a state").serial()
+    let state = state.expect(rt, "a state");
+    assert!(rt; state.bytes() == chain_of(rt, state.serial()).as_bytes());
+    state.serial()
 }
 
 /// The position of the answer to what `t.a` reaches, which is the other two, and the serial of the state that it is about.
@@ -128,4 +130,61 @@ pub(crate) fn asks<J: Naming, K: Sink, R: Wait + Abort + Alloc<A = Global>>(
         assert!(rt; push(rt, shared, first, serial) == Some(serial));
         assert!(rt; ask(rt, shared, second) == (serial, serial) && second.seen() == serial);
     }
+}
+
+/// The first session pushes the chain, and is refused an older state; both read the chain, and the first one asks.
+pub(crate) fn refuses<J: Naming, K: Sink, R: Wait + Abort + Alloc<A = Global>>(
+    rt: &R,
+    shared: &Shared<J, K>,
+    first: &mut Session<J>,
+    second: &mut Session<J>,
+) {
+    assert!(rt; push(rt, shared, first, 2) == Some(1));
+    assert!(rt; ask(rt, shared, first) == (1, 2) && first.seen() == 1);
+    let refusal = first.submit(rt, shared, name_of(rt), circle(rt)).err();
+    assert!(rt;
+        refusal.is_some_and(|refusal| refusal.name() == "SerialTooLow") && first.seen() == 1
+    );
+    assert!(rt; read(rt, shared, first) == 2 && read(rt, shared, second) == 2);
+    assert!(rt; second.seen() == 1 && first.accepted() == 1 && second.accepted() == 0);
+}
+
+/// Pushes the chain with the serials from 1 to 100. The positions that are told rise, and what isn't accepted has a serial that is too
+/// low by then.
+fn push_all<J: Naming, K: Sink, R: Wait + Abort + Alloc<A = Global>>(
+    rt: &R,
+    shared: &Shared<J, K>,
+    session: &mut Session<J>,
+) {
+    let mut last = session.seen();
+    for serial in 1..101 {
+        match session.submit(rt, shared, name_of(rt), push_of(rt, serial)) {
+            Ok(position) => {
+                assert!(rt; last < position && position == session.seen());
+                last = position;
+            }
+            Err(refusal) => assert!(rt; refusal.name() == "SerialTooLow"),
+        }
+    }
+    assert!(rt; read(rt, shared, session) == 100);
+}
+
+/// Each session pushes the same states, one session after another.
+pub(crate) fn pushes<J: Naming, K: Sink, R: Wait + Abort + Alloc<A = Global>>(
+    rt: &R,
+    shared: &Shared<J, K>,
+    sessions: &mut [Session<J>],
+) {
+    for session in sessions {
+        push_all(rt, shared, session);
+    }
+}
+
+/// How many changes of sessions were accepted.
+pub(crate) fn accepted_by<J: Naming>(sessions: &[Session<J>]) -> u64 {
+    let mut count = 0_u64;
+    for session in sessions {
+        count = count.saturating_add(session.accepted());
+    }
+    count
 }

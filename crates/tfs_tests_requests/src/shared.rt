@@ -3,7 +3,7 @@
 ghost use Rattle.std.specs.Prelude.{◌≡◌, ◌≤◌, [], IfSome};
 
 use crate::drafts::{name_of, push_of};
-use crate::sessions::{asks, busy, reads, turns};
+use crate::sessions::{accepted_by, asks, busy, pushes, reads, refuses, turns};
 use crate::waiting::ask_meanwhile;
 use std::alloc::Global;
 use std::marker::Brand;
@@ -15,7 +15,7 @@ use std::test::Fail;
 use std::thread::Threads;
 use std::time::Clock;
 use tfs_records::{Discard, Sink};
-use tfs_shared::{Naming, Opened, Session, Shared, Strangers, gather, share};
+use tfs_shared::{Lack, Naming, Opened, Session, Shared, Strangers, gather, share};
 use tfs_table::Table;
 
 /// What is done with the sessions of a shared table.
@@ -29,6 +29,10 @@ pub(crate) enum Scene<'f> {
     Reads,
     /// The first session pushes, and the second one asks.
     Asks,
+    /// The first session pushes, and is refused an older state; both read.
+    Refuses,
+    /// Each session pushes the same hundred states, one session after another.
+    Pushes,
     /// The first session's change waits in the sink until the second one was answered.
     Waits(&'f AtomicU64),
 }
@@ -58,20 +62,52 @@ fn play<
     let made = share::<J, K, R>(rt, rt.alloc(), table, number, blank, opened);
     let (shared, mut sessions) = made.ok().expect(rt, "a shared table");
     act(rt, &shared, sessions.as_mut_slice(), scene);
-    entries_of(rt, shared, sessions)
+    let accepted = accepted_by(sessions.as_slice());
+    let position = shared.opened().saturating_add(accepted);
+    let (shared, sessions) = without_one(rt, shared, sessions);
+    entries_of(rt, shared, sessions, position)
 }
 
-/// How many entries the table has that is gathered.
+/// The shared table and its sessions, which don't give the table back where one of them is missing.
+fn without_one<J: Naming, K: Sink + Drop, R: Wait + Abort>(
+    rt: &R,
+    shared: Shared<J, K>,
+    mut sessions: Vec<Session<J>>,
+) -> (Shared<J, K>, Vec<Session<J>>) {
+    let last = sessions.pop().expect(rt, "a session");
+    match gather(rt, shared, sessions) {
+        Ok(_) => panic!(rt; "a session is missing"),
+        Err(strangers) => whole(rt, strangers, last),
+    }
+}
+
+/// The shared table and all of its sessions, of which the last one was missing.
+fn whole<J: Naming, K: Sink>(
+    rt: &impl Abort,
+    strangers: Strangers<J, K>,
+    last: Session<J>,
+) -> (Shared<J, K>, Vec<Session<J>>) {
+    let Strangers {
+        shared,
+        mut sessions,
+        why,
+    } = strangers;
+    assert!(rt; why == Lack::Missing && sessions.push(last).is_ok());
+    (shared, sessions)
+}
+
+/// How many entries the table has that is gathered, which is at a position.
 fn entries_of<J: Naming, K: Sink + Drop, R: Wait + Abort>(
     rt: &R,
     shared: Shared<J, K>,
     sessions: Vec<Session<J>>,
-) -> usize
-    requires parts { J.parts ≡ J.sessions }
-    requires some { 1 ≤ J.sessions }
-{
+    position: u64,
+) -> usize {
     match gather(rt, shared, sessions) {
-        Ok(table) => table.len(),
+        Ok(table) => {
+            assert!(rt; table.position() == position);
+            table.len()
+        }
         Err(strangers) => {
             let Strangers {
                 shared,
@@ -93,8 +129,9 @@ fn act<
     match scene {
         Scene::Turns => turns(rt, shared, sessions),
         Scene::Busy => busy(rt, shared, sessions),
+        Scene::Pushes => pushes(rt, shared, sessions),
         Scene::Waits(flag) => ask_meanwhile(rt, shared, sessions, flag),
-        Scene::Reads | Scene::Asks => match sessions {
+        Scene::Reads | Scene::Asks | Scene::Refuses => match sessions {
             [first, second] => in_two(rt, shared, first, second, scene),
             _ => panic!(rt; "two sessions"),
         },
@@ -111,6 +148,7 @@ fn in_two<J: Naming, K: Sink, R: Wait + Abort + Alloc<A = Global>>(
 ) {
     match scene {
         Scene::Reads => reads(rt, shared, first, second),
+        Scene::Refuses => refuses(rt, shared, first, second),
         _ => asks(rt, shared, first, second),
     }
 }
@@ -127,7 +165,7 @@ pub(crate) fn table_of<K: Sink + Drop>(rt: &(impl Alloc<A = Global> + Abort), si
 }
 
 /// The table that goes on from it at position 1, with a base.
-fn later_table(rt: &(impl Alloc<A = Global> + Abort)) -> Table<Discard> {
+pub(crate) fn later_table(rt: &(impl Alloc<A = Global> + Abort)) -> Table<Discard> {
     let table = table_of(rt, Discard);
     table.rebase(Discard).ok().expect(rt, "a rebased table")
 }
@@ -165,5 +203,23 @@ fn a_later_locked_read_sees_the_push(rt: HostRuntime) -> Result<(), Fail> {
 #[test]
 fn a_push_of_another_session_is_seen_without_a_lock(rt: HostRuntime) -> Result<(), Fail> {
     assert_eq!(rt; played(&rt, table_of(&rt, Discard), 2, Scene::Asks), 9);
+    Ok(())
+}
+
+/// A table without entries.
+fn new_table(rt: &(impl Alloc<A = Global> + Abort)) -> Table<Discard> {
+    Table::new(rt.alloc(), Discard).ok().expect(rt, "a table")
+}
+
+#[test]
+fn an_older_state_is_refused_and_not_seen(rt: HostRuntime) -> Result<(), Fail> {
+    assert_eq!(rt; played(&rt, new_table(&rt), 2, Scene::Refuses), 1);
+    Ok(())
+}
+
+#[test]
+fn positions_rise_where_four_sessions_push_the_same_states(rt: HostRuntime) -> Result<(), Fail> {
+    let entries = played(&rt, new_table(&rt), 4, Scene::Pushes);
+    assert!(rt; entries == 103);
     Ok(())
 }

@@ -2,6 +2,7 @@
 
 ghost use Rattle.std.specs.Prelude.{◌≡◌, ◌≤◌};
 
+use crate::drafts::{name_of, push_of};
 use std::alloc::Global;
 use std::io::Write;
 use std::marker::Brand;
@@ -20,18 +21,32 @@ use tfs_serve::{Gate, Worker, work_all};
 use tfs_shared::{Naming, Opened, Session, Shared, share};
 use tfs_table::Table;
 
-const REQUEST: &str = "GET /state/a HTTP/1.1\r\nHost: h\r\nConnection: close\r\n\r\n";
+/// A query for what `t.a` reaches, after which the connection ends.
+const REQUEST: &str = "GET /impact/a/any?of=t.a HTTP/1.1\r\nHost: h\r\nConnection: close\r\n\r\n";
 
 const REPLY: &str =
-    "HTTP/1.1 404 Not Found\r\nConnection: close\r\nContent-Type: application/json\r\nContent-Length: 19\r\n\r\n{\"error\":\"NoState\"}";
+    "HTTP/1.1 200 OK\r\nConnection: close\r\nContent-Type: application/json\r\nContent-Length: 51\r\n\r\n\
+    {\"instances\":[\"t.b\",\"t.c\"],\"position\":1,\"serial\":2}";
 
 /// A gate that admits one connection, and holds its request until a request has come to two gates.
 #[derive(Drop)]
-struct Meeting<'m, R: Clock> {
+pub(crate) struct Meeting<'m, R: Clock> {
     rt: &'m R,
     come: &'m AtomicU64,
     is_open: bool,
-    met: bool,
+    pub(crate) met: bool,
+}
+
+impl<'m, R: Clock> Meeting<'m, R> {
+    /// A gate that nobody has come to.
+    pub(crate) fn new(rt: &'m R, come: &'m AtomicU64) -> Meeting<'m, R> {
+        Meeting {
+            rt,
+            come,
+            is_open: true,
+            met: false,
+        }
+    }
 }
 
 impl<'m, R: Clock> Gate for Meeting<'m, R> {
@@ -61,9 +76,15 @@ impl<'m, R: Clock> Gate for Meeting<'m, R> {
 
 #[test]
 fn two_workers_hold_their_requests_at_once(rt: HostRuntime) -> Result<(), Fail> {
-    let table = Table::new(rt.alloc(), Discard).ok().expect(&rt, "a table");
-    played(&rt, table, Blank::new(2), Opened::new());
+    played(&rt, table_of_two(&rt), Blank::new(2), Opened::new());
     Ok(())
+}
+
+/// A table with the chain, of serial 2.
+pub(crate) fn table_of_two(rt: &(impl Alloc<A = Global> + Abort)) -> Table<Discard> {
+    let mut table = Table::new(rt.alloc(), Discard).ok().expect(rt, "a table");
+    assert!(rt; table.apply(name_of(rt), push_of(rt, 2)).ok() == Some(1));
+    table
 }
 
 /// The scene over a table that is shared by two sessions.
@@ -137,12 +158,7 @@ fn answer<
     let come = AtomicU64::new(0);
     let mut workers = Vec::new(rt.alloc());
     for session in sessions {
-        let gate = Meeting {
-            rt,
-            come: &come,
-            is_open: true,
-            met: false,
-        };
+        let gate = Meeting::new(rt, &come);
         let failed = true;
         let worker = Worker {
             gate,
@@ -158,7 +174,7 @@ fn answer<
 }
 
 /// A connection on which the request was sent.
-fn sent<R: Abort + Net<Stream = TcpStream>>(rt: &R, address: SocketAddr) -> TcpStream {
+pub(crate) fn sent<R: Abort + Net<Stream = TcpStream>>(rt: &R, address: SocketAddr) -> TcpStream {
     let stream = TcpStream::connect(rt, address);
     let mut stream = stream.ok().expect(rt, "a connection");
     assert!(rt; stream.write_all(REQUEST.as_bytes()).is_ok());
@@ -166,7 +182,7 @@ fn sent<R: Abort + Net<Stream = TcpStream>>(rt: &R, address: SocketAddr) -> TcpS
 }
 
 /// The reply comes on a connection, and then its end.
-fn is_told(rt: &(impl Alloc<A = Global> + Abort), stream: TcpStream) {
+pub(crate) fn is_told(rt: &(impl Alloc<A = Global> + Abort), stream: TcpStream) {
     let reply = io::read_to_string(rt.alloc(), stream);
     assert!(rt; reply.ok().expect(rt, "a reply").as_str() == REPLY);
 }

@@ -7,6 +7,7 @@ use std::alloc::Global;
 use std::marker::Brand;
 use std::net::{Net, TcpListener, TcpStream};
 use std::process::Abort;
+use std::sync::atomic::AtomicBool;
 use std::sync::ledger::Blank;
 use std::sync::{Arc, Mutex, Wait};
 use std::test::Fail;
@@ -180,11 +181,13 @@ fn desks<J: Naming, R: Wait + Abort + Alloc<A = Global>>(
     session: &mut Session<J>,
 ) {
     let turn = Mutex::new(());
+    let ended = AtomicBool::new(false);
     let service = Service {
         rt,
         alloc: rt.alloc(),
         shared,
         turn: &turn,
+        ended: &ended,
     };
     asks(rt, &service, session);
 }
@@ -211,11 +214,13 @@ fn works<
     R: Wait + Clock + Abort + Alloc<A = Global> + Net<Stream = TcpStream, Listener = TcpListener>,
 >(rt: &R, shared: &Shared<J, Discard>, listener: &TcpListener, session: &mut Session<J>) {
     let turn = Mutex::new(());
+    let ended = AtomicBool::new(false);
     let service = Service {
         rt,
         alloc: rt.alloc(),
         shared,
         turn: &turn,
+        ended: &ended,
     };
     let worked: Result<(), AcceptFault> = work(&service, listener, &mut Closed, session);
     assert!(rt; worked == Ok(()));
