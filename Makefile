@@ -1,6 +1,6 @@
 # What a developer runs. `make` alone lists it.
 
-ifneq ($(filter-out help lint $(if $(TFSTATED),serve deploy-test),$(MAKECMDGOALS)),)
+ifneq ($(filter-out help lint $(if $(TFSTATECTL),serve $(if $(TFSTATED),deploy-test)),$(MAKECMDGOALS)),)
 ifeq ($(shell command -v rt 2>/dev/null),)
 $(error the command rt of the Rattle kit is missing: put the kit's folder bin on the PATH)
 endif
@@ -19,7 +19,7 @@ help:
 	@echo 'make check CRATE=tfs_rules     prove one crate, over what earlier runs proved'
 	@echo 'make edits CRATE=tfs_rules     try the must-fail edits of one crate; one of them with EDIT=name'
 	@echo 'make blackbox                  check the built program from outside; one check with CHECK=locks'
-	@echo 'make deploy-test               test starts, standbys and nginx as deploy/ has them; nginx has to be installed'
+	@echo 'make deploy-test               test nginx in front of the server as deploy/ has it; nginx has to be installed'
 	@echo 'make bench                     run the benchmarks; one of them with BENCH=planes'
 	@echo 'make stress                    have 16 sessions call a shared table for a minute, and check each answer; SECONDS=10 for less'
 	@echo 'make lint                      look for faults in Python and shell files, without running them'

@@ -1,12 +1,11 @@
-"""Runs the tests of deploy/: those of the start script, of copies and standbys, and of nginx, which has to be installed, and of
-Terraform, where it is. The last line is `N passed, M failed`."""
+"""Runs the tests of deploy/: those of its pages, of nginx, which has to be installed, and of Terraform, where it is. The last line is `N passed, M failed`."""
 import shutil
 import sys
 
 from gate import Screen, run, script
 from repository import TOP
 
-TESTS = ["check_start.py", "deploy_standby.py", "deploy_pages.py", "deploy_nginx.py"]
+TESTS = ["deploy_pages.py", "deploy_nginx.py"]
 OF_TERRAFORM = "deploy_terraform.py"
 
 

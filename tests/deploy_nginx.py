@@ -15,9 +15,10 @@ import time
 from pathlib import Path
 
 from checking import SECONDS, STARTED, checks_in, expect, run_checks
-from started import A, B, FOLDER, LOOPBACK, S1, Started, ask_over, free_port, fresh, journals
+from folder_program import Serving
+from folders import A, B, FOLDER, LOOPBACK, S1, ask_over, free_port, fresh, journals
 from journal_reader import read_journal
-from stdio_program import TOP
+from repository import TOP
 
 DEPLOY, ROOM = TOP / "deploy", Path(FOLDER.name)
 USER, PASSWORD = "team", "secret words"
@@ -126,7 +127,7 @@ class Nginx:
 @contextlib.contextmanager
 def served(workers="4"):
     """A server with nginx in front of it."""
-    server, port = Started(fresh(n1=b"TFJ1\n"), workers=workers).listens(), free_port()
+    server, port = Serving(fresh(n1=b"TFJ1\n"), workers=workers).listens(), free_port()
     with Nginx(site(server.port, port), port) as proxy:
         yield server, proxy
     server.kill()
@@ -234,18 +235,18 @@ def check_clients_that_wait_hold_no_worker():
 
 def check_a_server_that_is_away_is_told_and_comes_back():
     folder, port = fresh(n1=b"TFJ1\n"), free_port()
-    server = Started(folder).listens()
+    server = Serving(folder).listens()
     with Nginx(site(server.port, port), port) as proxy:
         expect(proxy.ask("POST", "/state/a", S1), (200, b""))
         server.kill()
         expect(proxy.ask("GET", "/state/a")[0], 502)
-        Started(folder, port=server.port).listens()
+        Serving(folder, port=server.port).listens()
         expect(proxy.ask("GET", "/state/a"), (200, S1))
 
 
 def check_names_are_spread_and_stay_where_they_are():
     folders, port = [fresh(n1=b"TFJ1\n"), fresh(n1=b"TFJ1\n")], free_port()
-    servers = [Started(folder).listens() for folder in folders]
+    servers = [Serving(folder).listens() for folder in folders]
     names = [f"net-{number}.prod" for number in range(20)] + ["moved"]
     text = spread_site([server.port for server in servers], port, placed="moved tfstated_2;")
     with Nginx(text, port) as proxy:

@@ -8,7 +8,7 @@ import sys
 
 from checking import SECONDS, checks_in, expect, run_checks
 from deploy_nginx import PASSWORD, ROOM, USER, make_secrets, served
-from started import LOOPBACK, fresh
+from folders import LOOPBACK, fresh
 
 BACKEND = """terraform {{
   backend "http" {{
