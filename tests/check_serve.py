@@ -12,7 +12,7 @@ from pathlib import Path
 
 from checking import S1, S2, checks_in, expect, run_checks
 from sample_states import chain
-from serve_program import (LOOPBACK, Server, asked, calls_in, entries_of, free_port, fresh, hostile, limited, preloaded, push_large,
+from serve_program import (LOOPBACK, Server, asked, calls_in, crowd, entries_of, free_port, fresh, hostile, limited, preloaded, push_large,
                            reply_of, rest_of, run, send_all, state, zeros)
 from stdio_program import USAGE, request_text
 
@@ -211,9 +211,9 @@ def pushed_by_sixteen(server, text):
 
 def check_sixteen_hostile_bodies_end_nothing():
     server = Server(workers=16, preexec_fn=limited(6 * 10**9))
-    for text in (hostile(16 << 20), zeros(16 << 20)):
+    for text in (hostile(16 << 20), zeros(16 << 20), crowd(16 << 20)):
         statuses = pushed_by_sixteen(server, text)
-        expect(set(statuses) <= {200, 400, 503}, True, statuses)
+        expect(set(statuses) <= {200, 400, 413, 503}, True, statuses)
     expect(server.ask("POST", "/state/a", S1), (200, b""))
     expect(server.process.poll(), None)
 

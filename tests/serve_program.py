@@ -188,6 +188,14 @@ def zeros(length):
     return (b"[" + b"0," * ((length - 4) // 2)).ljust(length - 2) + b"0]"
 
 
+def crowd(length):
+    """A state of so many bytes that lists far too many instances, each of which takes many times its bytes to be read."""
+    head, tail = state(1, ("a",)).rsplit(b"{", 1)
+    expect(tail.startswith(b'"dependencies"'), True, "the last object is the instance")
+    room = length - len(head) - len(tail) - 1
+    return (head + b"{}," * (room // 3)).ljust(length - len(tail) - 1) + b"{" + tail
+
+
 def push_large(server, text, statuses):
     """Pushes a text, and keeps the status of the reply; none where the connection ends without one."""
     try:
