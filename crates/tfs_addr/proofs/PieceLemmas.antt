@@ -1,5 +1,5 @@
 -- Lists of pieces: what has been read of a text, and that a text is read in one way.
-use Rattle.std.proofs.Common.{◌≡◌, ◌≢◌, ℕ, ◌+◌, ◌<◌, List, [], ◌∷◌, ◌++◌, length, map, Option, Some, None, refl, sym, ap, ◌∙◌, arith, append_assoc, append-nil, length-append}
+use Rattle.std.proofs.Common.{◌≡◌, ◌≢◌, ℕ, ◌+◌, ◌<◌, ◌≤◌, List, [], ◌∷◌, ◌++◌, length, map, Option, Some, None, refl, sym, ap, ◌∙◌, arith, append_assoc, append-nil, length-append}
 use Rattle.std.specs.Prelude.{⊤, IsUtf8, chars, encode_utf8_all}
 use Rattle.std.specs.Option.{option_map, MatchOption}
 use Rattle.std.specs.List.{AllByRecursion}
@@ -157,6 +157,30 @@ IsStripped-from_read text bare u h = (
   },
   h.kept,
 )
+
+-- A piece has no fewer bytes than are left of it.
+bare_part-short : (piece : Piece) → length (encode_utf8_all (bare_part piece)) ≤ length (encode_utf8_all (print_piece piece))
+bare_part-short (character c) = omega arith
+bare_part-short (number_key digits) = omega arith
+bare_part-short (text_key units) = omega arith
+
+-- Nor have pieces.
+without_keys-short : (pieces : List Piece) → length (encode_utf8_all (without_keys pieces)) ≤ length (encode_utf8_all (print_pieces pieces))
+without_keys-short [] = omega arith
+without_keys-short (p ∷ pieces) =
+    omega (
+      arith,
+      size-append (bare_part p) (without_keys pieces),
+      size-append (print_piece p) (print_pieces pieces),
+      bare_part-short p,
+      without_keys-short pieces,
+    )
+
+-- What is kept has no more bytes than the text.
+pub HasRead-short : (text rest bare : List ℕ) → IsUtf8 text → HasRead (chars text) rest bare → length bare ≤ length text
+HasRead-short text rest bare u h =
+    let whole : text ≡ encode_utf8_all (print_pieces h.pieces ++ rest) = sym (encodes-chars text u) ∙ ap encode_utf8_all h.printed in
+    omega (arith, ap length whole, ap length h.kept, size-append (print_pieces h.pieces) rest, without_keys-short h.pieces)
 
 -- No characters are no pieces.
 no_pieces : (pieces : List Piece) (rest bare : List ℕ) → [] ≡ print_pieces pieces ++ rest → bare ≡ encode_utf8_all (without_keys pieces)

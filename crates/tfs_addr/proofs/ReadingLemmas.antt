@@ -1,5 +1,5 @@
 -- A text reads or stops, and `stripped_text` tells which.
-use Rattle.std.proofs.Common.{◌≡◌, ℕ, zero, suc, ◌+◌, ◌≤◌, ◌⊎◌, List, [], ◌∷◌, ◌++◌, length, Option, Some, None, Result, Err, refl, sym, ap, ◌∙◌, inl, inr, arith, append_assoc, length-append}
+use Rattle.std.proofs.Common.{◌≡◌, ◌≢◌, ℕ, zero, suc, ◌+◌, ◌≤◌, ◌⊎◌, List, [], ◌∷◌, ◌++◌, length, Option, Some, None, Result, Ok, Err, IfOk, IfErr, String, string_bytes, refl, sym, ap, ◌∙◌, inl, inr, arith, append_assoc, length-append}
 use Rattle.std.specs.Prelude.{IsUtf8, chars, encode_utf8_all}
 use Rattle.std.specs.Option.{IsSome, option_map, MatchOption}
 use Rattle.std.specs.List.{AllByRecursion}
@@ -249,3 +249,11 @@ pub GivesText-fault : (A : Type 0) (text : List ℕ) (e : AddrFault) → IsUtf8 
 GivesText-fault A text Unclosed u h = FaultOf-none text Unclosed u h
 GivesText-fault A text StrayBracket u h = FaultOf-none text StrayBracket u h
 GivesText-fault A text NoMemory u h = absurd h
+
+-- What is made of a text that reads is that text, or else memory ran out: a fault would tell that it doesn't read.
+pub GivesText-made : (A : Type 0) (text bare : List ℕ) (r : Result (String A) AddrFault) → IsUtf8 text → IsStripped text bare
+    → IfOk r (λ made. IsStripped text (string_bytes made)) → IfErr r (λ e. e ≢ NoMemory → FaultOf text e) → GivesText r (stripped_text text)
+GivesText-made A text bare (Ok made) u h ok err = stripped_text-some text (string_bytes made) u ok
+GivesText-made A text bare (Err NoMemory) u h ok err = stripped_text-is_some text bare u h
+GivesText-made A text bare (Err Unclosed) u h ok err = FaultOf-none text Unclosed u (err (λ e. cc))
+GivesText-made A text bare (Err StrayBracket) u h ok err = FaultOf-none text StrayBracket u (err (λ e. cc))

@@ -1,7 +1,7 @@
 //! A text without its instance keys. The steps of a key take a few nanoseconds each, so they are
 //! compiled into the loops that take them.
 
-ghost use Rattle.std.specs.Prelude.{◌≡◌, ◌≢◌, ◌++◌, ◌*◌, ◌+◌, ◌<◌, ◌≤◌, [], length, chars, IsUtf8, option_copied, IfOk, IfErr, IsOk, OnOk, OnErr, IsSome, IfSome, string_bytes, string_len, string_capacity, false};
+ghost use Rattle.std.specs.Prelude.{◌≡◌, ◌≢◌, ◌++◌, ◌*◌, ◌+◌, ◌<◌, ◌≤◌, ℕ, List, [], length, chars, IsUtf8, option_copied, IfOk, IfErr, IsOk, OnOk, OnErr, IfSome, Ok, string_bytes, string_len, string_capacity, false};
 ghost use Rattle.tfs_addr.specs.Address.{opening, closing, IsStripped, StopsBefore, HasNoReading, BeginsNoPiece, GivesText, stripped_text, quote, backslash};
 ghost use Rattle.tfs_addr.specs.Steps.{HasNeither, MayBeginWith, IsBracketOf, FaultOf, IsKeyThen, rest_after, units_rest, key_rest, without_digits};
 
@@ -30,25 +30,18 @@ pub fn strip(alloc: Global, text: &str) -> Result<String, AddrFault>
     ensures value { GivesText result (stripped_text text.now) }
     ensures empty { text.now ≡ [] → IsOk result }
 {
-    match bare_text(alloc, text) {
-        Ok(bare) => Ok(bare),
-        Err(AddrFault::NoMemory) => {
-            // A text that doesn't read has its fault, whatever memory there is.
-            check(text)?;
-            Err(AddrFault::NoMemory)
-        }
-        Err(fault) => Err(fault),
-    }
+    let len = bare_len(text)?;
+    bare_text(alloc, text, len)
 }
 
-/// The text without its keys, if memory suffices up to its fault.
-fn bare_text(alloc: Global, text: &str) -> Result<String, AddrFault>
+/// The text without its keys, which has this many bytes.
+fn bare_text(alloc: Global, text: &str, len: usize) -> Result<String, AddrFault>
     ensures ok { IfOk result (λ bare. IsStripped text.now (string_bytes bare)) }
     ensures room { IfOk result (λ bare. 4 * string_capacity bare ≤ 5 * string_len bare) }
     ensures err { IfErr result (λ e. e ≢ AddrFault.NoMemory → FaultOf text.now e) }
-    ensures empty { text.now ≡ [] → IsOk result }
+    ensures empty { text.now ≡ [] → len ≡ 0 → IsOk result }
 {
-    let mut bare = String::with_capacity(alloc, text.len())?;
+    let mut bare = String::with_capacity(alloc, len)?;
     let mut rest = text;
     loop {
         let (front, key) = split_at_bracket(rest);
@@ -73,7 +66,7 @@ fn keep(bare: &mut String, front: &str) -> Result<(), AllocError>
     bare.push_str(front)
 }
 
-/// The text with little room to spare, for which it may have to move to a smaller place.
+/// The text with little room to spare. One that was made with room for its length stays where it is.
 fn fitted(mut text: String) -> Result<String, AllocError>
     ensures kept { IfOk result (λ fit. string_bytes fit ≡ string_bytes text) }
     ensures room { IfOk result (λ fit. 4 * string_capacity fit ≤ 5 * string_len fit) }
@@ -96,16 +89,19 @@ fn has_much_room(text: &String) -> bool
     text.capacity() - text.len() > text.len() / 4
 }
 
-/// Whether the text reads in pieces.
-fn check(text: &str) -> Result<(), AddrFault>
-    ensures ok { OnOk result (IsSome (stripped_text text.now)) }
+/// How many bytes the text has without its keys.
+fn bare_len(text: &str) -> Result<usize, AddrFault>
+    ensures ok { IfOk result (λ len. (bare : List ℕ) × IsStripped text.now bare × (len ≡ length bare)) }
     ensures err { IfErr result (FaultOf text.now) }
+    ensures empty { text.now ≡ [] → result ≡ Ok 0 }
 {
+    let mut len = 0;
     let mut rest = text;
     loop {
-        let (_, key) = split_at_bracket(rest);
+        let (front, key) = split_at_bracket(rest);
+        len += front.len();
         if key.is_empty() {
-            return Ok(());
+            return Ok(len);
         }
         rest = after_key(key)?;
     }

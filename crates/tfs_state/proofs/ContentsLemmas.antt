@@ -1,6 +1,7 @@
 -- Laws of specs/Contents.antt, and of the document that a text spells.
-use Rattle.std.proofs.Common.{codes, nat_eq, not, Bool, ◌≡◌, ℕ, ◌≤◌, ◌<◌, List, length, true, false, cond, Option, Some, None, Ok, Err, string_bytes}
+use Rattle.std.proofs.Common.{codes, nat_eq, not, Bool, ◌≡◌, ℕ, ◌≤◌, ◌<◌, List, length, take, true, false, cond, Option, Some, None, Ok, Err, string_bytes}
 use Rattle.std.proofs.Common.{refl, sym, ap, subst, ◌∙◌, arith}
+use Rattle.std.specs.List.{AllZip}
 use Rattle.std.specs.Option.{ok_or, option_eq}
 use Rattle.std.proofs.lemmas.Bool.{le-leb, lt-leb, eqb-true}
 use Rattle.serde_json.specs.Data.{Data}
@@ -11,12 +12,12 @@ use Rattle.tfs_state.specs.Resources.{result_and_then, result_map, read_each, re
 use Rattle.tfs_state.specs.StateText.{few_instances, instances_of, content_of, version_of, serial_of, lineage_of}
 use Rattle.tfs_state.specs.declared.fault.StateFault.TheVariants.{Version, Serial, Lineage, Resource, TooManyInstances}
 use Rattle.tfs_state.specs.declared.fault.StateFault.{StateFault}
-use Rattle.tfs_state.specs.Tables.{ReadsResources}
+use Rattle.tfs_state.specs.Tables.{Tabulates, ReadsResources}
 use Rattle.tfs_state.specs.Contents.{Stand, ReadsInstancesOf, ReadsContent}
-use Rattle.tfs_state.specs.Packed.{ArePacked}
+use Rattle.tfs_state.specs.Packed.{IsPacked, ArePacked}
 use Rattle.tfs_state.specs.declared.content.Content.{Content}
 use Rattle.tfs_state.specs.declared.tables.Tables.{Tables}
-use Rattle.tfs_state.proofs.ListLemmas.{zip_length}
+use Rattle.tfs_state.proofs.ListLemmas.{zip_length, take_short, take_few}
 
 -- A test of an optional number that holds.
 pub is_number : (o : Option ℕ) (n : ℕ) → option_eq nat_eq o (Some n) ≡ true → o ≡ Some n
@@ -31,35 +32,45 @@ all_read value values lists is e =
     ap (λ o. result_and_then few_instances (result_and_then read_resources (ok_or o (Resource 0)))) (sym is)
     ∙ ap (λ r. result_and_then few_instances (result_map joined r)) e
 
--- At most 4,096 instances were read as tables, of which the blocks and the rows stay.
+-- As many rows are packed as there are, 4,097 at most.
+rows_packed : (tables : Tables) (instances : List Instance) (t : Tabulates tables instances) → length tables.packed.rows.items ≡ length (take 4097 t.rows)
+rows_packed tables instances t = zip_length _ tables.packed.rows.items (take 4097 t.rows) t.packed
+
+-- At most 4,096 instances were read as tables, of which the blocks and what is packed stay.
 pub instances_read : (value : Data) (values : List Data) (tables kept : Tables) → Some values ≡ list_at (codes "resources") value
-    → ReadsResources values tables → AreApart tables.names → length tables.rows.items ≤ 4096
-    → kept.blocks.items ≡ tables.blocks.items → kept.rows ≡ tables.rows → ReadsInstancesOf value kept
-instances_read value values tables kept is r apart few blocks rows =
-    let long = zip_length _ tables.rows.items (joined r.lists) r.stand in
-    let limit : length (joined r.lists) ≤ 4096 = omega (arith, long, few) in
+    → ReadsResources values tables → AreApart tables.names → length tables.packed.rows.items ≤ 4096
+    → kept.blocks.items ≡ tables.blocks.items → kept.packed.rows ≡ tables.packed.rows → kept.packed.numbers.items ≡ tables.packed.numbers.items
+    → ReadsInstancesOf value kept
+instances_read value values tables kept is r apart few blocks rows numbers =
+    let all = joined r.lists in
+    let t = r.stand in
+    let whole = take_few 4096 t.rows (omega (arith, rows_packed tables all t, few)) in
+    let limit : length all ≤ 4096 = omega (arith, whole.0, zip_length _ t.rows all t.stand) in
     record {
-      instances = joined r.lists;
-      read = all_read value values r.lists is r.read
-          ∙ ap (λ b. cond b (Ok (joined r.lists)) (Err TooManyInstances)) (le-leb (length (joined r.lists)) 4096 limit);
+      instances = all;
+      read = all_read value values r.lists is r.read ∙ ap (λ b. cond b (Ok all) (Err TooManyInstances)) (le-leb (length all) 4096 limit);
       limit = limit;
-      stand = subst (λ bs. Stand bs kept.rows.items (joined r.lists)) (sym blocks)
-          (subst (λ v. Stand tables.blocks.items v.items (joined r.lists)) (sym rows)
-          (record { names = tables.names; apart = apart; each = r.stand }));
+      rows = t.rows;
+      packed = subst (λ ps. AllZip (IsPacked kept.packed.numbers.items) ps.items t.rows) (sym rows)
+          (subst (λ ns. AllZip (IsPacked ns) tables.packed.rows.items t.rows) (sym numbers) (subst (ArePacked tables.packed) whole.1 t.packed));
+      stand = subst (λ bs. Stand bs t.rows all) (sym blocks) (record { names = tables.names; apart = apart; each = t.stand });
     }
 
 -- More than 4,096 instances.
 pub many_instances : (value : Data) (values : List Data) (tables : Tables) → Some values ≡ list_at (codes "resources") value
-    → ReadsResources values tables → 4096 < length tables.rows.items → instances_of value ≡ Err TooManyInstances
+    → ReadsResources values tables → 4096 < length tables.packed.rows.items → instances_of value ≡ Err TooManyInstances
 many_instances value values tables is r many =
-    let long = zip_length _ tables.rows.items (joined r.lists) r.stand in
+    let all = joined r.lists in
+    let t = r.stand in
+    let long = rows_packed tables all t in
+    let same = zip_length _ t.rows all t.stand in
     all_read value values r.lists is r.read
-    ∙ ap (λ b. cond b (Ok (joined r.lists)) (Err TooManyInstances)) (lt-leb (length (joined r.lists)) 4096 (omega (arith, long, many)))
+    ∙ ap (λ b. cond b (Ok all) (Err TooManyInstances)) (lt-leb (length all) 4096 (omega (arith, long, same, many, take_short 4097 t.rows)))
 
 -- The content of a value whose parts were read.
 pub content_read : (value : Data) (parts : Content) (tables : Tables) → version_of value ≡ Some 4 → serial_of value ≡ Some parts.serial
     → lineage_of value ≡ Some (string_bytes parts.lineage) → ReadsInstancesOf value tables
-    → parts.blocks ≡ tables.blocks → ArePacked parts.packed tables.rows.items → ReadsContent value parts
+    → parts.blocks ≡ tables.blocks → parts.packed ≡ tables.packed → ReadsContent value parts
 unfolding content_of
 content_read value parts tables version serial lineage r blocks packed = record {
   content = record { serial = parts.serial; lineage = string_bytes parts.lineage; instances = r.instances };
@@ -68,9 +79,9 @@ content_read value parts tables version serial lineage r blocks packed = record 
     serial = refl;
     lineage = refl;
     limit = r.limit;
-    rows = tables.rows.items;
-    packed = packed;
-    stand = subst (λ v. Stand v.items tables.rows.items r.instances) (sym blocks) r.stand;
+    rows = r.rows;
+    packed = subst (λ p. ArePacked p r.rows) (sym packed) r.packed;
+    stand = subst (λ v. Stand v.items r.rows r.instances) (sym blocks) r.stand;
   };
 }
 

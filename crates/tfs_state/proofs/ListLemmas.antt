@@ -1,6 +1,6 @@
 -- Laws of lists: of elements at a place, of two lists whose elements are related one by one, and of lists whose elements are
 -- read one after the other.
-use Rattle.std.proofs.Common.{option_map, None, ◌≡◌, ℕ, zero, suc, ◌+◌, ◌<◌, List, [], ◌∷◌, ◌++◌, length, map, take, drop, get_or, Some, Result, Ok}
+use Rattle.std.proofs.Common.{option_map, None, ◌≡◌, ℕ, zero, suc, ◌+◌, ◌<◌, ◌≤◌, List, [], ◌∷◌, ◌++◌, length, map, take, drop, get_or, Some, Result, Ok}
 use Rattle.std.proofs.Common.{Err, refl, sym, ap, subst, ◌∙◌, arith, add-zero, append_assoc}
 use Rattle.std.specs.List.{AllZip, slice_get}
 use Rattle.std.proofs.lemmas.Option.{slice_get-map}
@@ -72,6 +72,41 @@ module _ {A B : Type 0} where
   zip_map R f [] (y ∷ ys) p = p
   zip_map R f (x ∷ xs) [] p = p
   zip_map R f (x ∷ xs) (y ∷ ys) p = (p.0, zip_map R f xs ys p.1)
+
+  -- The fronts of related lists.
+  pub zip_take : (R : A → B → Type 0) (n : ℕ) (xs : List A) (ys : List B) → AllZip R xs ys → AllZip R (take n xs) (take n ys)
+  zip_take R zero xs ys p = tt
+  zip_take R (suc n) [] [] p = tt
+  zip_take R (suc n) [] (y ∷ ys) p = absurd p
+  zip_take R (suc n) (x ∷ xs) [] p = absurd p
+  zip_take R (suc n) (x ∷ xs) (y ∷ ys) p = (p.0, zip_take R n xs ys p.1)
+
+-- ---- fronts of lists
+
+module _ {A : Type 0} where
+  -- The empty list has an empty front.
+  pub take_none : (n : ℕ) → ◌≡◌ {A = List A} [] (take n [])
+  take_none zero = refl
+  take_none (suc n) = refl
+
+  -- A front is no longer than the list.
+  pub take_short : (n : ℕ) (xs : List A) → length (take n xs) ≤ length xs
+  take_short zero xs = omega arith
+  take_short (suc n) [] = omega arith
+  take_short (suc n) (x ∷ xs) = omega (arith, take_short n xs)
+
+  -- A front of fewer elements than were asked for is the list.
+  pub take_few : (n : ℕ) (xs : List A) → length (take (suc n) xs) ≤ n → (length xs ≤ n) × (take (suc n) xs ≡ xs)
+  take_few n [] few = (omega arith, refl)
+  take_few zero (x ∷ xs) few = absurd (omega arith)
+  take_few (suc n) (x ∷ xs) few = let rest = take_few n xs (omega arith) in (omega (arith, rest.0), ap (λ t. x ∷ t) rest.1)
+
+  -- The front of two lists is that of a front of the first and the second.
+  pub take_front : (k n : ℕ) (xs ys : List A) → k ≤ n → take k (take n xs ++ ys) ≡ take k (xs ++ ys)
+  take_front zero n xs ys le = refl
+  take_front (suc k) zero xs ys le = absurd (omega arith)
+  take_front (suc k) (suc n) [] ys le = refl
+  take_front (suc k) (suc n) (x ∷ xs) ys le = ap (λ t. x ∷ t) (take_front k n xs ys (omega arith))
 
 -- ---- lists whose elements are read one after the other
 

@@ -1,5 +1,5 @@
 -- Laws of specs/Packed.antt.
-use Rattle.std.proofs.Common.{◌≡◌, ℕ, ◌-◌, ◌≤◌, List, [], ◌∷◌, ◌++◌, length, take, drop, sym, ap, subst, ◌∙◌, arith, string_bytes}
+use Rattle.std.proofs.Common.{◌≡◌, ℕ, ◌-◌, ◌<◌, ◌≤◌, List, [], ◌∷◌, ◌++◌, length, take, drop, sym, ap, subst, ◌∙◌, arith, string_bytes}
 use Rattle.std.specs.List.{AllZip, slice_range}
 use Rattle.std.proofs.lemmas.List.{drop-append-le, take-append-le, length-append, length-drop, take_all}
 use Rattle.std.proofs.Math.Seq.{drop-append_seam}
@@ -7,7 +7,7 @@ use Rattle.tfs_state.specs.Packed.{IsPacked, ArePacked}
 use Rattle.tfs_state.specs.declared.packed.Packed.{Packed}
 use Rattle.tfs_state.specs.declared.packed.PackedRow.{PackedRow}
 use Rattle.tfs_state.specs.declared.tables.Row.{Row}
-use Rattle.tfs_state.proofs.ListLemmas.{zip_push, zip_weaken}
+use Rattle.tfs_state.proofs.ListLemmas.{zip_push, zip_weaken, zip_length, zip_take}
 
 -- A part of a list is that part of a longer list.
 range_longer : (xs ys : List ℕ) (a b : ℕ) → a ≤ b → b ≤ length xs → slice_range (xs ++ ys) a b ≡ slice_range xs a b
@@ -65,3 +65,23 @@ rows_packed old new packed row block tail start end numbers all rows are =
 -- No rows are packed as none.
 pub no_rows_packed : (packed : Packed) → packed.rows.items ≡ [] → ArePacked packed []
 no_rows_packed packed none = subst (λ ps. AllZip (IsPacked packed.numbers.items) ps []) (sym none) tt
+
+-- A row is kept where there are fewer than 4,097.
+pub row_kept : (old new : Packed) (row : Row) → length old.rows.items < 4097
+    → ((rows : List Row) → ArePacked old rows → ArePacked new (rows ++ row ∷ []))
+    → (rows : List Row) → ArePacked old rows → ArePacked new (take 4097 (rows ++ row ∷ []))
+row_kept old new row few added rows are =
+    let same = zip_length _ old.rows.items rows are in
+    let both = length-append rows (row ∷ []) in
+    subst (ArePacked new) (sym (take_all 4097 (rows ++ row ∷ []) (omega (arith, same, both, few)))) (added rows are)
+
+-- A row isn't kept where there are 4,097.
+pub row_passed : (old new : Packed) (row : Row) → 4097 ≤ length old.rows.items → new.numbers.items ≡ old.numbers.items
+    → new.rows.items ≡ take 4097 old.rows.items
+    → (rows : List Row) → ArePacked old rows → ArePacked new (take 4097 (rows ++ row ∷ []))
+row_passed old new row full numbers all rows are =
+    let same = zip_length _ old.rows.items rows are in
+    subst (ArePacked new) (sym (take-append-le 4097 rows (row ∷ []) (omega (arith, same, full))))
+    (subst (λ ps. AllZip (IsPacked new.numbers.items) ps (take 4097 rows)) (sym all)
+    (subst (λ ns. AllZip (IsPacked ns) (take 4097 old.rows.items) (take 4097 rows)) (sym numbers)
+    (zip_take (IsPacked old.numbers.items) 4097 old.rows.items rows are)))

@@ -5,16 +5,18 @@ use Rattle.std.specs.List.{AllZip, slice_get}
 use Rattle.std.specs.Option.{ok_or}
 use Rattle.std.proofs.lemmas.Bool.{eqb-true}
 use Rattle.std.proofs.lemmas.Grind.{flat_map-append}
+use Rattle.std.proofs.lemmas.List.{append_assoc}
 use Rattle.serde_json.specs.Data.{Data}
 use Rattle.tfs_json.specs.Tree.{tree_view as view}
 use Rattle.tfs_json.specs.Tree.{Tree as Value}
 use Rattle.tfs_addr.specs.Address.{stripped_text, configuration_address, key_of, key_part, deposed_part, module_part, resource_part}
 use Rattle.tfs_state.specs.Document.{Instance}
 use Rattle.tfs_state.specs.Names.{Extends}
+use Rattle.tfs_state.specs.Packed.{ArePacked}
 use Rattle.tfs_state.specs.Parts.{instance_view}
 use Rattle.tfs_state.specs.Resources.{Own, ResourceMembers, own_of, instance_of, result_and_then, result_map, read_each, read_dependency}
 use Rattle.tfs_state.specs.Resources.{instance_members, read_instance, resource_members, resource_of, read_resource, joined}
-use Rattle.tfs_state.specs.Tables.{StandsForBare, IsRowOf, StandsFor, ReadsBlock, ReadsDependency, ReadsDependencies, ReadsInstance, ReadsInstances}
+use Rattle.tfs_state.specs.Tables.{StandsForBare, IsRowOf, StandsFor, ReadsBlock, ReadsDependency, ReadsDependencies, ReadsInstance, AddsInstances}
 use Rattle.tfs_state.specs.Tables.{ReadsResource, ReadsResources, Tabulates}
 use Rattle.tfs_state.specs.declared.fault.StateFault.{StateFault}
 use Rattle.tfs_state.specs.declared.fault.StateFault.TheVariants.{Dependency, Resource, Instance as InstanceFault}
@@ -22,8 +24,9 @@ use Rattle.tfs_state.specs.declared.instance.InstanceParts.{InstanceParts}
 use Rattle.tfs_state.specs.declared.tables.Block.{Block}
 use Rattle.tfs_state.specs.declared.tables.Row.{Row}
 use Rattle.tfs_state.specs.declared.tables.Tables.{Tables}
-use Rattle.tfs_state.proofs.ListLemmas.{slice_get_longer, slice_get_last, zip_append, zip_push, zip_weaken, zip_map, read_more, read_stops}
+use Rattle.tfs_state.proofs.ListLemmas.{slice_get_longer, slice_get_last, zip_append, zip_push, zip_weaken, zip_map, take_none, take_front, read_more, read_stops}
 use Rattle.tfs_state.proofs.NamesLemmas.{extends_more, extends_none, keeps_number}
+use Rattle.tfs_state.proofs.PackedLemmas.{no_rows_packed}
 
 -- ---- dependencies
 
@@ -70,27 +73,43 @@ row_longer a b p place row own s = record {
   dependencies = all_stand_longer a b p row.dependencies.items own.dependencies s.dependencies;
 }
 
--- Before the first instance nothing is read.
-pub no_instances : (i place : ℕ) (names : List (List ℕ)) → ReadsInstances i place [] names names []
+-- Before the first instance nothing is added.
+pub no_instances : (i place : ℕ) (tables : Tables) → AddsInstances i place [] tables tables
 unfolding read_each
-no_instances i place names = record { owns = []; read = refl; grown = extends_none names; stand = tt }
+no_instances i place tables = record {
+  owns = [];
+  read = refl;
+  grown = extends_none tables.names;
+  rows = [];
+  stand = tt;
+  blocks = refl;
+  packed = λ first are. subst (λ rows. ArePacked tables.packed (take 4097 rows)) (sym (append-nil first)) are;
+}
 
-module _ (i j place : ℕ) (values : List Value) (value : Value) (a b : List (List ℕ)) (rows : List Row) where
+module _ (i j place : ℕ) (values : List Value) (value : Value) (old mid : Tables) where
   -- One instance more.
-  pub instance_more : (c : List (List ℕ)) (row : Row) → j < length values → value ≡ get_or values j value
-      → ReadsInstances i place (map view (take j values)) a b rows → ReadsInstance i j place (view value) b c row
-      → ReadsInstances i place (map view (take (j + 1) values)) a c (rows ++ row ∷ [])
-  instance_more c row h is so_far now = record {
+  pub instance_more : (new : Tables) (row : Row) → j < length values → value ≡ get_or values j value
+      → AddsInstances i place (map view (take j values)) old mid → ReadsInstance i j place (view value) mid.names new.names row
+      → new.blocks.items ≡ mid.blocks.items
+      → ((rows : List Row) → ArePacked mid.packed rows → ArePacked new.packed (take 4097 (rows ++ row ∷ [])))
+      → AddsInstances i place (map view (take (j + 1) values)) old new
+  instance_more new row h is so_far now blocks kept = record {
     owns = so_far.owns ++ now.own ∷ [];
     read = read_more (read_instance i) view values j value so_far.owns now.own h is so_far.read now.read;
-    grown = extends_more a b c so_far.grown now.grown;
-    stand = zip_push (IsRowOf c place) rows so_far.owns row now.own
-        (zip_weaken (IsRowOf b place) (IsRowOf c place) (row_longer b c now.grown place) rows so_far.owns so_far.stand) now.stands;
+    grown = extends_more old.names mid.names new.names so_far.grown now.grown;
+    rows = so_far.rows ++ row ∷ [];
+    stand = zip_push (IsRowOf new.names place) so_far.rows so_far.owns row now.own
+        (zip_weaken (IsRowOf mid.names place) (IsRowOf new.names place) (row_longer mid.names new.names now.grown place) so_far.rows so_far.owns so_far.stand)
+        now.stands;
+    blocks = blocks ∙ so_far.blocks;
+    packed = λ first are. subst (ArePacked new.packed)
+        (take_front 4097 4097 (first ++ so_far.rows) (row ∷ []) (omega arith) ∙ ap (take 4097) (append_assoc first so_far.rows (row ∷ [])))
+        (kept (take 4097 (first ++ so_far.rows)) (so_far.packed first are));
   }
 
   -- An instance that is refused.
   pub instance_stops : (fault : StateFault) → j < length values → value ≡ get_or values j value
-      → ReadsInstances i place (map view (take j values)) a b rows → read_instance i j (view value) ≡ Err fault
+      → AddsInstances i place (map view (take j values)) old mid → read_instance i j (view value) ≡ Err fault
       → read_each (read_instance i) 0 (map view values) ≡ Err fault
   instance_stops fault h is so_far r = read_stops (read_instance i) view values j value so_far.owns fault h is so_far.read r
 
@@ -145,18 +164,21 @@ resource_read i value r owns is e =
 
 -- A resource without instances adds nothing.
 pub resource_without_instances : (i : ℕ) (value : Data) (r : ResourceMembers) (old new : Tables) (block : Block) → Some r ≡ resource_members value
-    → ReadsBlock r old.names new.names block → r.instances ≡ [] → new.blocks.items ≡ old.blocks.items → new.rows.items ≡ old.rows.items
+    → ReadsBlock r old.names new.names block → r.instances ≡ [] → new.blocks.items ≡ old.blocks.items → new.packed ≡ old.packed
     → ReadsResource i value old new
 unfolding read_each
-resource_without_instances i value r old new block own b none blocks rows = record {
+resource_without_instances i value r old new block own b none blocks packed = record {
   more = [];
   read = resource_read i value r [] (resource_is value r (string_bytes block.config) own b.stands.config) (ap (read_each (read_instance i) 0) none);
-  added = λ us h. subst (λ vs. AllZip (StandsFor new.names new.blocks.items) new.rows.items vs) (sym (append-nil us))
-      (subst (λ rs. AllZip (StandsFor new.names new.blocks.items) rs us) (sym rows)
-      (zip_weaken (StandsFor old.names old.blocks.items) (StandsFor new.names new.blocks.items)
-      (λ row u s. subst (λ bs. StandsFor new.names bs row u) (append-nil old.blocks.items ∙ sym blocks)
-      (stands_for_longer old.names new.names old.blocks.items [] b.grown row u s))
-      old.rows.items us h));
+  added = λ us h. record {
+    rows = h.rows;
+    packed = subst (λ p. ArePacked p (take 4097 h.rows)) (sym packed) h.packed;
+    stand = subst (AllZip (StandsFor new.names new.blocks.items) h.rows) (sym (append-nil us))
+        (zip_weaken (StandsFor old.names old.blocks.items) (StandsFor new.names new.blocks.items)
+        (λ row u s. subst (λ bs. StandsFor new.names bs row u) (append-nil old.blocks.items ∙ sym blocks)
+        (stands_for_longer old.names new.names old.blocks.items [] b.grown row u s))
+        h.rows us h.stand);
+  };
 }
 
 -- A row of an instance stands for it, where its block stands last.
@@ -173,32 +195,46 @@ row_stands r blocks block a b is p row own s = record {
   dependencies = s.dependencies;
 }
 
--- A resource with instances adds its block and its rows.
-pub resource_with_instances : (i place : ℕ) (late : List (List ℕ)) (value : Data) (r : ResourceMembers) (old new : Tables) (block : Block) (mid :
-    List (List ℕ)) (rows : List Row)
-    → Some r ≡ resource_members value → ReadsBlock r old.names mid block
-    → ReadsInstances i place r.instances mid late rows → place ≡ length old.blocks.items → new.names ≡ late
-    → new.blocks.items ≡ old.blocks.items ++ block ∷ [] → new.rows.items ≡ old.rows.items ++ rows → ReadsResource i value old new
-resource_with_instances i place late value r old new block mid rows own b read at names blocks all =
-    let is = subst (λ n. ReadsInstances i n r.instances mid new.names rows) at (subst (λ n. ReadsInstances i place r.instances mid n rows) (sym names) read) in
+-- A resource with instances adds its rows and its block.
+pub resource_with_instances : (i place : ℕ) (value : Data) (r : ResourceMembers) (old before after new : Tables) (block : Block)
+    → Some r ≡ resource_members value → ReadsBlock r old.names before.names block → before.blocks.items ≡ old.blocks.items → before.packed ≡ old.packed
+    → AddsInstances i place r.instances before after → place ≡ length old.blocks.items
+    → new.names ≡ after.names → new.packed ≡ after.packed → new.blocks.items ≡ after.blocks.items ++ block ∷ [] → ReadsResource i value old new
+resource_with_instances i place value r old before after new block own b same_blocks same_packed is at names packed blocks =
+    let stands = StandsFor new.names new.blocks.items in
+    let more = map (instance_of r) is.owns in
+    let grown : Extends before.names new.names = subst (Extends before.names) (sym names) is.grown in
+    let all : old.blocks.items ++ block ∷ [] ≡ new.blocks.items = sym (blocks ∙ ap (λ bs. bs ++ block ∷ []) (is.blocks ∙ same_blocks)) in
+    let each : AllZip (IsRowOf new.names (length old.blocks.items)) is.rows is.owns =
+    subst (λ n. AllZip (IsRowOf new.names n) is.rows is.owns) at (subst (λ ns. AllZip (IsRowOf ns place) is.rows is.owns) (sym names) is.stand) in
     record {
-      more = map (instance_of r) is.owns;
+      more = more;
       read = resource_read i value r is.owns (resource_is value r (string_bytes block.config) own b.stands.config) is.read;
-      added = λ us h. subst (λ rs. AllZip (StandsFor new.names new.blocks.items) rs (us ++ map (instance_of r) is.owns)) (sym all)
-          (subst (λ bs. AllZip (StandsFor new.names bs) (old.rows.items ++ rows) (us ++ map (instance_of r) is.owns)) (sym blocks)
-          (zip_append (StandsFor new.names (old.blocks.items ++ block ∷ [])) old.rows.items rows us (map (instance_of r) is.owns)
-          (zip_weaken (StandsFor old.names old.blocks.items) (StandsFor new.names (old.blocks.items ++ block ∷ []))
-          (stands_for_longer old.names new.names old.blocks.items (block ∷ []) (extends_more old.names mid new.names b.grown is.grown))
-          old.rows.items us h)
-          (zip_map (StandsFor new.names (old.blocks.items ++ block ∷ [])) (instance_of r) rows is.owns
-          (zip_weaken (IsRowOf new.names (length old.blocks.items)) (λ row own. StandsFor new.names (old.blocks.items ++ block ∷ []) row
-          (instance_of r own)) (row_stands r old.blocks.items block mid new.names b is.grown) rows is.owns is.stand))));
+      added = λ us h. record {
+        rows = h.rows ++ is.rows;
+        packed = subst (λ p. ArePacked p (take 4097 (h.rows ++ is.rows))) (sym packed)
+            (is.packed h.rows (subst (λ p. ArePacked p (take 4097 h.rows)) (sym same_packed) h.packed));
+        stand = zip_append stands h.rows is.rows us more
+            (zip_weaken (StandsFor old.names old.blocks.items) stands
+            (λ row u s. subst (λ bs. StandsFor new.names bs row u) all
+            (stands_for_longer old.names new.names old.blocks.items (block ∷ []) (extends_more old.names before.names new.names b.grown grown) row u s))
+            h.rows us h.stand)
+            (zip_map stands (instance_of r) is.rows is.owns
+            (zip_weaken (IsRowOf new.names (length old.blocks.items)) (λ row own. stands row (instance_of r own))
+            (λ row own s. subst (λ bs. StandsFor new.names bs row (instance_of r own)) all
+            (row_stands r old.blocks.items block before.names new.names b grown row own s))
+            is.rows is.owns each));
+      };
     }
 
 -- Before the first resource nothing is read.
-pub no_resources : (tables : Tables) → tables.rows.items ≡ [] → ReadsResources [] tables
+pub no_resources : (tables : Tables) → tables.packed.rows.items ≡ [] → ReadsResources [] tables
 unfolding read_each
-no_resources tables rows = record { lists = []; read = refl; stand = subst (λ rs. AllZip (StandsFor tables.names tables.blocks.items) rs []) (sym rows) tt }
+no_resources tables rows = record {
+  lists = [];
+  read = refl;
+  stand = record { rows = []; packed = subst (ArePacked tables.packed) (take_none 4097) (no_rows_packed tables.packed rows); stand = tt };
+}
 
 -- A list of values that is empty.
 pub no_values : {A B : Type 0} (f : A → B) (xs : List A) → true ≡ nat_eq (length xs) 0 → map f xs ≡ []

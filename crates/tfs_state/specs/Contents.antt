@@ -46,4 +46,6 @@ pub record ReadsInstancesOf (value : Data) (tables : Tables) : Type 0 where
   pub instances : List Instance
   pub read : instances_of value ≡ Ok instances
   pub limit : length instances ≤ 4096
-  pub stand : Stand tables.blocks.items tables.rows.items instances
+  pub rows : List Row
+  pub packed : ArePacked tables.packed rows
+  pub stand : Stand tables.blocks.items rows instances

@@ -1,11 +1,12 @@
 -- How the private tables of a document stand for its instances, by numbers in place of texts.
-use Rattle.std.specs.Prelude.{◌≡◌, ℕ, List, ◌++◌, slice_get, Some, Ok, string_bytes}
+use Rattle.std.specs.Prelude.{◌≡◌, ℕ, List, ◌++◌, slice_get, take, Some, Ok, string_bytes}
 use Rattle.std.specs.List.{AllZip}
 use Rattle.serde_json.specs.Data.{Data}
 use Rattle.tfs_addr.specs.Address.{stripped_text, configuration_address, key_part, deposed_part}
 use Rattle.tfs_state.specs.Digest.{digest_of}
 use Rattle.tfs_state.specs.Document.{Instance}
 use Rattle.tfs_state.specs.Names.{Extends}
+use Rattle.tfs_state.specs.Packed.{ArePacked}
 use Rattle.tfs_state.specs.Parts.{front_text}
 use Rattle.tfs_state.specs.Resources.{Own, ResourceMembers, read_each, dependency_of, read_dependency, read_instance, read_resource, joined}
 use Rattle.tfs_state.specs.declared.tables.Block.{Block}
@@ -47,9 +48,11 @@ pub record StandsFor (names : List (List ℕ)) (blocks : List Block) (row : Row)
   pub tail : string_bytes row.tail ≡ key_part u.key ++ deposed_part u.deposed
   pub dependencies : AllZip (StandsForBare names) row.dependencies.items u.dependencies
 
--- Each row stands for the instance at the same place.
-abbrev pub Tabulates : Tables → List Instance → Type 0
-Tabulates tables instances = AllZip (StandsFor tables.names tables.blocks.items) tables.rows.items instances
+-- Rows stand for the instances, each for the one at its place, and the first 4,097 of them are packed.
+pub record Tabulates (tables : Tables) (instances : List Instance) : Type 0 where
+  pub rows : List Row
+  pub packed : ArePacked tables.packed (take 4097 rows)
+  pub stand : AllZip (StandsFor tables.names tables.blocks.items) rows instances
 
 -- ---- what the readers give
 
@@ -74,12 +77,15 @@ pub record ReadsInstance (i j place : ℕ) (value : Data) (old new : List (List 
   pub grown : Extends old new
   pub stands : IsRowOf new place row own
 
--- The instances of resource i were read as rows.
-pub record ReadsInstances (i place : ℕ) (values : List Data) (old new : List (List ℕ)) (rows : List Row) : Type 0 where
+-- The instances of resource i were read as rows, whose block is to stand at a place. The first 4,097 rows of all are packed.
+pub record AddsInstances (i place : ℕ) (values : List Data) (old new : Tables) : Type 0 where
   pub owns : List Own
   pub read : read_each (read_instance i) 0 values ≡ Ok owns
-  pub grown : Extends old new
-  pub stand : AllZip (IsRowOf new place) rows owns
+  pub grown : Extends old.names new.names
+  pub rows : List Row
+  pub stand : AllZip (IsRowOf new.names place) rows owns
+  pub blocks : new.blocks.items ≡ old.blocks.items
+  pub packed : (first : List Row) → ArePacked old.packed (take 4097 first) → ArePacked new.packed (take 4097 (first ++ rows))
 
 -- The own members of a resource were read as a block.
 pub record ReadsBlock (r : ResourceMembers) (old new : List (List ℕ)) (block : Block) : Type 0 where

@@ -8,7 +8,7 @@ ghost use Rattle.tfs_state.specs.declared.fault.StateFault.TheVariants.{NoMemory
 
 use crate::fault::StateFault;
 use crate::members::{lineage_of, serial_of, version_of};
-use crate::packed::{Packed, PackedRow, pack, packed_row_at};
+use crate::packed::{Packed, PackedRow, packed_row_at};
 use crate::tables::{Block, Tables, block_at};
 use json::Scratch;
 use std::alloc::Global;
@@ -75,8 +75,7 @@ fn read_content(alloc: Global, value: &Tree<'_>) -> Result<Content, StateFault>
     let Some(lineage) = lineage_of(value) else {
         return Err(StateFault::Lineage);
     };
-    let Tables { blocks, rows, .. } = read_tables(alloc, value)?;
-    let packed = pack(alloc, rows)?;
+    let Tables { blocks, packed, .. } = read_tables(alloc, value)?;
     let lineage = String::from_str(alloc, lineage)?;
     Ok(Content {
         serial,
@@ -95,10 +94,11 @@ fn read_tables(alloc: Global, value: &Tree<'_>) -> Result<Tables, StateFault>
         return Err(StateFault::Resource(0));
     };
     let mut tables = Tables::read(alloc, list)?;
-    if tables.rows.len() > MAX_INSTANCES {
+    if tables.packed.rows.len() > MAX_INSTANCES {
         return Err(StateFault::TooManyInstances);
     }
     tables.names.apart();
     tables.blocks.shrink_to_fit();
+    tables.packed.numbers.shrink_to_fit();
     Ok(tables)
 }

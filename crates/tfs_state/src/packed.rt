@@ -1,12 +1,15 @@
 //! The rows that a document keeps: their dependencies stand in one list.
 
-ghost use Rattle.std.specs.Prelude.{◌≡◌, ◌<◌, [], ◌∷◌, ◌++◌, List, IfOk, OnOk, Some, length, slice_get};
+ghost use Rattle.std.specs.Prelude.{◌≡◌, ◌<◌, [], ◌∷◌, ◌++◌, List, IfOk, OnOk, Some, length, slice_get, take};
 ghost use Rattle.tfs_state.specs.Packed.{ArePacked, IsWithin, dependencies_of};
 ghost use Rattle.tfs_state.specs.declared.tables.Row.{Row as RowValue};
 
 use crate::names::short;
 use crate::tables::Row;
 use std::alloc::{AllocError, Global};
+
+/// How many rows are kept: one more than a state may have, by which it is seen that it has too many.
+pub(crate) const MAX_ROWS: usize = 4097;
 
 /// An instance: the place of its block, what its address ends with, and where its dependencies begin and end in the list of all.
 #[derive(Drop)]
@@ -25,7 +28,29 @@ pub(crate) struct Packed {
 }
 
 impl Packed {
-    /// Puts a row last.
+    /// No rows, and room for so many.
+    pub(crate) fn with_room(alloc: Global, room: usize) -> Result<Packed, AllocError>
+        ensures { IfOk result (λ packed. packed.rows.items ≡ []) }
+    {
+        Ok(Packed {
+            rows: Vec::with_capacity(alloc, room)?,
+            numbers: Vec::new(alloc),
+        })
+    }
+
+    /// Packs a row last, if it is one of the first 4,097.
+    pub(crate) fn keep(&mut self, row: Row) -> Result<(), AllocError>
+        ensures { OnOk result ((rows : List RowValue) → ArePacked self.old rows
+            → ArePacked self.new (take 4097 (rows ++ row ∷ []))) }
+    {
+        if self.rows.len() < MAX_ROWS {
+            return self.add(row);
+        }
+        self.rows.truncate(MAX_ROWS);
+        Ok(())
+    }
+
+    /// Packs a row last.
     fn add(&mut self, row: Row) -> Result<(), AllocError>
         ensures { OnOk result ((rows : List RowValue) → ArePacked self.old rows → ArePacked self.new (rows ++ row ∷ [])) }
     {
@@ -40,21 +65,6 @@ impl Packed {
         })?;
         Ok(())
     }
-}
-
-/// The rows with their dependencies in one list.
-pub(crate) fn pack(alloc: Global, rows: Vec<Row>) -> Result<Packed, AllocError>
-    ensures { IfOk result (λ packed. ArePacked packed rows.items) }
-{
-    let mut packed = Packed {
-        rows: Vec::with_capacity(alloc, rows.len())?,
-        numbers: Vec::new(alloc),
-    };
-    for row in rows {
-        packed.add(row)?;
-    }
-    packed.numbers.shrink_to_fit();
-    Ok(packed)
 }
 
 /// The row at a place.

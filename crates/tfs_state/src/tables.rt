@@ -1,22 +1,23 @@
 //! What a document keeps of its instances, as it is read from the resources of a JSON value.
 
-ghost use Rattle.std.specs.Prelude.{◌≡◌, ◌≢◌, ◌<◌, [], ◌∷◌, ◌++◌, map, IfOk, IfErr, OnOk, Some, None, length, slice_get};
+ghost use Rattle.std.specs.Prelude.{◌≡◌, ◌≢◌, ◌<◌, ◌≤◌, [], ◌∷◌, ◌++◌, map, IfOk, IfErr, OnOk, Some, None, length, slice_get};
 ghost use Rattle.tfs_json.specs.Tree.{tree_view as view};
 ghost use Rattle.tfs_addr.specs.Address.{stripped_text, configuration_address};
 ghost use Rattle.tfs_state.specs.Document.{Instance as InstanceValue};
 ghost use Rattle.tfs_state.specs.Parts.{resource_view};
 ghost use Rattle.tfs_state.specs.Resources.{read_each, dependency_of, read_dependency, read_instance, read_resource};
-ghost use Rattle.tfs_state.specs.Tables.{ReadsDependency, ReadsDependencies, ReadsInstance, ReadsInstances, ReadsResource, ReadsResources, ReadsBlock};
+ghost use Rattle.tfs_state.specs.Tables.{ReadsDependency, ReadsDependencies, ReadsInstance, AddsInstances, ReadsResource, ReadsResources, ReadsBlock};
 ghost use Rattle.tfs_state.specs.declared.fault.StateFault.TheVariants.{Dependency, NoMemory, Resource};
 
 use crate::digest::{digest_beside, text_digest};
 use crate::fault::StateFault;
 use crate::instance::instance_parts;
 use crate::names::Names;
+use crate::packed::{MAX_ROWS, Packed};
 use crate::resource::{ResourceParts, resource_parts};
 use std::alloc::{AllocError, Global};
 use tfs_addr::{AddrFault, config_text, front_text, strip, tail_text};
-use tfs_json::{Tree, text_of};
+use tfs_json::{Tree, is_object, list_at, text_of};
 
 /// What the instances of one resource share: what their addresses begin with, and their configuration address with its number,
 /// both texts with their digests.
@@ -37,24 +38,24 @@ pub(crate) struct Row {
     pub(crate) dependencies: Vec<u32>,
 }
 
-/// The blocks and rows of the resources so far, with the texts that their numbers stand for.
+/// The blocks and the first 4,097 rows of the resources so far, with the texts that their numbers stand for.
 #[derive(Drop)]
 pub(crate) struct Tables {
     pub(crate) blocks: Vec<Block>,
-    pub(crate) rows: Vec<Row>,
+    pub(crate) packed: Packed,
     pub(crate) names: Names,
 }
 
 impl Tables {
-    /// No resources.
-    fn new(alloc: Global) -> Tables
-        ensures { (result.blocks.items ≡ []) × (result.rows.items ≡ []) × (result.names ≡ []) }
+    /// No resources, and room for so many rows.
+    fn with_room(alloc: Global, room: usize) -> Result<Tables, AllocError>
+        ensures { IfOk result (λ tables. tables.packed.rows.items ≡ []) }
     {
-        Tables {
+        Ok(Tables {
             blocks: Vec::new(alloc),
-            rows: Vec::new(alloc),
+            packed: Packed::with_room(alloc, room)?,
             names: Names::new(alloc),
-        }
+        })
     }
 
     /// Reads the resources of a list.
@@ -63,7 +64,7 @@ impl Tables {
         ensures err { IfErr result (λ fault. fault ≢ NoMemory
             → read_each read_resource 0 (map view list.now) ≡ Err fault) }
     {
-        let mut tables = Tables::new(alloc);
+        let mut tables = Tables::with_room(alloc, room_for(list))?;
         for (i, value) in list.iter().enumerate() {
             tables.read_resource(alloc, value, i)?;
         }
@@ -83,19 +84,47 @@ impl Tables {
             return Ok(());
         }
         let place = self.blocks.len();
-        let mut rows = read_instances(alloc, resource.instances, &mut self.names, place, i)?;
-        self.add(block, &mut rows)?;
+        self.read_instances(alloc, resource.instances, place, i)?;
+        keep(&mut self.blocks, block)?;
         Ok(())
     }
 
-    /// Adds a block with its rows.
-    fn add(&mut self, block: Block, rows: &mut Vec<Row>) -> Result<(), AllocError>
-        ensures names { self.new.names ≡ self.old.names }
-        ensures blocks { OnOk result (self.new.blocks.items ≡ self.old.blocks.items ++ block ∷ []) }
-        ensures rows { OnOk result (self.new.rows.items ≡ self.old.rows.items ++ rows.old.items) }
+    /// Reads the instances of resource i, whose block is to stand at a place. All are read, and the first 4,097 rows of all stay.
+    fn read_instances(
+        &mut self,
+        alloc: Global,
+        list: &[Tree<'_>],
+        place: usize,
+        i: usize,
+    ) -> Result<(), StateFault>
+        ensures ok { OnOk result (AddsInstances i place (map view list.now) self.old self.new) }
+        ensures err { IfErr result (λ fault. fault ≢ NoMemory
+            → read_each (read_instance i) 0 (map view list.now) ≡ Err fault) }
     {
-        self.blocks.push(block)?;
-        self.rows.append(rows)
+        for (j, value) in list.iter().enumerate() {
+            let row = read_instance(alloc, value, &mut self.names, place, i, j)?;
+            self.packed.keep(row)?;
+        }
+        Ok(())
+    }
+}
+
+/// How many rows to have room for: one for each instance that the resources list, 4,097 at most. So rows have no room to spare.
+fn room_for(list: &[Tree<'_>]) -> usize
+    ensures { result ≤ 4097 }
+{
+    let count = list
+        .iter()
+        .map(instances_in)
+        .fold(0_usize, |all, some| all.saturating_add(some));
+    count.min(MAX_ROWS)
+}
+
+/// How many of the instances that a resource lists are objects.
+fn instances_in(value: &Tree<'_>) -> usize {
+    match list_at(value, "instances") {
+        Some(list) => list.iter().filter(|instance| is_object(instance)).count(),
+        None => 0,
     }
 }
 
@@ -140,26 +169,6 @@ fn read_block(
         config_digest,
         number,
     })
-}
-
-/// The rows of the instances of resource i, whose block stands at a place.
-fn read_instances(
-    alloc: Global,
-    list: &[Tree<'_>],
-    names: &mut Names,
-    place: usize,
-    i: usize,
-) -> Result<Vec<Row>, StateFault>
-    ensures ok { IfOk result (λ rows. ReadsInstances i place (map view list.now) names.old names.new rows.items) }
-    ensures err { IfErr result (λ fault. fault ≢ NoMemory
-        → read_each (read_instance i) 0 (map view list.now) ≡ Err fault) }
-{
-    let mut rows = Vec::with_capacity(alloc, list.len())?;
-    for (j, value) in list.iter().enumerate() {
-        let row = read_instance(alloc, value, names, place, i, j)?;
-        keep(&mut rows, row)?;
-    }
-    Ok(rows)
 }
 
 /// The row of instance j of resource i.

@@ -15,6 +15,8 @@ mod instances;
 #[cfg(test)]
 mod json_values;
 #[cfg(test)]
+mod kept_room;
+#[cfg(test)]
 mod locks;
 #[cfg(test)]
 mod mutated;

@@ -45,7 +45,7 @@ fn expect_row(rt: &(impl Alloc<A = Global> + Abort), row: &str) -> Result<(), Fa
 
 /// A text each, with its answer: the version, the serial, the lineage, which fault comes first, which of two members counts,
 /// further members, and what is no JSON text.
-const TEXTS: &str = r#"{"version":4, "serial":1 ,"lineage":"L1"} => 1 "L1"
+pub(crate) const TEXTS: &str = r#"{"version":4, "serial":1 ,"lineage":"L1"} => 1 "L1"
 {"version":4.0,"serial":1,"lineage":"L1"} => Version
 {"version":4e0,"serial":1,"lineage":"L1"} => Version
 {"version":"4","serial":1,"lineage":"L1"} => Version

@@ -34,19 +34,19 @@ loop-bare-preserved c =
     )
 
 pub returns-in_err-keep-clause-empty : goal.returns-in_err-keep-clause-empty
-returns-in_err-keep-clause-empty c = λ e.
+returns-in_err-keep-clause-empty c = λ e _.
     let cut = c.split_at_bracket.ensures in
     let none = nothing_read _ _ _ _ _ e c.loop-bare.invariant.1 cut.texts.0 cut.texts.1 cut.whole in
     absurd (omega (arith, c.in_err-keep.ensures.full, none.1, c.loop-bare.invariant.2 e))
 
 pub returns-in_err-fitted-clause-empty : goal.returns-in_err-fitted-clause-empty
-returns-in_err-fitted-clause-empty c = λ e.
+returns-in_err-fitted-clause-empty c = λ e _.
     let cut = c.split_at_bracket.ensures in
     let none = nothing_read _ _ _ _ _ e c.loop-bare.invariant.1 cut.texts.0 cut.texts.1 cut.whole in
     absurd (false≢true (c.in_err-fitted.ensures.empty (omega (arith, c.in_ok-keep.ensures.len, none.1, c.loop-bare.invariant.2 e))))
 
 pub returns-in_err-rest-clause-empty : goal.returns-in_err-rest-clause-empty
-returns-in_err-rest-clause-empty c = λ e.
+returns-in_err-rest-clause-empty c = λ e _.
     let cut = c.split_at_bracket.ensures in
     let none = nothing_read _ _ _ _ _ e c.loop-bare.invariant.1 cut.texts.0 cut.texts.1 cut.whole in
     let some = eq-eqb _ 0 none.2 in

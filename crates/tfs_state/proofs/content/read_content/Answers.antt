@@ -28,9 +28,9 @@ returns-clause-ok c = content_read (view c.args.value.now)
       serial = c.in-Some.serial;
       lineage = c.in_ok-lineage.lineage;
       blocks = c.in_ok-blocks.field-0.blocks;
-      packed = c.in_ok-packed.packed;
+      packed = c.in_ok-blocks.field-0.packed;
     })
     c.in_ok-blocks.field-0
     (right_version (view c.args.value.now) c.version_of.result c.version_of.ensures c.if-ne.ensures)
     (sym c.in-Some.ensures) (sym c.in-Some-lineage_of.ensures ∙ ap Some (sym c.in_ok-lineage.ensures.ok))
-    c.in_ok-blocks.ensures.ok refl c.in_ok-packed.ensures
+    c.in_ok-blocks.ensures.ok refl refl

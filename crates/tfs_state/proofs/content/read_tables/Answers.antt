@@ -18,6 +18,8 @@ returns-then-len-gt-MAX_INSTANCES-clause-err c _ = many_instances (view c.args.v
     c.in-Some.ensures.value c.in_ok-tables.ensures.ok (omega arith)
 
 pub returns-clause-ok : goal.returns-clause-ok
-returns-clause-ok c = instances_read (view c.args.value.now) (map view c.in-Some.list.now) c.in_ok-tables.tables
-    (record { blocks = c.shrink_to_fit.new.self; rows = c.in_ok-tables.tables.rows; names = c.in_ok-tables.tables.names })
-    c.in-Some.ensures.value c.in_ok-tables.ensures.ok c.apart.ensures (omega arith) c.shrink_to_fit.ensures.items refl
+returns-clause-ok c =
+    let packed = c.in_ok-tables.tables.packed in
+    instances_read (view c.args.value.now) (map view c.in-Some.list.now) c.in_ok-tables.tables
+    (record c.in_ok-tables.tables { blocks = c.shrink_to_fit.new.self; packed = record packed { numbers = c.shrink_to_fit-2.new.self } })
+    c.in-Some.ensures.value c.in_ok-tables.ensures.ok c.apart.ensures (omega arith) c.shrink_to_fit.ensures.items refl c.shrink_to_fit-2.ensures.items

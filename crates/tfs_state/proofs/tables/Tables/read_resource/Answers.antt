@@ -11,7 +11,7 @@ returns-then-is_empty-clause-ok c = resource_without_instances c.args.i (view c.
     c.in_ok-block.block c.in-Some.ensures c.in_ok-block.ensures.ok (no_values view c.in-Some.resource.instances.now c.if-is_empty.ensures) refl refl
 
 pub returns-clause-ok : goal.returns-clause-ok
-returns-clause-ok c = resource_with_instances c.args.i c.len-place.result c.read_instances.new.names (view c.args.value.now)
-    (resource_view c.in-Some.resource) c.args.self.now c.add.new.self c.in_ok-block.block c.read_block.new.names c.in_ok-rows.rows.items
-    c.in-Some.ensures c.in_ok-block.ensures.ok c.in_ok-rows.ensures.ok (omega arith) c.in_ok-add.ensures.names
-    c.in_ok-add.ensures.blocks c.in_ok-add.ensures.rows
+returns-clause-ok c = resource_with_instances c.args.i c.len-place.result (view c.args.value.now) (resource_view c.in-Some.resource)
+    c.args.self.now (record c.args.self.now { names = c.read_block.new.names }) c.read_instances.new.self
+    (record c.read_instances.new.self { blocks = c.keep.new.list }) c.in_ok-block.block
+    c.in-Some.ensures c.in_ok-block.ensures.ok refl refl c.in_ok-read_instances.ensures.ok (omega arith) refl refl c.in_ok-keep.ensures
