@@ -2,7 +2,8 @@
 
 ghost use Rattle.std.specs.Prelude.{◌≡◌, ◌≢◌, ◌≤◌, ◌<◌, ◌⊎◌, length, true, false, Some, None, IfOk, IfErr, OnErr, option_map};
 ghost use Rattle.std.specs.Arc.{arc_value};
-ghost use Rattle.tfs_state.specs.StateText.{document_of};
+ghost use Rattle.tfs_state.specs.StateText.{SpellsDocument, document_of, first_state_fault};
+ghost use Rattle.tfs_state.specs.declared.fault.StateFault.TheVariants.{NoMemory};
 ghost use Rattle.tfs_lock.specs.LockText.{lock_info_of};
 ghost use Rattle.tfs_rules.specs.Act.{act_value, IsRead};
 ghost use Rattle.tfs_calls.specs.Pushed.{pushed_by, IsPush};
@@ -15,6 +16,7 @@ use crate::bytes::Bytes;
 use crate::call::Raw;
 use crate::refusal::Refusal;
 use crate::text::Text;
+use json::Scratch;
 use std::alloc::Global;
 use std::marker::Model;
 use std::sync::Arc;
@@ -22,6 +24,9 @@ use tfs_index::Version;
 use tfs_lock::{Id, LockFault, LockInfo, bytes_spell_lock_info_or_have_a_fault};
 use tfs_rules::Act;
 use tfs_state::{Doc, StateFault, bytes_spell_a_document_or_have_a_fault};
+
+/// The longest state that is read over lent room. Who lends it may keep it for ever, so a longer one has room of its own.
+const MAX_LENT_BYTES: usize = 1_048_576;
 
 /// An act that was read from a raw change, and that no table has judged yet, with the version of the document that it pushes. What
 /// it holds was read from its bytes.
@@ -55,10 +60,21 @@ impl Draft {
             ⊎ ((refusal_value refusal ≡ draft_refusal raw) × (act_of raw ≡ None))) }
         ensures memory { TakesNoMemory raw → IfErr result (λ refusal. refusal_value refusal ≢ out_of_memory) }
     {
+        Draft::read_over(alloc, raw, &mut Scratch::new(alloc))
+    }
+
+    /// Reads the texts of a raw change as [`Draft::read`] does, a state of at most 1 MiB over room that is kept between reads.
+    pub fn read_over(alloc: Global, raw: Raw, scratch: &mut Scratch) -> Result<Draft, Refusal>
+        requires { HasFittingState raw }
+        ensures ok { IfOk result (λ draft. act_of raw ≡ Some draft) }
+        ensures err { IfErr result (λ refusal. (refusal_value refusal ≡ out_of_memory)
+            ⊎ ((refusal_value refusal ≡ draft_refusal raw) × (act_of raw ≡ None))) }
+        ensures memory { TakesNoMemory raw → IfErr result (λ refusal. refusal_value refusal ≢ out_of_memory) }
+    {
         let act = match raw {
             Raw::Lock(body) => read_lock(alloc, body)?,
             Raw::Unlock(body, text) => read_unlock(alloc, body, text)?,
-            Raw::Push(text, body) => read_push(alloc, text, body)?,
+            Raw::Push(text, body) => read_push(alloc, text, body, scratch)?,
             Raw::Delete(text) => read_delete(text)?,
         };
         act.is_read();
@@ -142,7 +158,12 @@ fn read_unlock(alloc: Global, body: Bytes, text: Option<Text>) -> Result<Act, Re
 }
 
 /// A push of the document of the body, with the identifier of the text.
-fn read_push(alloc: Global, text: Option<Text>, body: Bytes) -> Result<Act, Refusal>
+fn read_push(
+    alloc: Global,
+    text: Option<Text>,
+    body: Bytes,
+    scratch: &mut Scratch,
+) -> Result<Act, Refusal>
     requires { length body ≤ 16777216 }
     ensures ok { IfOk result (λ act. act_of (Push text body) ≡ Some (act_value act)) }
     ensures err { IfErr result (λ refusal. (refusal_value refusal ≡ out_of_memory)
@@ -150,7 +171,7 @@ fn read_push(alloc: Global, text: Option<Text>, body: Bytes) -> Result<Act, Refu
     ensures memory { TakesNoMemory (Push text body) → IfErr result (λ refusal. refusal_value refusal ≢ out_of_memory) }
 {
     let id = read_id(text)?;
-    let doc = read_doc(alloc, body.into_vec())?;
+    let doc = read_doc(alloc, body.into_vec(), scratch)?;
     Ok(Act::Push(id, doc))
 }
 
@@ -207,20 +228,33 @@ fn refusal_of_lock_text(fault: LockFault) -> Refusal
 }
 
 /// The document that the bytes spell.
-fn read_doc(alloc: Global, bytes: Vec<u8>) -> Result<Arc<Doc>, Refusal>
+fn read_doc(alloc: Global, bytes: Vec<u8>, scratch: &mut Scratch) -> Result<Arc<Doc>, Refusal>
     requires { length bytes.items ≤ 16777216 }
     ensures ok { IfOk result (λ doc. document_of bytes.items ≡ Some (arc_value doc)) }
     ensures err { IfErr result (λ refusal. (refusal_value refusal ≡ out_of_memory)
         ⊎ ((refusal_value refusal ≡ state_text_refusal bytes.items) × (document_of bytes.items ≡ None))) }
 {
     bytes_spell_a_document_or_have_a_fault();
-    match Doc::read(alloc, bytes) {
+    match read_state(alloc, bytes, scratch) {
         Ok(doc) => match Arc::new(alloc, doc) {
             Ok(doc) => Ok(doc),
             Err(_) => Err(Refusal::OutOfMemory),
         },
         Err(fault) => Err(refusal_of_state_text(fault)),
     }
+}
+
+/// Reads a state, over room of its own where it has more than 1 MiB.
+fn read_state(alloc: Global, bytes: Vec<u8>, scratch: &mut Scratch) -> Result<Doc, StateFault>
+    requires { length bytes.items ≤ 16777216 }
+    ensures ok { IfOk result (SpellsDocument bytes.items) }
+    ensures err { IfErr result (λ fault. fault ≢ NoMemory → first_state_fault bytes.items ≡ Some fault) }
+    ensures long { 1048576 < length bytes.items → scratch.new ≡ scratch.old }
+{
+    if bytes.len() > MAX_LENT_BYTES {
+        return Doc::read(alloc, bytes);
+    }
+    Doc::read_over(alloc, bytes, scratch)
 }
 
 /// The refusal that a fault of a state text asks for.
