@@ -3,7 +3,6 @@ use Rattle.std.proofs.Common.{◌≡◌, ◌≤◌, length, ℕ, List, [], ◌�
 use Rattle.std.proofs.Common.{true, false, Option, Some, None, is_some, IfSome, refl, sym, ◌∙◌}
 use Rattle.std.proofs.Common.{ap, subst, append_assoc, append-nil}
 use Rattle.std.specs.List.{flat_map, slice_get}
-use Rattle.std.specs.List.Sorted.{IsStrictlySortedBy}
 use Rattle.std.specs.Io.KnownBytes.{Appends}
 use Rattle.std.proofs.lemmas.List.Elements.{All-nil, All-append, All-cons}
 use Rattle.std.proofs.lemmas.List.Sums.{fold-append}
@@ -11,16 +10,15 @@ use Rattle.std.proofs.lemmas.Slice.Eq.{bytes_eq-Decides}
 use Rattle.tfs_state.specs.Document.{Document}
 use Rattle.tfs_rules.specs.Act.{ActValue}
 use Rattle.tfs_rules.specs.History.{Standing, state_of, state_after}
-use Rattle.tfs_records.specs.Journal.{Journal, EntryValue, IsEntry, BaseValue, IsBase, empty_base, opened, acts_of, names_of, with_entry}
+use Rattle.tfs_records.specs.Journal.{Journal, EntryValue, IsEntry, BaseValue, IsBase, opened, acts_of, names_of, with_entry}
 use Rattle.tfs_records.specs.Format.{header_text, base_text, record_text, journal_text}
 use Rattle.tfs_records.specs.Sink.{AppendsPart}
 use Rattle.tfs_records.proofs.JournalLemmas.{acts_of_own}
-use Rattle.tfs_records.proofs.BaseLemmas.{empty_base_is}
 use Rattle.tfs_table.specs.Lawful.{IsLawful}
 use Rattle.tfs_table.specs.Ready.{ReadyValue, IsReady}
 use Rattle.tfs_table.specs.Table.{IsTold, IsTable}
 use Rattle.tfs_calls.specs.Transition.{act_refusal, open_model}
-use Rattle.tfs_table.specs.Workspaces.{standing_at, AreWorkspacesOf, HasVersion, IsNumbered}
+use Rattle.tfs_table.specs.Workspaces.{standing_at, AreWorkspacesOf, HasVersion}
 use Rattle.tfs_table.specs.declared.workspace.Workspace.{Workspace}
 use Rattle.tfs_table.proofs.LawfulLemmas.{taken, lawful_opened, lawful_more}
 
@@ -67,11 +65,6 @@ told_part (Some bytes) (Some all) j e read told part = record {
   told = part.appended ∙ ap (λ t. t ++ part.front) told;
 }
 
--- The journal of no entries has no workspaces where its base is the empty one.
-pub no_workspaces : AreWorkspacesOf (opened empty_base) []
-unfolding IsStrictlySortedBy
-no_workspaces = record { standings = λ name. refl; names = λ name. refl; count = refl; rise = tt; numbers = All-nil (IsNumbered []) }
-
 -- What a table keeps that has a base and no entries.
 pub opened_table : (base : BaseValue) (entries : List EntryValue) (ws : List Workspace) (first old new : Option (List ℕ)) (faults spare : ℕ)
     → IsBase base → entries ≡ [] → AreWorkspacesOf (opened base) ws → All HasVersion ws → first ≡ old → faults ≡ 0
@@ -101,28 +94,6 @@ opened_table base entries ws first old new faults spare based none are versions 
       subst (λ (k : Journal). AreWorkspacesOf k ws) is_opened are,
       versions,
     )
-
--- What a new table keeps.
-pub new_table : (base : BaseValue) (entries : List EntryValue) (ws : List Workspace) (first old new : Option (List ℕ)) (faults spare : ℕ)
-    → base ≡ empty_base → entries ≡ [] → ws ≡ [] → first ≡ old → faults ≡ 0 → IfSome old (λ bytes. bytes ≡ [])
-    → Appends old new (journal_text (opened base))
-    → IsTable (record {
-      journal = record { base = base; entries = entries };
-      stopped = false;
-      tells = is_some first;
-      told = new;
-      faults =
-          faults;
-      spare = spare;
-    })
-    × AreWorkspacesOf (record { base = base; entries = entries }) ws × All HasVersion ws
-new_table base entries ws first old new faults spare is_base none empty same well untold told =
-    let based : IsBase base = subst IsBase (sym is_base) empty_base_is in
-    let are : AreWorkspacesOf (opened base) ws =
-    subst (λ (b : BaseValue). AreWorkspacesOf (opened b) ws) (sym is_base) (subst (AreWorkspacesOf (opened empty_base)) (sym empty)
-    no_workspaces) in
-    opened_table base entries ws first old new faults spare based none are (subst (All HasVersion) (sym empty) (All-nil HasVersion)) same
-    well untold told
 
 -- What a change keeps that is ready.
 pub is_ready : (base given_base : BaseValue) (entries given_entries : List EntryValue) (e : EntryValue) (name : List ℕ) (number : ℕ)

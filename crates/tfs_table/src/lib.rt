@@ -21,11 +21,13 @@ pub use fault::OpenFault;
 pub use laws::{journals_are_lawful_entry_by_entry, lawful_journals_keep_the_history_laws};
 pub use prepared::{DeferredDrop, Prepared};
 pub use ready::Ready;
-pub use replay::first_unlawful;
+pub use rebase::base_of;
+pub use replay::{first_unlawful, take_entry, workspaces_of};
 pub use table::Table;
 pub use tfs_calls::{
     Bytes, Call, Chosen, Draft, Impact, Kind, Methods, Query, Raw, Refusal, Reply, Text, Texts,
 };
+pub use workspace::Workspace;
 
 /// The most names that a table may have.
 pub const MAX_NAMES: usize = 1_024;

@@ -6,7 +6,7 @@ use tfs_rules::{Name, Record};
 
 /// A name, its number among the table's names in the order in which they came, what its acts leave, and the version of its state.
 #[derive(Drop)]
-pub(crate) struct Workspace {
+pub struct Workspace {
     pub name: Name,
     pub number: usize,
     pub standing: Record,

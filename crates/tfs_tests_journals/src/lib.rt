@@ -17,6 +17,8 @@ mod limits;
 #[cfg(test)]
 mod opened;
 #[cfg(test)]
+mod pieces;
+#[cfg(test)]
 mod records;
 #[cfg(test)]
 mod refusals;
