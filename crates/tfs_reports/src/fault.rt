@@ -1,0 +1,160 @@
+//! How a reading command ends: what it tells on standard error, and the status.
+
+ghost use Rattle.std.specs.Prelude.{◌≡◌};
+ghost use Rattle.tfs_reports.specs.Status.{status_of};
+
+use std::alloc::AllocError;
+use std::io;
+use std::process::ExitCode;
+use tfs_versions::RestoreFault;
+use thiserror::Error;
+
+/// Why a reading command ended before its work was done.
+#[derive(Clone, Copy, Debug, PartialEq, Eq, Error)]
+pub enum Fault {
+    /// A fault that all commands share.
+    #[error("{0}")]
+    Files(tfs_files::Fault),
+    #[error("Changing: its journals went away while they were read, ten times. Try again")]
+    Changing,
+    #[error("NoName: no journal that is there has a workspace of this name. `list` tells the names")]
+    NoName,
+    #[error("NoState: the workspace has no state there. `history` tells the positions at which it has one")]
+    NoState,
+    #[error("BeforeOldest: the oldest journal that is there begins at position {0}. Look into an older copy of the folder")]
+    BeforeOldest(u64),
+    #[error("BehindNewest: the newest position is {0}")]
+    BehindNewest(u64),
+    #[error("NotKept: no journal that is there has this position. Look into a copy of the folder")]
+    NotKept,
+    #[error("LineageDiffers: the newest state is of another history. Delete that state first")]
+    LineageDiffers,
+    #[error("SerialAtLimit: the newest state has the highest serial. Delete that state first")]
+    SerialAtLimit,
+    #[error("TooLong: with the new serial the state is longer than a state may be")]
+    TooLong,
+    #[error("Unplaced: the place of its serial wasn't found. `show` prints the state as it was")]
+    Unplaced,
+    #[error("NoAddress: no address was given")]
+    NoAddress,
+    #[error("TooManyAddresses: more than 64 addresses were given")]
+    TooManyAddresses,
+    #[error("UnknownAddress: the state has no instance of address {0}, counted from 0. `terraform state list` tells them")]
+    UnknownAddress(usize),
+}
+
+/// The status of a fault.
+pub fn status_of(fault: Fault) -> u8
+    ensures status { result ≡ status_of fault }
+{
+    match fault {
+        Fault::Files(fault) => tfs_files::status_of(fault),
+        Fault::Changing => 1,
+        Fault::NoName => 11,
+        Fault::NoState => 12,
+        Fault::BeforeOldest(_) | Fault::BehindNewest(_) | Fault::NotKept => 13,
+        Fault::LineageDiffers => 14,
+        Fault::SerialAtLimit | Fault::TooLong | Fault::Unplaced => 15,
+        Fault::NoAddress | Fault::TooManyAddresses | Fault::UnknownAddress(_) => 16,
+    }
+}
+
+/// What a fault is about.
+#[derive(Clone, Copy, Debug, PartialEq, Eq)]
+pub enum Place {
+    /// The command itself.
+    Command,
+    /// The folder.
+    Folder,
+    /// The folder's `old/`.
+    Old,
+    /// The folder's journal of a number.
+    Journal(u64),
+    /// The journal of a number in the folder's `old/`.
+    OldJournal(u64),
+    /// The workspace that was asked for.
+    Name,
+    /// The folder of copies.
+    Copies,
+    /// The newest journal of the copies, by its number.
+    Copy(u64),
+}
+
+/// The end of a command by a fault.
+#[derive(Clone, Copy, Debug, PartialEq, Eq)]
+pub struct End {
+    place: Place,
+    fault: Fault,
+}
+
+impl End {
+    /// The end by a fault that is about this.
+    pub fn at(place: Place, fault: Fault) -> End {
+        End { place, fault }
+    }
+
+    /// The end by a fault that all commands share.
+    pub(crate) fn of_files(place: Place, fault: tfs_files::Fault) -> End {
+        End::at(place, Fault::Files(fault))
+    }
+
+    /// The end because something can't be read, by what the system told.
+    pub(crate) fn by_system(place: Place, error: &io::Error) -> End {
+        let fault = match error.kind() {
+            io::ErrorKind::OutOfMemory => tfs_files::Fault::OutOfMemory,
+            io::ErrorKind::PermissionDenied => tfs_files::Fault::NotAllowed,
+            io::ErrorKind::NotFound | io::ErrorKind::NotADirectory => match place {
+                Place::Folder | Place::Copies => tfs_files::Fault::NoFolder,
+                _ => tfs_files::Fault::CannotRead,
+            },
+            _ => tfs_files::Fault::CannotRead,
+        };
+        End::of_files(place, fault)
+    }
+
+    /// The end because the output couldn't be written.
+    pub(crate) fn unwritten() -> End {
+        End::of_files(Place::Command, tfs_files::Fault::Write)
+    }
+
+    /// The end because a version isn't brought back.
+    pub(crate) fn unrestored(why: RestoreFault) -> End {
+        let fault = match why {
+            RestoreFault::LineageDiffers => Fault::LineageDiffers,
+            RestoreFault::SerialAtLimit => Fault::SerialAtLimit,
+            RestoreFault::TooLong => Fault::TooLong,
+            RestoreFault::Unplaced => Fault::Unplaced,
+            RestoreFault::NoMemory => Fault::Files(tfs_files::Fault::OutOfMemory),
+        };
+        End::at(Place::Name, fault)
+    }
+}
+
+impl From<AllocError> for End {
+    fn from(_error: AllocError) -> End {
+        End::of_files(Place::Command, tfs_files::Fault::OutOfMemory)
+    }
+}
+
+/// Ends by a fault, which is told on standard error with what it is about: the folder, a file of it, or what another argument names, as a
+/// workspace or a folder of copies. Where that can't be written, nothing else can be told.
+pub fn end_by(rt: &impl Eprint, folder: &str, name: &str, end: End) -> ExitCode {
+    let fault = end.fault;
+    let _ = match end.place {
+        Place::Command => eprintln!(rt; "tfstatectl: {fault}"),
+        Place::Folder => eprintln!(rt; "tfstatectl: {folder}: {fault}"),
+        Place::Old => eprintln!(rt; "tfstatectl: {folder}/old: {fault}"),
+        Place::Journal(number) => eprintln!(rt;
+            "tfstatectl: {folder}/journal-{number:010}.tfj: {fault}"
+        ),
+        Place::OldJournal(number) => eprintln!(rt;
+            "tfstatectl: {folder}/old/journal-{number:010}.tfj: {fault}"
+        ),
+        Place::Name => eprintln!(rt; "tfstatectl: {folder}: {name}: {fault}"),
+        Place::Copies => eprintln!(rt; "tfstatectl: {name}: {fault}"),
+        Place::Copy(number) => eprintln!(rt;
+            "tfstatectl: {name}/journal-{number:010}.tfj: {fault}"
+        ),
+    };
+    ExitCode::from(status_of(fault))
+}

@@ -1,0 +1,22 @@
+//! What is told of a folder of journals that may be served meanwhile: its names, a name's history and versions, what a change reaches, and
+//! numbers for a monitor. Nothing of the folder is changed.
+#![tactic(auto)]
+
+mod acts;
+mod fault;
+mod files;
+mod listing;
+mod measures;
+mod monitor;
+mod output;
+mod reach;
+mod report;
+mod texts;
+mod versions;
+
+pub use acts::history;
+pub use fault::{End, Fault, Place, end_by, status_of};
+pub use listing::list;
+pub use monitor::stats;
+pub use reach::{Form, print_impact, query_of};
+pub use versions::{restore, show};

@@ -1,0 +1,130 @@
+//! What a change reaches, by the newest state of a name: by the index and the rules of the server's own answers.
+
+ghost use Rattle.std.specs.Prelude.{◌<◌, length};
+
+use crate::acts::name_of;
+use crate::fault::{End, Fault, Place};
+use crate::files::newest_journal;
+use crate::output::write;
+use crate::report::Report;
+use serde_json::{Value, json};
+use std::alloc::{AllocError, Global};
+use tfs_calls::{Impact, Kind, Query, Refusal, Text, Texts};
+use tfs_state::Doc;
+use tfs_versions::picture;
+
+const COLUMNS: &[&str] = &["instance"];
+
+/// How an answer is told.
+#[derive(Clone, Copy, Debug, PartialEq, Eq)]
+pub enum Form {
+    /// As a table.
+    Table,
+    /// As JSON.
+    Json,
+    /// As a picture of all instances, in which those of the answer are filled.
+    Picture,
+    /// As a picture of the instances of the answer.
+    AnswerPicture,
+}
+
+/// Prints what a change of the named instances reaches in the newest state of a name: `any` or `all` of them.
+pub fn print_impact(
+    rt: &HostRuntime,
+    folder: &str,
+    name: &str,
+    query: Query,
+    form: Form,
+) -> Result<(), End> {
+    let name = name_of(rt.alloc(), name)?;
+    let newest = newest_journal(rt, folder)?;
+    if newest.table.number(&name).is_none() {
+        return Err(End::at(Place::Name, Fault::NoName));
+    }
+    match newest.table.impact(&name, &query) {
+        Ok(answer) => tell(rt, &answer, form),
+        Err(refusal) => Err(End::at(Place::Name, fault_of(&refusal))),
+    }
+}
+
+/// The query for what some texts name: `any` or `all` of them.
+pub fn query_of(alloc: Global, is_all: bool, addresses: &[&str]) -> Result<Query, End> {
+    let mut texts = Vec::with_capacity(alloc, addresses.len())?;
+    for address in addresses {
+        push_text(alloc, &mut texts, address)?;
+    }
+    let kind = if is_all { Kind::All } else { Kind::Any };
+    Ok(Query {
+        kind,
+        texts: Texts::new(texts),
+    })
+}
+
+/// Adds a text.
+fn push_text(alloc: Global, texts: &mut Vec<Text>, address: &str) -> Result<(), AllocError> {
+    texts.push(Text::new(String::from_str(alloc, address)?))?;
+    Ok(())
+}
+
+/// Why a query isn't answered.
+fn fault_of(refusal: &Refusal) -> Fault {
+    match refusal {
+        Refusal::NoState => Fault::NoState,
+        Refusal::NoAddress => Fault::NoAddress,
+        Refusal::TooManyAddresses => Fault::TooManyAddresses,
+        Refusal::UnknownAddress(number) => Fault::UnknownAddress(*number),
+        _ => Fault::Files(tfs_files::Fault::OutOfMemory),
+    }
+}
+
+/// Prints an answer.
+fn tell(rt: &HostRuntime, answer: &Impact, form: Form) -> Result<(), End> {
+    let doc = answer.version.doc();
+    let chosen = answer.chosen.as_slice();
+    match form {
+        Form::Table | Form::Json => {
+            let report = Report {
+                columns: COLUMNS,
+                rows: rows_of(rt.alloc(), doc, chosen)?,
+            };
+            report.print(rt, form == Form::Json)
+        }
+        Form::Picture => {
+            let all = all_numbers_of(rt.alloc(), doc)?;
+            write(
+                rt,
+                picture(rt.alloc(), doc, all.as_slice(), chosen)?.as_slice(),
+            )
+        }
+        Form::AnswerPicture => write(rt, picture(rt.alloc(), doc, chosen, chosen)?.as_slice()),
+    }
+}
+
+/// A row for each instance that was chosen.
+fn rows_of(alloc: Global, doc: &Doc, chosen: &[usize]) -> Result<Vec<Value>, AllocError> {
+    let mut rows = Vec::with_capacity(alloc, chosen.len())?;
+    for number in chosen {
+        if *number < doc.len() {
+            rows.push(row_of(alloc, doc, *number)?)?;
+        }
+    }
+    Ok(rows)
+}
+
+/// The row of an instance.
+fn row_of(alloc: Global, doc: &Doc, number: usize) -> Result<Value, AllocError>
+    requires { number < length doc.now.instances }
+{
+    let address = doc.address(number);
+    let own = Value::String(format!(in alloc; "{address}")?);
+    json!(in alloc; {"instance": own})
+}
+
+/// The numbers of all instances.
+fn all_numbers_of(alloc: Global, doc: &Doc) -> Result<Vec<usize>, AllocError> {
+    let mut numbers = Vec::with_capacity(alloc, doc.len())?;
+    for number in 0..doc.len() {
+        numbers.push(number)?;
+    }
+    Ok(numbers)
+}

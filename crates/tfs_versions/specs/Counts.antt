@@ -1,0 +1,22 @@
+-- The numbers of a journal that a monitor watches.
+use Rattle.std.specs.Prelude.{ℕ, List, length, is_some, if◌then◌else◌}
+use Rattle.std.specs.List.{sum_by}
+use Rattle.std.specs.Option.{option_map_or}
+use Rattle.tfs_rules.specs.History.{state_of, holder_of}
+use Rattle.tfs_records.specs.Journal.{Journal, acts_of, names_of}
+
+-- How many instances the state of a name has; 0 without a state.
+abbrev pub instances_at : Journal → List ℕ → ℕ
+instances_at j name = option_map_or (λ d. length d.instances) (state_of (acts_of name j)) 0
+
+-- 1 where somebody holds the lock of a name, 0 where nobody does.
+abbrev pub lock_at : Journal → List ℕ → ℕ
+lock_at j name = if is_some (holder_of (acts_of name j)) then 1 else 0
+
+-- The instances of all names.
+abbrev pub instances_of : Journal → ℕ
+instances_of j = sum_by (instances_at j) (names_of j)
+
+-- The locks of all names that are held.
+abbrev pub locks_of : Journal → ℕ
+locks_of j = sum_by (lock_at j) (names_of j)

@@ -1,0 +1,5 @@
+pub mod Counts
+pub mod Events
+pub mod Past
+pub mod Picture
+pub mod Restored

@@ -1,0 +1,78 @@
+//! Numbers of a journal that a monitor watches.
+
+ghost use Rattle.std.specs.Prelude.{◌≡◌, ◌≤◌, slice_get};
+ghost use Rattle.std.specs.Option.{option_map_or};
+ghost use Rattle.tfs_records.specs.Journal.{names_of};
+ghost use Rattle.tfs_versions.specs.Counts.{instances_at, lock_at, instances_of, locks_of};
+
+use tfs_records::Sink;
+use tfs_rules::Name;
+use tfs_table::Table;
+
+/// How many instances the states of all names of a table have.
+pub fn instances<K: Sink>(table: &Table<K>) -> usize
+    ensures value { result ≡ instances_of table.now.journal }
+{
+    table.is_kept();
+    let mut count = 0;
+    for number in 0..table.names() {
+        count += instances_numbered(table, number);
+    }
+    count
+}
+
+/// How many instances the state of the name of a number has.
+fn instances_numbered<K: Sink>(table: &Table<K>, number: usize) -> usize
+    ensures value { result ≡ option_map_or (instances_at table.now.journal) (slice_get (names_of table.now.journal) number) 0 }
+    ensures most { result ≤ 4096 }
+{
+    match table.name(number) {
+        Some(name) => instances_at(table, name),
+        None => 0,
+    }
+}
+
+/// How many instances the state of a name has.
+fn instances_at<K: Sink>(table: &Table<K>, name: &Name) -> usize
+    ensures value { result ≡ instances_at table.now.journal name.now }
+    ensures most { result ≤ 4096 }
+{
+    match table.version(name) {
+        Some(version) => version.doc().len(),
+        None => 0,
+    }
+}
+
+/// How many locks of a table are held.
+pub fn locks<K: Sink>(table: &Table<K>) -> usize
+    ensures value { result ≡ locks_of table.now.journal }
+{
+    table.is_kept();
+    let mut count = 0;
+    for number in 0..table.names() {
+        count += lock_numbered(table, number);
+    }
+    count
+}
+
+/// 1 where the lock of the name of a number is held, 0 where it isn't.
+fn lock_numbered<K: Sink>(table: &Table<K>, number: usize) -> usize
+    ensures value { result ≡ option_map_or (lock_at table.now.journal) (slice_get (names_of table.now.journal) number) 0 }
+    ensures most { result ≤ 1 }
+{
+    match table.name(number) {
+        Some(name) => lock_at(table, name),
+        None => 0,
+    }
+}
+
+/// 1 for a name whose lock is held, 0 for another.
+fn lock_at<K: Sink>(table: &Table<K>, name: &Name) -> usize
+    ensures value { result ≡ lock_at table.now.journal name.now }
+    ensures most { result ≤ 1 }
+{
+    match table.holder(name) {
+        Some(_) => 1,
+        None => 0,
+    }
+}

@@ -1,0 +1,19 @@
+//! What journals tell of a name's past: its acts with their positions, its state at a position, and the state that brings an older one
+//! back.
+#![tactic(auto)]
+
+mod counts;
+mod dot;
+mod event;
+mod laws;
+mod number;
+mod past;
+mod place;
+mod restore;
+
+pub use counts::{instances, locks};
+pub use dot::picture;
+pub use event::{Event, add_events};
+pub use laws::events_are_the_acts_of_a_name_in_order;
+pub use past::state_at;
+pub use restore::{RestoreFault, restored};

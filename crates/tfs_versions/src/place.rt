@@ -1,0 +1,55 @@
+//! Where the serial of a state stands in its text.
+
+ghost use Rattle.std.specs.Prelude.{◌≡◌};
+
+use json::{Invalid, Reader, Scratch};
+use std::alloc::{AllocError, Global};
+
+/// How deep the values in a state may nest.
+const MAX_DEPTH: usize = 126;
+
+/// Some bytes of a text.
+#[derive(Clone, Copy, Debug, PartialEq, Eq)]
+pub(crate) struct Place {
+    pub(crate) start: usize,
+    pub(crate) len: usize,
+}
+
+/// Where the digits of the serial stand: those of the last member `serial` of the text's object. What stands there is looked at by the
+/// caller: nothing is promised of it.
+pub(crate) fn serial_place(alloc: Global, text: &str) -> Result<Option<Place>, AllocError> {
+    let mut scratch = Scratch::new(alloc);
+    let mut reader = Reader::new(text, &mut scratch)?;
+    reader.next();
+    match last_serial_end(&mut reader) {
+        Ok(Some(end)) => Ok(digits_before(text.as_bytes(), end)),
+        Ok(None) | Err(Invalid) => Ok(None),
+    }
+}
+
+/// Where the reader stands behind the value of the last member `serial`.
+fn last_serial_end(reader: &mut Reader<'_>) -> Result<Option<usize>, Invalid> {
+    let mut end = None;
+    'members: while let Some(name) = reader.next_key()? {
+        reader.skip_value(MAX_DEPTH)?;
+        if name == "serial" {
+            end = Some(reader.offset());
+        }
+    }
+    Ok(end)
+}
+
+/// The last digits of a text before a place, and before blanks and a comma there.
+fn digits_before(text: &[u8], end: usize) -> Option<Place> {
+    let text = text.get(..end)?;
+    let end = text.iter().rposition(|byte| byte.is_ascii_digit())? + 1;
+    let digits = text.get(..end)?;
+    let start = match digits.iter().rposition(|byte| !byte.is_ascii_digit()) {
+        Some(before) => before + 1,
+        None => 0,
+    };
+    Some(Place {
+        start,
+        len: end - start,
+    })
+}
