@@ -2,7 +2,7 @@
 
 ghost use Rattle.std.specs.Prelude.{◌≡◌, ℕ, List, IfOk, IfErr};
 ghost use Rattle.std.specs.Io.KnownBytes.{Appends, Consumes};
-ghost use Rattle.tfs_calls.specs.Draft.{HasFittingState};
+ghost use Rattle.tfs_calls.specs.Draft.{CarriesFittingState, HasFittingState};
 ghost use Rattle.tfs_calls.specs.Reply.{reply_value};
 ghost use Rattle.tfs_calls.specs.declared.call.Call.TheVariants.{Read as CallRead, Change, Impact};
 ghost use Rattle.tfs_conversation.specs.Conversation.{ComesInReads, Converses, BreaksOff, IsReadThrough};
@@ -15,6 +15,7 @@ use crate::ended::Ended;
 use crate::fault::ServeFault;
 use crate::lent::{Outlet, Source};
 use crate::reads::Reads;
+use json::Scratch;
 use std::alloc::Global;
 use tfs_calls::{Call, Draft, Query, Raw, Reply, a_change_is_answered_as_its_act_is};
 use tfs_records::Sink;
@@ -37,11 +38,45 @@ impl<'t, K: Sink> Desk for TableDesk<'t, K> {
         × AnswersCall old.table.now call reply new.table.now };
 
     fn answer(&mut self, call: Call) -> Reply {
-        match call {
-            Call::Read(name) => read(self.table, &name),
-            Call::Change(name, raw) => change(self.alloc, self.table, name, raw),
-            Call::Impact(name, query) => ask(self.table, &name, &query),
-        }
+        let mut scratch = Scratch::new(self.alloc);
+        reply_to(self.alloc, self.table, &mut scratch, call)
+    }
+}
+
+/// The same desk, which reads the states of all changes over room that it is lent.
+#[derive(Drop)]
+struct LentDesk<'t, K: Sink> {
+    alloc: Global,
+    table: &'t mut Table<K>,
+    scratch: &'t mut Scratch,
+}
+
+impl<'t, K: Sink> Desk for LentDesk<'t, K> {
+    ghost use Rattle.std.specs.Prelude.{◌≡◌};
+    ghost use Rattle.tfs_conversation.specs.Desk.{AnswersCall};
+
+    ghost step = { λ old call reply new. (new.table.ghost_name ≡ old.table.ghost_name)
+        × AnswersCall old.table.now call reply new.table.now };
+
+    fn answer(&mut self, call: Call) -> Reply {
+        reply_to(self.alloc, self.table, self.scratch, call)
+    }
+}
+
+/// The reply to a call. A state is read over the room of a scratch.
+fn reply_to<K: Sink>(
+    alloc: Global,
+    table: &mut Table<K>,
+    scratch: &mut Scratch,
+    call: Call,
+) -> Reply
+    requires { CarriesFittingState call }
+    ensures { AnswersCall table.old call (reply_value result) table.new }
+{
+    match call {
+        Call::Read(name) => read(table, &name),
+        Call::Change(name, raw) => change(alloc, table, name, raw, scratch),
+        Call::Impact(name, query) => ask(table, &name, &query),
     }
 }
 
@@ -65,13 +100,19 @@ fn ask<K: Sink>(table: &Table<K>, name: &Name, query: &Query) -> Reply
     }
 }
 
-/// Changes the workspace of a name.
-fn change<K: Sink>(alloc: Global, table: &mut Table<K>, name: Name, raw: Raw) -> Reply
+/// Changes the workspace of a name. A state is read over the room of a scratch.
+fn change<K: Sink>(
+    alloc: Global,
+    table: &mut Table<K>,
+    name: Name,
+    raw: Raw,
+    scratch: &mut Scratch,
+) -> Reply
     requires { HasFittingState raw }
     ensures { AnswersCall table.old (Change name raw) (reply_value result) table.new }
 {
     a_change_is_answered_as_its_act_is();
-    let draft = match Draft::read(alloc, raw) {
+    let draft = match Draft::read_over(alloc, raw, scratch) {
         Ok(draft) => draft,
         Err(refusal) => return Reply::Refused(refusal),
     };
@@ -104,7 +145,12 @@ pub fn converse_over_table<R: Source, W: Outlet, K: Sink>(
     ensures reader { TellsReader result (R.failed reader.old) (R.failed reader.new) }
     ensures writer { TellsWriter result (W.failed writer.old) (W.failed writer.new) }
 {
-    let mut desk = TableDesk { alloc, table };
+    let mut scratch = Scratch::new(alloc);
+    let mut desk = LentDesk {
+        alloc,
+        table,
+        scratch: &mut scratch,
+    };
     converse_over_loan(reader, writer, &mut desk, reads)
 }
 
@@ -112,7 +158,7 @@ pub fn converse_over_table<R: Source, W: Outlet, K: Sink>(
 fn converse_over_loan<R: Source, W: Outlet, K: Sink>(
     reader: &mut R,
     writer: &mut W,
-    desk: &mut TableDesk<'_, K>,
+    desk: &mut LentDesk<'_, K>,
     reads: &mut Reads,
 ) -> Result<Ended, ServeFault>
     ensures loan { desk.new.table.ghost_name ≡ desk.old.table.ghost_name }

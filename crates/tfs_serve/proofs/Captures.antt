@@ -6,10 +6,22 @@ use denote.Param.Send.{IsSync, recorded_sync, struct_sync}
 use denote.Struct.Declared.{shape}
 use denote.Struct.Tuple.{TupleAt, field_at, type_at}
 
-module _ (name : Sym) (A B C D E F G : RattleType) where
+module _ (name : Sym) (A B C D E F G H : RattleType) where
   abbrev all : List RattleType
-  all = A ∷ B ∷ C ∷ D ∷ E ∷ F ∷ G ∷ []
+  all = A ∷ B ∷ C ∷ D ∷ E ∷ F ∷ G ∷ H ∷ []
 
-  pub seven_sync : IsSync A → IsSync B → IsSync C → IsSync D → IsSync E → IsSync F → IsSync G → IsSync (TupleAt name (A ∷ B ∷ C ∷ D ∷ E ∷ F ∷ G ∷ []))
-  seven_sync a b c d e f h =
-      recorded_sync (field_at name all).row _ _ (type_at name all).to_one (struct_sync (shape (type_at name all)) (a, (b, (c, (d, (e, (f, (h, tt))))))))
+  pub eight_sync : IsSync A → IsSync B → IsSync C → IsSync D → IsSync E → IsSync F → IsSync G → IsSync H
+      → IsSync (TupleAt name (A ∷ B ∷ C ∷ D ∷ E ∷ F ∷ G ∷ H ∷ []))
+  eight_sync a b c d e f g h =
+      recorded_sync (field_at name all).row _ _ (type_at name all).to_one
+      (struct_sync (shape (type_at name all)) (a, (b, (c, (d, (e, (f, (g, (h, tt)))))))))
+
+module _ (name : Sym) (A B C D E F G H I : RattleType) where
+  abbrev all_nine : List RattleType
+  all_nine = A ∷ B ∷ C ∷ D ∷ E ∷ F ∷ G ∷ H ∷ I ∷ []
+
+  pub nine_sync : IsSync A → IsSync B → IsSync C → IsSync D → IsSync E → IsSync F → IsSync G → IsSync H → IsSync I
+      → IsSync (TupleAt name (A ∷ B ∷ C ∷ D ∷ E ∷ F ∷ G ∷ H ∷ I ∷ []))
+  nine_sync a b c d e f g h i =
+      recorded_sync (field_at name all_nine).row _ _ (type_at name all_nine).to_one
+      (struct_sync (shape (type_at name all_nine)) (a, (b, (c, (d, (e, (f, (g, (h, (i, tt))))))))))

@@ -1,14 +1,14 @@
 -- All replies of a run follow one journal.
-use Rattle.std.proofs.Common.{◌≡◌, ◌⊎◌, ◌<◌, false, Option, None, ◌≤◌, ℕ, zero, suc, List, length, get_or, All, [], ◌∷◌, ◌++◌, refl, sym, ◌∙◌, ap, subst, inl, inr, arith}
+use Rattle.std.proofs.Common.{◌≡◌, ◌⊎◌, ◌<◌, false, Option, None, ℕ, suc, List, length, get_or, All, [], ◌∷◌, ◌++◌, refl, ◌∙◌, ap, inl, inr, arith}
 use Rattle.std.specs.List.{flat_map}
 use Rattle.std.proofs.lemmas.Grind.{flat_map-append}
 use Rattle.std.proofs.lemmas.List.Elements.{All-nil, All-cons, All-append}
-use Rattle.tfs_records.specs.Journal.{Journal, position_of}
+use Rattle.tfs_records.specs.Journal.{Journal}
 use Rattle.tfs_calls.specs.Reply.{done, refused}
 use Rattle.tfs_calls.specs.Refusal.{no_copy}
 use Rattle.tfs_serve.specs.Following.{FollowsJournal, FollowOneJournal}
 use Rattle.tfs_serve.specs.Serving.{ServedView, IsServed, IsRun, Replies, RepliesInTurn, answers_on}
-use Rattle.tfs_serve.specs.Standing.{AcceptedStand, IsAcceptedAt}
+use Rattle.tfs_serve.specs.Standing.{IsAcceptedAt}
 use Rattle.tfs_serve.specs.Told.{position_told, positions_told, times}
 use Rattle.tfs_serve.specs.Working.{Answer}
 use Rattle.tfs_serve.specs.Gate.{Event}
@@ -63,7 +63,7 @@ run_follows opening last told served run = record {
 }
   where
     nobody : ServedView
-    nobody = record { told = None; failed = false; seen = 0; accepted = 0 }
+    nobody = record { told = None; failed = false; fault = None; seen = 0; accepted = 0 }
 
     at : (i : ℕ) → i < length run.connections → IsServed opening last (get_or run.connections i []) (get_or told i None) (get_or served i nobody)
     at i inside = run.workers i None nobody (omega (arith, inside, run.each.0))

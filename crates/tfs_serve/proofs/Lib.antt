@@ -1,6 +1,6 @@
 pub mod Captures
+pub mod Faults
 pub mod Following
-pub mod Keeping
 pub mod Later
 pub mod Reaching
 pub mod Replying

@@ -1,19 +1,19 @@
 -- Sessions that answer, over the journal that a run leaves.
-use Rattle.std.proofs.Common.{◌≡◌, ◌⊎◌, ◌+◌, ◌<◌, ℕ, Bool, List, length, map, get_or, sum_by, All, [], ◌∷◌, ◌++◌, Option, refl, sym, ◌∙◌, ap, subst, inl, inr, arith, append_assoc, append-nil}
+use Rattle.std.proofs.Common.{◌≡◌, ◌⊎◌, ◌+◌, ℕ, is_some, List, [], ◌∷◌, ◌++◌, Option, refl, sym, ap, subst, inl, inr, arith, append_assoc, append-nil}
 use Rattle.std.specs.List.{flat_map}
-use Rattle.std.proofs.lemmas.List.{length-map, get_or-map}
 use Rattle.std.proofs.lemmas.List.Sums.{sum_by-append}
 use Rattle.tfs_records.specs.Journal.{Journal, BaseValue, EntryValue, position_of}
-use Rattle.tfs_calls.specs.Reply.{ReplyValue}
 use Rattle.tfs_table.specs.Lawful.{IsLawful}
 use Rattle.tfs_table.proofs.LawfulLemmas.{lawful_less}
 use Rattle.tfs_published.specs.Beginning.{BeginsWith}
 use Rattle.tfs_published.proofs.Beginnings.{begins_with_earlier}
 use Rattle.tfs_shared.specs.View.{SessionView, new_session}
+use Rattle.tfs_serve.specs.Faults.{IsCaused}
 use Rattle.tfs_serve.specs.Gate.{Event}
 use Rattle.tfs_serve.specs.Session.{LacksCopy, SessionStep, AnswersOver, IsLater, accepted_by}
 use Rattle.tfs_serve.specs.Working.{Answer, Gives, GivesOn, HasWorked, end_of_work}
 use Rattle.tfs_serve.specs.Serving.{Replies, RepliesInTurn, accepted_in, answers_on, IsServed}
+use Rattle.tfs_connections.specs.declared.accepting.AcceptFault.{AcceptFault}
 use Rattle.tfs_serve.proofs.Later.{later_itself, later_then, begins_answered, lacks_copy, step_later}
 use Rattle.tfs_serve.proofs.Standing.{accepted_stand}
 use Rattle.tfs_serve.proofs.Working.{gives_then}
@@ -112,14 +112,23 @@ pub all_given : (opening : Journal) (told now : Option (List Event)) (old new : 
 all_given opening told now old new end worked = gives_all opening old new worked.connections worked.gives
 
 -- A new session that has worked and has seen no more than the last journal has served.
-pub served : (opening last : Journal) (told now : Option (List Event)) (number : ℕ) (new : SessionView) (failed : Bool) → IsLawful last
-    → BeginsWith last new.journal → (worked : HasWorked opening told now (new_session opening number) new (end_of_work failed))
-    → IsServed opening last worked.connections told (record { told = now; failed = failed; seen = position_of new.journal; accepted = new.accepted })
-served opening last told now number new failed lawful stands worked = record {
+pub served : (opening last : Journal) (told now : Option (List Event)) (number : ℕ) (new : SessionView) (fault : Option AcceptFault) → IsLawful last
+    → BeginsWith last new.journal → IsCaused fault
+    → (worked : HasWorked opening told now (new_session opening number) new (end_of_work (is_some fault)))
+    → IsServed opening last worked.connections told (record {
+      told = now;
+      failed = is_some fault;
+      fault = fault;
+      seen = position_of new.journal;
+      accepted = new.accepted;
+    })
+served opening last told now number new fault lawful stands caused worked = record {
   heard = worked.heard;
   view = new.journal;
   replies = replies;
   stand = accepted_stand last opening new.journal all replies;
+  failed_is = refl;
+  caused = caused;
   seen_is = refl;
   accepted_is = omega (arith, gives_counts opening first new all gives);
 }
@@ -131,7 +140,7 @@ served opening last told now number new failed lawful stands worked = record {
     all = answers_on worked.connections
 
     gives : Gives opening first all new
-    gives = all_given opening told now first new (end_of_work failed) worked
+    gives = all_given opening told now first new (end_of_work (is_some fault)) worked
 
     replies : RepliesInTurn last opening all new.journal
     replies = gives_replies opening last first new all lawful stands gives

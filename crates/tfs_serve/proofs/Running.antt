@@ -1,5 +1,5 @@
 -- A whole run, from what its workers did.
-use Rattle.std.proofs.Common.{◌≡◌, ◌+◌, ◌<◌, ◌≤◌, ℕ, zero, suc, Bool, List, length, map, get_or, sum_by, All, [], ◌∷◌, ◌++◌, Option, refl, sym, ◌∙◌, ap, subst, arith, length-append}
+use Rattle.std.proofs.Common.{◌≡◌, ◌+◌, ◌<◌, ◌≤◌, ℕ, zero, suc, is_some, List, length, map, get_or, sum_by, All, [], ◌∷◌, Option, refl, sym, ◌∙◌, ap, subst, arith, length-append}
 use Rattle.std.specs.List.{flat_map}
 use Rattle.std.proofs.lemmas.List.{length-map, get_or-map}
 use Rattle.std.proofs.lemmas.List.Sums.{sum_by-cons}
@@ -9,9 +9,11 @@ use Rattle.tfs_table.specs.Lawful.{IsLawful}
 use Rattle.tfs_published.specs.Beginning.{BeginsWith}
 use Rattle.tfs_shared.specs.Signed.{AreSigned}
 use Rattle.tfs_shared.specs.View.{SessionView, new_session}
+use Rattle.tfs_connections.specs.declared.accepting.AcceptFault.{AcceptFault}
+use Rattle.tfs_serve.specs.Faults.{IsCaused}
 use Rattle.tfs_serve.specs.Gate.{Event}
 use Rattle.tfs_serve.specs.Serving.{ServedView, IsServed, IsRun, accepted_in, answers_on}
-use Rattle.tfs_serve.specs.Told.{positions_told, times}
+use Rattle.tfs_serve.specs.Told.{positions_told}
 use Rattle.tfs_serve.specs.Working.{Answer, HasWorked, end_of_work}
 use Rattle.tfs_serve.proofs.Replying.{served, all_given}
 use Rattle.tfs_serve.proofs.Returning.{HaveNumbers}
@@ -66,19 +68,21 @@ abbrev told_on : List (List Answer) → List ℕ
 told_on connections = positions_told (answers_on connections)
 
 -- What is left of a worker.
-abbrev pub left_of : {W : Type 0} → (W → Option (List Event)) → (W → SessionView) → (W → Bool) → W → ServedView
-left_of told session failed w = record {
+abbrev pub left_of : {W : Type 0} → (W → Option (List Event)) → (W → SessionView) → (W → Option AcceptFault) → W → ServedView
+left_of told session fault w = record {
   told = told w;
-  failed = failed w;
+  failed = is_some (fault w);
+  fault = fault w;
   seen = position_of (session w).journal;
   accepted = (session w).accepted;
 }
 
 -- Workers that began with new sessions, numbered down to the first, and have worked.
-module _ {W : Type 0} (told : W → Option (List Event)) (session : W → SessionView) (failed : W → Bool) (opening last : Journal) (old new : List W)
+module _ {W : Type 0} (told : W → Option (List Event)) (session : W → SessionView) (fault : W → Option AcceptFault) (opening last : Journal)
+    (old new : List W)
   where
     abbrev left : W → ServedView
-    left = left_of told session failed
+    left = left_of told session fault
 
     -- What a worker did, with its number.
     pub record HasServed (d : W) (i : ℕ) (connections : List (List Answer)) : Type 0 where
@@ -94,28 +98,33 @@ module _ {W : Type 0} (told : W → Option (List Event)) (session : W → Sessio
     abbrev pub WorkedEach : Type 0
     WorkedEach = (i : ℕ) (d : W) → i < length old
         → HasWorked opening (told (get_or old i d)) (told (get_or new i d)) (session (get_or old i d)) (session (get_or new i d))
-        (end_of_work (failed (get_or new i d)))
+        (end_of_work (is_some (fault (get_or new i d))))
+
+    abbrev pub AreCaused : Type 0
+    AreCaused = (i : ℕ) (d : W) → i < length old → IsCaused (fault (get_or new i d))
 
     -- One worker.
-    one_served : IsLawful last → AreNumbered → WorkedEach → length new ≡ length old → All (λ (s : SessionView). BeginsWith last s.journal) (map session new)
+    one_served : IsLawful last → AreNumbered → AreCaused → WorkedEach → length new ≡ length old
+        → All (λ (s : SessionView). BeginsWith last s.journal) (map session new)
         → (d : W) (i : ℕ) → i < length old → (connections : List (List Answer)) × HasServed d i connections
-    one_served lawful numbered worked same begins d i inside =
+    one_served lawful numbered caused worked same begins d i inside =
         let number = numbered i d inside in
         let now = get_or new i d in
         let in_new : i < length new = omega (arith, inside, same) in
         let in_sessions : i < length (map session new) = omega (arith, in_new, length-map new session) in
         let has : BeginsWith last (session now).journal =
         subst (λ (s : SessionView). BeginsWith last s.journal) (get_or-map session new i d (session d) in_new) (begins i (session d) in_sessions) in
-        let did : HasWorked opening (told (get_or old i d)) (told now) (new_session opening number.0) (session now) (end_of_work (failed now)) =
-        subst (λ (s : SessionView). HasWorked opening (told (get_or old i d)) (told now) s (session now) (end_of_work (failed now)))
+        let did : HasWorked opening (told (get_or old i d)) (told now) (new_session opening number.0) (session now)
+        (end_of_work (is_some (fault now))) =
+        subst (λ (s : SessionView). HasWorked opening (told (get_or old i d)) (told now) s (session now) (end_of_work (is_some (fault now))))
         number.2 (worked i d inside) in (
           did.connections,
           record {
-            served = served opening last (told (get_or old i d)) (told now) number.0 (session now) (failed now) lawful has did;
+            served = served opening last (told (get_or old i d)) (told now) number.0 (session now) (fault now) lawful has (caused i d inside) did;
             number = number.0;
             number_is = number.1;
             tells = gives_tells opening (new_session opening number.0) (session now) (answers_on did.connections)
-                (all_given opening (told (get_or old i d)) (told now) (new_session opening number.0) (session now) (end_of_work (failed now)) did);
+                (all_given opening (told (get_or old i d)) (told now) (new_session opening number.0) (session now) (end_of_work (is_some (fault now))) did);
           },
         )
 
@@ -148,11 +157,11 @@ module _ {W : Type 0} (told : W → Option (List Event)) (session : W → Sessio
         (omega (arith, at), omega (arith, at, parts, more))
 
     -- The run.
-    pub is_run : IsLawful last → BeginsWith last opening → AreNumbered → WorkedEach → length new ≡ length old
+    pub is_run : IsLawful last → BeginsWith last opening → AreNumbered → AreCaused → WorkedEach → length new ≡ length old
         → All (λ (s : SessionView). BeginsWith last s.journal) (map session new) → AreSigned opening last (map session new)
         → length last.entries ≡ length opening.entries + sum_by (λ (s : SessionView). s.accepted) (map session new)
         → (d : W) → IsRun opening last (map told old) (map left new)
-    is_run lawful begins numbered worked same seen signed grows d = record {
+    is_run lawful begins numbered caused worked same seen signed grows d = record {
       lawful = lawful;
       begins = begins;
       connections = all.0;
@@ -174,7 +183,7 @@ module _ {W : Type 0} (told : W → Option (List Event)) (session : W → Sessio
 
         all : (xs : List (List (List Answer))) × (length xs ≡ length old)
             × ((i : ℕ) (e : List (List Answer)) → i < length old → HasServed d i (get_or xs i e))
-        all = chosen (HasServed d) (length old) (one_served lawful numbered worked same seen d)
+        all = chosen (HasServed d) (length old) (one_served lawful numbered caused worked same seen d)
 
         told_all : List ℕ
         told_all = flat_map told_on all.0
@@ -214,26 +223,27 @@ map_alike f g [] same = refl
 map_alike f g (x ∷ xs) same = ap (λ u. u ∷ map f xs) (same x) ∙ ap (λ l. g x ∷ l) (map_alike f g xs same)
 
 -- The run of workers for gates.
-pub run_of : {W G V : Type 0} (gate : W → G) (told : G → Option (List Event)) (session : W → SessionView) (failed : W → Bool) (made : W → V)
+pub run_of : {W G V : Type 0} (gate : W → G) (told : G → Option (List Event)) (session : W → SessionView) (fault : W → Option AcceptFault) (made : W → V)
     (view : V → ServedView) (opening last : Journal) (gates : List G) (old new : List W) (all : List V)
-    → ((w : W) → left_of (λ (x : W). told (gate x)) session failed w ≡ view (made w))
+    → ((w : W) → left_of (λ (x : W). told (gate x)) session fault w ≡ view (made w))
     → map gate old ≡ gates → all ≡ map made new → 1 ≤ length gates → IsLawful last → BeginsWith last opening
     → HaveNumbers session opening (length gates) old
-    → WorkedEach (λ (w : W). told (gate w)) session failed opening last old new → length new ≡ length old
+    → AreCaused (λ (w : W). told (gate w)) session fault opening last old new
+    → WorkedEach (λ (w : W). told (gate w)) session fault opening last old new → length new ≡ length old
     → All (λ (s : SessionView). BeginsWith last s.journal) (map session new) → AreSigned opening last (map session new)
     → length last.entries ≡ length opening.entries + sum_by (λ (s : SessionView). s.accepted) (map session new)
     → IsRun opening last (map told gates) (map view all)
-run_of gate told session failed made view opening last gates old [] all views are_gates are_all some lawful begins numbered worked same seen signed
-    grows =
+run_of gate told session fault made view opening last gates old [] all views are_gates are_all some lawful begins numbered caused worked same seen
+    signed grows =
     absurd (omega (arith, some, same, ap length are_gates, length-map old gate))
-run_of {W} {G} {V} gate told session failed made view opening last gates old (w ∷ rest) all views are_gates are_all some lawful begins numbered worked
-    same seen signed grows =
+run_of {W} {G} {V} gate told session fault made view opening last gates old (w ∷ rest) all views are_gates are_all some lawful begins numbered caused
+    worked same seen signed grows =
     subst (λ (gs : List G). IsRun opening last (map told gs) (map view all)) are_gates
     (subst (λ (os : List (Option (List Event))). IsRun opening last os (map view all)) (sym (map_made gate told old))
     (subst (λ (vs : List V). IsRun opening last (map (λ (x : W). told (gate x)) old) (map view vs)) (sym are_all)
     (subst (λ (ss : List ServedView). IsRun opening last (map (λ (x : W). told (gate x)) old) ss)
-    (map_alike (left_of (λ (x : W). told (gate x)) session failed) (λ (x : W). view (made x)) (w ∷ rest) views ∙ sym (map_made made view (w ∷ rest)))
-    (is_run (λ (x : W). told (gate x)) session failed opening last old (w ∷ rest) lawful begins (λ i d inside.
+    (map_alike (left_of (λ (x : W). told (gate x)) session fault) (λ (x : W). view (made x)) (w ∷ rest) views ∙ sym (map_made made view (w ∷ rest)))
+    (is_run (λ (x : W). told (gate x)) session fault opening last old (w ∷ rest) lawful begins (λ i d inside.
     let x = numbered i d inside in
     let at = x.1 in
-    (x.0, omega (arith, at, ap length are_gates, length-map old gate), x.2)) worked same seen signed grows w))))
+    (x.0, omega (arith, at, ap length are_gates, length-map old gate), x.2)) caused worked same seen signed grows w))))

@@ -1,5 +1,5 @@
 -- Accepted changes stand in the last journal.
-use Rattle.std.proofs.Common.{◌≡◌, ◌+◌, ℕ, List, [], ◌∷◌, ◌++◌, length, All, Option, Some, None, refl, sym, ◌∙◌, ap, subst, inl, inr, arith, append_assoc}
+use Rattle.std.proofs.Common.{◌≡◌, ◌+◌, ℕ, List, [], ◌∷◌, Option, Some, None, refl, sym, ◌∙◌, ap, subst, inl, inr, arith, append_assoc}
 use Rattle.std.specs.Option.{option_map_or}
 use Rattle.std.proofs.lemmas.List.Elements.{All-nil, All-cons}
 use Rattle.tfs_state.specs.Document.{Document}
@@ -10,13 +10,13 @@ use Rattle.tfs_calls.specs.Draft.{act_of, draft_refusal}
 use Rattle.tfs_calls.specs.Impact.{chosen_by, query_refusal}
 use Rattle.tfs_calls.specs.Refusal.{RefusalValue, no_state, out_of_memory, journal_fault, no_copy}
 use Rattle.tfs_calls.specs.Reply.{ReplyValue, done, state, impact, refused}
-use Rattle.tfs_calls.specs.Transition.{TableModel, Answers, act_refusal, act_answer, journal_after_act, query_answer, FaultsAct}
+use Rattle.tfs_calls.specs.Transition.{TableModel, Answers, act_refusal, act_answer, journal_after_act, query_answer}
 use Rattle.tfs_calls.specs.declared.call.Call.{Call}
 use Rattle.tfs_calls.specs.declared.call.Call.TheVariants.{Read, Change, Impact}
 use Rattle.tfs_calls.specs.declared.call.Raw.{Raw}
 use Rattle.tfs_calls.specs.declared.query.Query.{Query}
 use Rattle.tfs_published.specs.Beginning.{BeginsWith}
-use Rattle.tfs_serve.specs.Serving.{RepliesOver, Replies, RepliesInTurn}
+use Rattle.tfs_serve.specs.Serving.{Replies, RepliesInTurn}
 use Rattle.tfs_serve.specs.Standing.{StandsAt, IsAcceptedAt, AcceptedStand}
 use Rattle.tfs_serve.specs.Working.{Answer}
 

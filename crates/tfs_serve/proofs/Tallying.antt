@@ -1,7 +1,6 @@
 -- What a session tells: positions beyond all that it had seen, at which it made the changes.
-use Rattle.std.proofs.Common.{◌≡◌, ◌⊎◌, ◌+◌, ◌<◌, ◌≤◌, ℕ, zero, suc, List, [], ◌∷◌, ◌++◌, length, refl, sym, ◌∙◌, ap, subst, inl, inr, arith, append_assoc, append-nil, length-append}
+use Rattle.std.proofs.Common.{◌≡◌, ◌<◌, ◌≤◌, ℕ, zero, suc, List, [], ◌∷◌, ◌++◌, length, refl, sym, ◌∙◌, ap, subst, arith, append_assoc, append-nil, length-append}
 use mathlib.Core.List.{IsPrefix}
-use Rattle.tfs_state.specs.Document.{Document}
 use Rattle.tfs_records.specs.Journal.{Journal, BaseValue, position_of}
 use Rattle.tfs_calls.specs.Reply.{ReplyValue, done, state, impact, refused}
 use Rattle.tfs_published.specs.Beginning.{BeginsWith}

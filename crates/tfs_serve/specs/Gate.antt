@@ -1,5 +1,5 @@
 -- What a gate is told.
-use Rattle.std.specs.Prelude.{◌≡◌, Bool, List, [], ◌∷◌, ◌++◌, false, Option, Some, None}
+use Rattle.std.specs.Prelude.{◌≡◌, Bool, List, [], ◌∷◌, ◌++◌, true, false, Option, Some, None}
 use Rattle.tfs_calls.specs.declared.call.Call.{Call}
 use Rattle.tfs_calls.specs.Reply.{ReplyValue}
 
@@ -18,3 +18,8 @@ Hears (Some old) new events = new ≡ Some (old ++ events)
 abbrev pub IsClosed : Option (List Event) → Type 0
 IsClosed None = Unit {0}
 IsClosed (Some events) = (earlier : List Event) × (events ≡ earlier ++ asked false ∷ [])
+
+-- The last thing that a gate was told is that it was asked for a connection, and said yes.
+abbrev pub IsAdmitted : Option (List Event) → Type 0
+IsAdmitted None = Unit {0}
+IsAdmitted (Some events) = (earlier : List Event) × (events ≡ earlier ++ asked true ∷ [])

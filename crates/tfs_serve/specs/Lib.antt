@@ -1,4 +1,4 @@
-pub mod Accepting
+pub mod Faults
 pub mod Following
 pub mod Gate
 pub mod Serving

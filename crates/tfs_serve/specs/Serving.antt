@@ -1,11 +1,13 @@
 -- What a worker's replies are over the journal that a run leaves.
-use Rattle.std.specs.Prelude.{◌≡◌, ◌⊎◌, ◌+◌, ◌<◌, ℕ, Bool, List, [], ◌∷◌, ◌++◌, length, get_or, flat_map, sum_by, Option}
+use Rattle.std.specs.Prelude.{◌≡◌, ◌⊎◌, ◌+◌, ◌<◌, ℕ, Bool, List, [], ◌∷◌, ◌++◌, length, get_or, flat_map, sum_by, Option, is_some}
 use Rattle.tfs_records.specs.Journal.{Journal, position_of}
 use Rattle.tfs_calls.specs.Refusal.{no_copy, out_of_memory}
 use Rattle.tfs_calls.specs.Reply.{refused}
 use Rattle.tfs_calls.specs.Transition.{TableModel, Answers}
 use Rattle.tfs_table.specs.Lawful.{IsLawful}
 use Rattle.tfs_published.specs.Beginning.{BeginsWith}
+use Rattle.tfs_connections.specs.declared.accepting.AcceptFault.{AcceptFault}
+use Rattle.tfs_serve.specs.Faults.{IsCaused}
 use Rattle.tfs_serve.specs.Gate.{Event, Hears}
 use Rattle.tfs_serve.specs.Session.{MayLackMemory, accepted_by}
 use Rattle.tfs_serve.specs.Standing.{AcceptedStand}
@@ -43,11 +45,12 @@ accepted_in = sum_by (λ a. accepted_by a.reply)
 abbrev pub answers_on : List (List Answer) → List Answer
 answers_on = flat_map (λ answers. answers)
 
--- What a run leaves of a worker: what its gate was told, whether the listener gave it no connection, the position of what it has seen, and
--- how many changes it told as accepted.
+-- What a run leaves of a worker: what its gate was told, whether the listener gave it no connection and by which fault, the position of what
+-- it has seen, and how many changes it told as accepted.
 pub record ServedView : Type 0 where
   pub told : Option (List Event)
   pub failed : Bool
+  pub fault : Option AcceptFault
   pub seen : ℕ
   pub accepted : ℕ
 
@@ -60,6 +63,8 @@ pub record IsServed (opening last : Journal) (connections : List (List Answer)) 
     pub view : Journal
     pub replies : RepliesInTurn last opening (answers_on connections) view
     pub stand : AcceptedStand last (answers_on connections)
+    pub failed_is : served.failed ≡ is_some served.fault
+    pub caused : IsCaused served.fault
     pub seen_is : served.seen ≡ position_of view
     pub accepted_is : served.accepted ≡ accepted_in (answers_on connections)
 

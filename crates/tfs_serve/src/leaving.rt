@@ -1,6 +1,6 @@
 //! What a run leaves.
 
-ghost use Rattle.std.specs.Prelude.{◌≡◌, ◌+◌, ◌≤◌, All, [], length, map, sum_by, vec_capacity, IfOk, IfErr};
+ghost use Rattle.std.specs.Prelude.{◌≡◌, ◌+◌, ◌≤◌, All, [], is_some, length, map, sum_by, vec_capacity, IfOk, IfErr};
 ghost use Rattle.tfs_records.specs.Journal.{position_of};
 ghost use Rattle.tfs_table.specs.Lawful.{IsLawful};
 ghost use Rattle.tfs_published.specs.Beginning.{BeginsWith};
@@ -8,9 +8,10 @@ ghost use Rattle.tfs_shared.specs.Signed.{AreSigned};
 ghost use Rattle.tfs_shared.specs.View.{AreNew};
 
 use crate::gate::Gate;
+use crate::member::Member;
 use crate::run::Served;
-use crate::worker::Worker;
 use std::sync::Wait;
+use tfs_connections::AcceptFault;
 use tfs_records::Sink;
 use tfs_shared::{Naming, Session, Shared, Strangers, gather};
 use tfs_table::Table;
@@ -62,49 +63,56 @@ pub(crate) fn gathered<J: Naming, K: Sink, R: Wait>(
     }
 }
 
-/// The sessions of workers, and what became of each worker.
+/// The sessions of members, and what became of each member.
 pub(crate) fn parted<J: Naming, G: Gate + Drop>(
-    workers: Vec<Worker<J, G>>,
+    members: Vec<Member<J, G>>,
     sessions: Vec<Session<J>>,
     served: Vec<Served<G>>,
 ) -> (Vec<Session<J>>, Vec<Served<G>>)
-    requires sessions { (sessions.items ≡ []) × (length workers.items ≤ vec_capacity sessions) }
-    requires served { (served.items ≡ []) × (length workers.items ≤ vec_capacity served) }
-    ensures sessions { result.0.items ≡ map (λ worker. worker.session) workers.items }
-    ensures served { result.1.items ≡ map (λ worker. record {
-      gate = worker.gate;
-      failed = worker.failed;
-      seen = position_of worker.session.journal;
-      accepted = worker.session.accepted;
-    }) workers.items }
+    requires sessions { (sessions.items ≡ []) × (length members.items ≤ vec_capacity sessions) }
+    requires served { (served.items ≡ []) × (length members.items ≤ vec_capacity served) }
+    ensures sessions { result.0.items ≡ map (λ member. member.session) members.items }
+    ensures served { result.1.items ≡ map (λ member. record {
+      gate = member.gate;
+      failed = is_some member.fault;
+      fault = member.fault;
+      seen = position_of member.session.journal;
+      accepted = member.session.accepted;
+    }) members.items }
 {
     let mut sessions = sessions;
     let mut all = served;
-    for worker in workers {
-        let Worker {
+    for member in members {
+        let Member {
             gate,
             session,
-            failed,
-        } = worker;
-        let served = served_by(&session, gate, failed);
+            fault,
+        } = member;
+        let served = served_by(&session, gate, fault);
         sessions.push(session).unwrap();
         all.push(served).unwrap();
     }
     (sessions, all)
 }
 
-/// What became of a worker with this session.
-fn served_by<J: Naming, G: Gate>(session: &Session<J>, gate: G, failed: bool) -> Served<G>
+/// What became of a member with this session.
+fn served_by<J: Naming, G: Gate>(
+    session: &Session<J>,
+    gate: G,
+    fault: Option<AcceptFault>,
+) -> Served<G>
     ensures value { result ≡ record {
       gate = gate;
-      failed = failed;
+      failed = is_some fault;
+      fault = fault;
       seen = position_of session.now.journal;
       accepted = session.now.accepted;
     } }
 {
     Served {
         gate,
-        failed,
+        failed: fault.is_some(),
+        fault,
         seen: session.seen(),
         accepted: session.accepted(),
     }

@@ -1,33 +1,31 @@
 //! Workers: conversations over the sessions of a shared table, on connections to one listener.
 #![tactic(auto)]
 
-mod accepting;
-mod connection;
 mod crew;
 mod gate;
 mod gated;
 mod laws;
 mod leaving;
-mod limits;
+mod member;
 mod run;
 mod runtime;
 mod serving;
 mod session_desk;
-mod timing;
 mod worker;
 
-pub use accepting::{AcceptError, AcceptFault, PAUSE_MILLISECONDS, Remedy, limit_waits, remedy_of};
 pub use gate::{Gate, Open};
 pub use gated::Gated;
 pub use laws::{accepted_changes_stand_in_the_last_journal, all_replies_follow_one_journal};
-pub use limits::{
-    LOOK_MILLISECONDS, MAX_ENDING_SECONDS, MAX_IDLE_SECONDS, MAX_REPLY_SECONDS,
-    MAX_REQUEST_SECONDS, MAX_WAIT_SECONDS, REPLY_BYTES_A_SECOND,
-};
-pub use run::{Obstacle, Run, Served, Unserved, serve, serve_until};
+pub use run::{Obstacle, Run, Served, Unserved, first_fault, serve, serve_until};
 pub use runtime::Runtime;
 pub use serving::work;
 pub use session_desk::{MAX_BYTES_AT_ONCE, Service, SessionDesk};
+pub use tfs_connections::{
+    AcceptError, AcceptFault, LOOK_MILLISECONDS, Load, MAX_CROWDED_IDLE_MILLISECONDS,
+    MAX_ENDING_SECONDS, MAX_IDLE_SECONDS, MAX_REPLY_SECONDS, MAX_REQUEST_SECONDS, MAX_WAIT_SECONDS,
+    PAUSE_MILLISECONDS, REPLY_BYTES_A_SECOND, Remedy, SLOW_BYTES_A_SECOND, SLOW_SECONDS,
+    WORKERS_FOR_A_SLOW_CLIENT, limit_waits, remedy_of,
+};
 pub use tfs_conversation::{
     Desk, Ended, LentFault, MAX_READS, Outlet, Reads, RunFault, ServeFault, Source, TableDesk,
     Watched, bytes_have_an_output, bytes_have_one_list_of_messages, bytes_have_one_output,

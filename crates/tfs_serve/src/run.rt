@@ -4,6 +4,7 @@ ghost use Rattle.std.specs.Prelude.{◌≡◌, ◌≢◌, ◌+◌, ◌≤◌, �
 ghost use Rattle.tfs_records.specs.Journal.{position_of};
 ghost use Rattle.tfs_published.specs.Beginning.{BeginsWith};
 ghost use Rattle.tfs_shared.specs.View.{AreNew, new_session};
+ghost use Rattle.tfs_serve.specs.Faults.{first_fault_in};
 ghost use Rattle.tfs_serve.specs.Serving.{IsRun};
 ghost use Rattle.tfs_serve.specs.Working.{HasWorked, end_of_work};
 ghost use Rattle.tfs_serve.specs.declared.run.Obstacle.TheVariants.{NoCopy};
@@ -20,18 +21,32 @@ use std::sync::atomic::AtomicBool;
 use std::sync::ledger::Blank;
 use std::thread::Threads;
 use std::time::Clock;
+use tfs_connections::AcceptFault;
 use tfs_records::Sink;
 use tfs_shared::{Cause, Naming, Opened, Session, Shared, share};
 use tfs_table::Table;
 
-/// What became of a gate's worker: its gate, whether the listener gave it no connection, the position of the journal that it has
-/// seen, and how many changes it told as accepted.
+/// What became of a gate's worker: its gate, whether the listener gave it no connection and by which fault, the position of the journal
+/// that it has seen, and how many changes it told as accepted.
 #[derive(Drop)]
 pub struct Served<G: Gate> {
     pub gate: G,
     pub failed: bool,
+    pub fault: Option<AcceptFault>,
     pub seen: u64,
     pub accepted: u64,
+}
+
+/// The fault of the first worker that failed, if one has.
+pub fn first_fault<G: Gate>(served: &[Served<G>]) -> Option<AcceptFault>
+    ensures first { result ≡ first_fault_in (map (λ one. one.fault) served.now) }
+{
+    for one in served {
+        if let Some(fault) = one.fault {
+            return Some(fault);
+        }
+    }
+    None
 }
 
 /// What a run leaves: the table, what became of each worker, in the order of their gates, and the listener.
@@ -78,7 +93,8 @@ struct Blanks {
 /// Shares the table among one worker for each gate, then listens, and has the workers answer connections until each has ended. Then it
 /// gives the table back: its journal is lawful, begins with the one before, and has one entry more for each change that a reply told
 /// as accepted, at the position that this reply told and no other. Each worker's replies are the transition of the model, each over a
-/// beginning of that journal with all that the worker had seen before.
+/// beginning of that journal with all that the worker had seen before. A worker that failed has the fault of its listener; of any other
+/// the gate has said no.
 pub fn serve<
     L: OpenListener<Stream = TcpStream> + Sync + Drop,
     K: Sink + Send + Drop,
@@ -98,17 +114,19 @@ pub fn serve<
     ensures run { IfOk result (λ run. IsRun table.journal run.table.journal (map G.told gates.items) (map (λ served. record {
       told = G.told served.gate;
       failed = served.failed;
+      fault = served.fault;
       seen = served.seen;
       accepted = served.accepted;
     }) run.served.items)) }
     ensures kept { IfErr result (λ unserved. BeginsWith unserved.table.journal table.journal) }
     ensures back { IfErr result (λ unserved. unserved.why ≢ NoCopy → unserved.table.journal ≡ table.journal) }
 {
-    let ended = AtomicBool::new(false);
+    let never = AtomicBool::new(false);
     let runtime = Runtime {
         rt,
         alloc,
-        ended: &ended,
+        ended: &never,
+        muted: &never,
     };
     serve_until(&runtime, table, gates, listen)
 }
@@ -132,6 +150,7 @@ pub fn serve_until<
     ensures run { IfOk result (λ run. IsRun table.journal run.table.journal (map G.told gates.items) (map (λ served. record {
       told = G.told served.gate;
       failed = served.failed;
+      fault = served.fault;
       seen = served.seen;
       accepted = served.accepted;
     }) run.served.items)) }
@@ -167,6 +186,7 @@ fn serve_named<
     ensures run { IfOk result (λ run. IsRun J.opening run.table.journal (map G.told asked.gates.items) (map (λ served. record {
       told = G.told served.gate;
       failed = served.failed;
+      fault = served.fault;
       seen = served.seen;
       accepted = served.accepted;
     }) run.served.items)) }
@@ -206,6 +226,7 @@ fn serve_shared<
     ensures run { IfOk result (λ run. IsRun J.opening run.table.journal (map G.told asked.gates.items) (map (λ served. record {
       told = G.told served.gate;
       failed = served.failed;
+      fault = served.fault;
       seen = served.seen;
       accepted = served.accepted;
     }) run.served.items)) }

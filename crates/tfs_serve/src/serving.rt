@@ -1,20 +1,19 @@
 //! The work of one session: connections one after another.
 
 ghost use Rattle.std.specs.Prelude.{◌≡◌, OnOk, OnErr, IfErr, [], ◌∷◌, false};
-ghost use Rattle.tfs_serve.specs.Accepting.{IsAdmitted, IsFinal, error_of};
-ghost use Rattle.tfs_serve.specs.Gate.{IsClosed, asked};
+ghost use Rattle.tfs_connections.specs.Accepting.{IsFinal, error_of};
+ghost use Rattle.tfs_serve.specs.Gate.{IsAdmitted, IsClosed, asked};
 ghost use Rattle.tfs_serve.specs.Session.{IsLater};
 ghost use Rattle.tfs_serve.specs.Working.{HasAnswered, HasWorked};
 
-use crate::accepting::{AcceptFault, Listening, accepted};
-use crate::connection::{Incoming, Outgoing, limit};
 use crate::gate::Gate;
 use crate::gated::Gated;
-use crate::session_desk::{Service, SessionDesk};
-use crate::timing::Timing;
+use crate::session_desk::{LentDesk, Service};
+use json::Scratch;
 use std::net::{OpenListener, TcpStream};
 use std::sync::Wait;
 use std::time::Clock;
+use tfs_connections::{AcceptFault, Incoming, Listening, Outgoing, Timing, limit, taken};
 use tfs_conversation::{Outlet, Reads, Source, converse};
 use tfs_records::Sink;
 use tfs_shared::{Naming, Session};
@@ -39,24 +38,26 @@ pub fn work<L: OpenListener<Stream = TcpStream>, J: Naming, K: Sink, G: Gate, R:
     ensures broken { OnErr result (HasWorked J.opening (G.told gate.old) (G.told gate.new) session.old session.new []) }
 {
     let mut listening = Listening::new(listener);
+    let mut scratch = Scratch::new(service.alloc);
     for _ in service.rt.forever() {
         if !gate.admit() {
             return Ok(());
         }
-        match accepted(service.rt, &mut listening, service.ended) {
-            Ok(stream) => serve(service, stream, gate, session),
+        match taken(service.rt, &mut listening, service.ended, service.load) {
+            Ok(stream) => serve(service, stream, gate, session, &mut scratch),
             Err(fault) => return Err(fault),
         }
     }
     unreachable!()
 }
 
-/// Has a conversation on a connection, if there is one.
+/// Has a conversation on a connection, if there is one, with states read over the room of a scratch.
 fn serve<J: Naming, K: Sink, G: Gate, R: Wait + Clock>(
     service: &Service<'_, J, K, R>,
     stream: Option<TcpStream>,
     gate: &mut G,
     session: &mut Session<J>,
+    scratch: &mut Scratch,
 )
     ensures later { IsLater session.old session.new }
     ensures answered { HasAnswered J.opening (G.told gate.old) (G.told gate.new) session.old session.new }
@@ -67,32 +68,37 @@ fn serve<J: Naming, K: Sink, G: Gate, R: Wait + Clock>(
     if limit(&stream).is_err() {
         return;
     }
-    let timing = Timing::new(service.rt, service.ended);
-    serve_in_time(&timing, &stream, service, gate, session);
+    let timing = Timing::new(service.rt, service.ended, service.muted, service.load);
+    let desk = LentDesk {
+        service,
+        session,
+        scratch,
+    };
+    serve_in_time(&timing, &stream, &mut Gated { desk, gate });
+    timing.end_slow();
 }
 
-/// Has a conversation on a connection, whose time begins.
+/// Has a conversation over the desk on a connection, whose time begins.
 fn serve_in_time<J: Naming, K: Sink, G: Gate, R: Wait, C: Clock>(
     timing: &Timing<'_, '_, C>,
     stream: &TcpStream,
-    service: &Service<'_, J, K, R>,
-    gate: &mut G,
-    session: &mut Session<J>,
+    desk: &mut Gated<'_, LentDesk<'_, '_, '_, J, K, R>, G>,
 )
-    ensures later { IsLater session.old session.new }
-    ensures answered { HasAnswered J.opening (G.told gate.old) (G.told gate.new) session.old session.new }
+    ensures loan { desk.new.desk.session.ghost_name ≡ desk.old.desk.session.ghost_name }
+    ensures gate { desk.new.gate.ghost_name ≡ desk.old.gate.ghost_name }
+    ensures later { IsLater desk.old.desk.session.now desk.new.desk.session.now }
+    ensures answered { HasAnswered J.opening (G.told desk.old.gate.now) (G.told desk.new.gate.now) desk.old.desk.session.now desk.new.desk.session.now }
 {
     let mut reader = Incoming::new(timing, stream);
     let mut writer = Outgoing::new(timing, stream);
-    let desk = SessionDesk { service, session };
-    converse_once(&mut reader, &mut writer, &mut Gated { desk, gate });
+    converse_once(&mut reader, &mut writer, desk);
 }
 
 /// Has a conversation over the desk, which keeps its loan.
 fn converse_once<I: Source, O: Outlet, J: Naming, K: Sink, G: Gate, R: Wait>(
     reader: &mut I,
     writer: &mut O,
-    desk: &mut Gated<'_, SessionDesk<'_, '_, '_, J, K, R>, G>,
+    desk: &mut Gated<'_, LentDesk<'_, '_, '_, J, K, R>, G>,
 )
     ensures loan { desk.new.desk.session.ghost_name ≡ desk.old.desk.session.ghost_name }
     ensures gate { desk.new.gate.ghost_name ≡ desk.old.gate.ghost_name }

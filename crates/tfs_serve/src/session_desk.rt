@@ -1,27 +1,29 @@
 //! The desk over a session, and conversations over it.
 
 ghost use Rattle.std.specs.Prelude.{◌≡◌, ◌⊎◌, Some, None, IfOk, IfErr};
-ghost use Rattle.tfs_calls.specs.Draft.{HasFittingState, act_of, draft_refusal};
+ghost use Rattle.tfs_calls.specs.Draft.{CarriesFittingState, HasFittingState, act_of, draft_refusal};
 ghost use Rattle.tfs_calls.specs.Refusal.{refusal_value, out_of_memory};
 ghost use Rattle.tfs_calls.specs.Reply.{reply_value};
 ghost use Rattle.tfs_calls.specs.declared.call.Call.TheVariants.{Read as CallRead, Change, Impact};
 ghost use Rattle.tfs_serve.specs.Session.{SessionStep};
 
+use json::Scratch;
 use std::alloc::Global;
 use std::sync::atomic::AtomicBool;
 use std::sync::{Mutex, MutexGuard, Wait};
 use tfs_calls::{Call, Draft, Query, Raw, Refusal, Reply, a_change_is_answered_as_its_act_is};
+use tfs_connections::Load;
 use tfs_conversation::Desk;
 use tfs_records::Sink;
 use tfs_rules::Name;
 use tfs_shared::{Naming, Session, Shared};
 
 /// A state of more bytes is read in turn: reading some texts of this length takes many times their bytes.
-pub const MAX_BYTES_AT_ONCE: usize = 1_048_576;
+pub const MAX_BYTES_AT_ONCE: usize = 4_194_304;
 
-/// What the sessions of a shared table are served with: the handle to wait, the allocator, the table, and a lock of its own. A push of
-/// more than 1 MiB is read while that is locked, and it is free again before the table's is taken. Once `ended` is set, conversations are
-/// to end between two requests.
+/// What the sessions of a shared table are served with: the handle to wait, the allocator, the table, a lock of its own, and how busy the
+/// workers are. A push of more than 4 MiB is read while that lock is taken, and it is free again before the table's is taken. Once `ended`
+/// is set, conversations are to end between two requests; once `muted` is, nothing more is written to anybody.
 #[derive(Drop)]
 pub struct Service<'s, J: Naming, K: Sink, R: Wait> {
     pub rt: &'s R,
@@ -29,6 +31,8 @@ pub struct Service<'s, J: Naming, K: Sink, R: Wait> {
     pub shared: &'s Shared<J, K>,
     pub turn: &'s Mutex<()>,
     pub ended: &'s AtomicBool,
+    pub muted: &'s AtomicBool,
+    pub load: &'s Load,
 }
 
 /// A desk that asks a shared table through a session, which it is lent. Changes and reads wait for the table's lock; impact queries
@@ -48,11 +52,46 @@ impl<'v, 's, 'm, J: Naming, K: Sink, R: Wait> Desk for SessionDesk<'v, 's, 'm, J
         × SessionStep J.opening old.session.now call reply new.session.now };
 
     fn answer(&mut self, call: Call) -> Reply {
-        match call {
-            Call::Read(name) => read(self.service, self.session, &name),
-            Call::Change(name, raw) => change(self.service, self.session, name, raw),
-            Call::Impact(name, query) => ask(self.service.shared, self.session, &name, &query),
-        }
+        let mut scratch = Scratch::new(self.service.alloc);
+        reply_to(self.service, self.session, &mut scratch, call)
+    }
+}
+
+/// The same desk, which reads the states of all changes over room that it is lent.
+#[derive(Drop)]
+pub(crate) struct LentDesk<'v, 's, 'm, J: Naming, K: Sink, R: Wait> {
+    pub(crate) service: &'v Service<'s, J, K, R>,
+    pub(crate) session: &'m mut Session<J>,
+    pub(crate) scratch: &'m mut Scratch,
+}
+
+impl<'v, 's, 'm, J: Naming, K: Sink, R: Wait> Desk for LentDesk<'v, 's, 'm, J, K, R> {
+    ghost use Rattle.std.specs.Prelude.{◌≡◌};
+    ghost use Rattle.tfs_serve.specs.Session.{SessionStep};
+
+    // The desk keeps its loan, and the session answers.
+    ghost step = { λ old call reply new. (new.session.ghost_name ≡ old.session.ghost_name)
+        × SessionStep J.opening old.session.now call reply new.session.now };
+
+    fn answer(&mut self, call: Call) -> Reply {
+        reply_to(self.service, self.session, self.scratch, call)
+    }
+}
+
+/// The reply to a call. A state is read over the room of a scratch.
+fn reply_to<J: Naming, K: Sink, R: Wait>(
+    service: &Service<'_, J, K, R>,
+    session: &mut Session<J>,
+    scratch: &mut Scratch,
+    call: Call,
+) -> Reply
+    requires { CarriesFittingState call }
+    ensures { SessionStep J.opening session.old call (reply_value result) session.new }
+{
+    match call {
+        Call::Read(name) => read(service, session, &name),
+        Call::Change(name, raw) => change(service, session, name, raw, scratch),
+        Call::Impact(name, query) => ask(service.shared, session, &name, &query),
     }
 }
 
@@ -85,12 +124,13 @@ fn ask<J: Naming, K: Sink>(
     }
 }
 
-/// Changes the workspace of a name.
+/// Changes the workspace of a name. A state is read over the room of a scratch.
 fn change<J: Naming, K: Sink, R: Wait>(
     service: &Service<'_, J, K, R>,
     session: &mut Session<J>,
     name: Name,
     raw: Raw,
+    scratch: &mut Scratch,
 ) -> Reply
     requires { HasFittingState raw }
     ensures { SessionStep J.opening session.old (Change name raw) (reply_value result) session.new }
@@ -98,7 +138,7 @@ fn change<J: Naming, K: Sink, R: Wait>(
     a_change_is_answered_as_its_act_is();
     // What the session has seen is lawful: a change that can't be read is answered over it.
     session.is_kept();
-    let draft = match read_in_turn(service, raw) {
+    let draft = match read_in_turn(service, raw, scratch) {
         Ok(draft) => draft,
         Err(refusal) => return Reply::Refused(refusal),
     };
@@ -112,6 +152,7 @@ fn change<J: Naming, K: Sink, R: Wait>(
 fn read_in_turn<J: Naming, K: Sink, R: Wait>(
     service: &Service<'_, J, K, R>,
     raw: Raw,
+    scratch: &mut Scratch,
 ) -> Result<Draft, Refusal>
     requires { HasFittingState raw }
     ensures ok { IfOk result (λ draft. act_of raw ≡ Some draft) }
@@ -119,15 +160,15 @@ fn read_in_turn<J: Naming, K: Sink, R: Wait>(
         ⊎ ((refusal_value refusal ≡ draft_refusal raw) × (act_of raw ≡ None))) }
 {
     if !is_long(&raw) {
-        return Draft::read(service.alloc, raw);
+        return Draft::read_over(service.alloc, raw, scratch);
     }
     let guard = service.turn.lock(service.rt);
-    let draft = Draft::read(service.alloc, raw);
+    let draft = Draft::read_over(service.alloc, raw, scratch);
     MutexGuard::unlock(guard);
     draft
 }
 
-/// Whether a change has a state of more than 1 MiB.
+/// Whether a change has a state of more than 4 MiB.
 fn is_long(raw: &Raw) -> bool {
     match raw {
         Raw::Push(_, body) => body.as_slice().len() > MAX_BYTES_AT_ONCE,

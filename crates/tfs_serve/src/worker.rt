@@ -1,13 +1,11 @@
 //! Workers: sessions that work at the same time.
 
 ghost use Rattle.std.specs.Prelude.{ℕ, ◌≡◌, ◌<◌, true, false, length, slice_index_or};
-ghost use Rattle.tfs_serve.specs.Accepting.{IsAdmitted};
-ghost use Rattle.tfs_serve.specs.Gate.{IsClosed};
+ghost use Rattle.tfs_serve.specs.Gate.{IsAdmitted, IsClosed};
 ghost use Rattle.tfs_serve.specs.Session.{IsLater};
 ghost use Rattle.tfs_serve.specs.Working.{HasWorked, end_of_work};
 
 use crate::gate::Gate;
-use crate::runtime::Runtime;
 use crate::serving::work;
 use crate::session_desk::Service;
 use std::alloc::Global;
@@ -17,6 +15,7 @@ use std::sync::{Mutex, Wait};
 use std::thread;
 use std::thread::Threads;
 use std::time::Clock;
+use tfs_connections::Load;
 use tfs_records::Sink;
 use tfs_shared::{Naming, Session, Shared};
 
@@ -47,7 +46,7 @@ impl<J: Naming, G: Gate> Worker<J, G> {
 
 /// Has each worker work, at the same time where the system makes the threads. Afterwards each session has seen all that it had seen
 /// before, and `failed` tells whose listener gave no connection; the gate of any other has said no. What became of a session came of
-/// the calls that it answered, and its gate has heard of all of these. At most two pushes of more than 1 MiB are read at a time.
+/// the calls that it answered, and its gate has heard of all of these. At most two pushes of more than 4 MiB are read at a time.
 pub fn work_all<
     L: OpenListener<Stream = TcpStream> + Sync,
     J: Naming + Send + Sync,
@@ -65,36 +64,10 @@ pub fn work_all<
         → HasWorked J.opening (G.told (slice_index_or workers.old i d).gate) (G.told (slice_index_or workers.new i d).gate)
         (slice_index_or workers.old i d).session (slice_index_or workers.new i d).session (end_of_work (slice_index_or workers.new i d).failed) }
 {
-    let ended = AtomicBool::new(false);
-    let runtime = Runtime {
-        rt,
-        alloc,
-        ended: &ended,
-    };
-    work_until(&runtime, listener, workers, shared);
-}
-
-/// The same until conversations are asked to end and the gates have said no.
-pub(crate) fn work_until<
-    L: OpenListener<Stream = TcpStream> + Sync,
-    J: Naming + Send + Sync,
-    K: Sink + Send,
-    G: Gate + Send,
-    R: Threads + Wait + Clock + Sync,
->(runtime: &Runtime<'_, R>, listener: &L, workers: &mut [Worker<J, G>], shared: &Shared<J, K>)
-    ensures later { (i : ℕ) (d : _) → i < length workers.old
-        → IsLater (slice_index_or workers.old i d).session (slice_index_or workers.new i d).session }
-    ensures admitted { (i : ℕ) (d : _) → i < length workers.old
-        → (slice_index_or workers.new i d).failed ≡ true → IsAdmitted (G.told (slice_index_or workers.new i d).gate) }
-    ensures closed { (i : ℕ) (d : _) → i < length workers.old
-        → (slice_index_or workers.new i d).failed ≡ false → IsClosed (G.told (slice_index_or workers.new i d).gate) }
-    ensures worked { (i : ℕ) (d : _) → i < length workers.old
-        → HasWorked J.opening (G.told (slice_index_or workers.old i d).gate) (G.told (slice_index_or workers.new i d).gate)
-        (slice_index_or workers.old i d).session (slice_index_or workers.new i d).session (end_of_work (slice_index_or workers.new i d).failed) }
-{
-    let (rt, alloc, ended) = (runtime.rt, runtime.alloc, runtime.ended);
+    let never = AtomicBool::new(false);
     let even = Mutex::new(());
     let odd = Mutex::new(());
+    let load = Load::new(workers.len());
     thread::for_each_mut(
         rt,
         workers,
@@ -112,7 +85,9 @@ pub(crate) fn work_until<
                 alloc,
                 shared,
                 turn,
-                ended,
+                ended: &never,
+                muted: &never,
+                load: &load,
             };
             worker.run(&service, listener)
         },

@@ -100,7 +100,13 @@ fn is_served<'x, R: Threads + Wait + Clock + Abort + Alloc<A = Global> + Sync>(
         Ending { rt, ended, begun },
     ]?;
     let alloc = rt.alloc();
-    let runtime = Runtime { rt, alloc, ended };
+    let muted = &AtomicBool::new(false);
+    let runtime = Runtime {
+        rt,
+        alloc,
+        ended,
+        muted,
+    };
     let run = serve_until(
         &runtime,
         table,

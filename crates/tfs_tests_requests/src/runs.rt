@@ -16,7 +16,7 @@ use std::thread::Threads;
 use std::time::Clock;
 use tfs_calls::{Call, Reply};
 use tfs_records::{Discard, MemorySink, Sink};
-use tfs_serve::{Gate, Obstacle, Run, Served, Unserved, serve};
+use tfs_serve::{AcceptError, Gate, Obstacle, Run, Served, Unserved, first_fault, serve};
 use tfs_table::Table;
 
 /// The system's number for a process that has no descriptor left (errno(3): EMFILE).
@@ -37,6 +37,21 @@ impl OpenListener for Lacking {
             return Err(io::Error::from_raw_os_error(NO_DESCRIPTOR));
         }
         self.listener.accept()
+    }
+}
+
+/// The system's number for a call on what isn't fit for it (errno(3): EINVAL).
+const UNFIT: i32 = 22;
+
+/// A listener that gives no connection.
+#[derive(Drop)]
+struct Shut;
+
+impl OpenListener for Shut {
+    type Stream = TcpStream;
+
+    fn accept(&self) -> io::Result<(TcpStream, SocketAddr)> {
+        Err(io::Error::from_raw_os_error(UNFIT))
     }
 }
 
@@ -108,7 +123,8 @@ fn run_of<
 fn is_of_one<G: Gate>(rt: &impl Abort, served: &[Served<G>]) {
     assert!(rt; served.len() == 1);
     for served in served {
-        assert!(rt; !served.failed && served.accepted == 1 && served.seen == 1);
+        assert!(rt; !served.failed && served.fault.is_none());
+        assert!(rt; served.accepted == 1 && served.seen == 1);
     }
 }
 
@@ -141,6 +157,27 @@ fn is_served<R: Threads + Wait + Clock + Abort + Alloc<A = Global> + Sync>(
     assert!(rt; run.table.len() == 1);
     is_of_one(rt, run.served.as_slice());
     Ok(())
+}
+
+#[test]
+fn a_run_tells_what_ended_its_workers(rt: HostRuntime) -> Result<(), Fail> {
+    let run = run_of(&rt, table_of(&rt, Discard), Shut)?;
+    is_ended_by_its_listener(&rt, run.served.as_slice());
+    Ok(())
+}
+
+/// The first worker has failed, by this error of its listener.
+fn is_ended_by_its_listener(rt: &(impl Alloc<A = Global> + Abort), served: &[Served<Once>]) {
+    let fault = first_fault(served).expect(rt, "a fault");
+    let error = AcceptError {
+        kind: io::ErrorKind::InvalidInput,
+        number: Some(UNFIT),
+    };
+    assert!(rt; fault.error() == error && served.len() == 1);
+    let told = format!(in rt.alloc(); "{fault}").ok().expect(rt, "a text");
+    assert!(rt;
+        told.as_str() == "no connection could be taken: invalid input parameter (os error 22)"
+    );
 }
 
 /// Two pushes, a lock and a read.

@@ -6,8 +6,8 @@ use std::fs::{self, File};
 use std::io;
 use std::test::Fail;
 use tfs_journal::{
-    Decoded, Discard, End, Entries, Entry, FileSink, MemorySink, Out, Sink, SinkFault, decode,
-    encode,
+    Base, BaseRow, Decoded, Discard, End, Entries, Entry, FileSink, MemorySink, Out, Rows, Sink,
+    SinkFault, decode, encode, encode_base,
 };
 use tfs_rules::Act;
 
@@ -30,6 +30,26 @@ fn records_of_entries(rt: HostRuntime) -> Result<(), Fail> {
     let entries: Entries = entries;
     let end: End = end;
     assert!(rt; end == End::Whole && entries.as_slice().len() == 1);
+    Ok(())
+}
+
+#[test]
+fn bases_of_journals(rt: HostRuntime) -> Result<(), Fail> {
+    let row: BaseRow = BaseRow {
+        name: name_a(&rt),
+        holder: None,
+        state: None,
+    };
+    let mut list: Vec<BaseRow> = Vec::new(rt.alloc());
+    list.push(row)?;
+    let rows: Rows = Rows::new(list);
+    assert!(rt; rows.as_slice().len() == 1);
+    let base: Base = Base::new(7, rows).expect(&rt, "a base");
+    let text: Result<Vec<u8>, AllocError> = encode_base(rt.alloc(), &base);
+    // Position, number of rows, one row of a name of one byte with two lengths, and the digest.
+    assert!(rt; text?.len() == 8 + 2 + (1 + 1 + 4 + 4) + 16);
+    let empty: Base = Base::empty(rt.alloc());
+    assert!(rt; empty.position() == 0 && empty.rows().is_empty());
     Ok(())
 }
 

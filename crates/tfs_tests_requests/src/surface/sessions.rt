@@ -15,8 +15,8 @@ use std::thread::Threads;
 use std::time::Clock;
 use tfs_journal::Discard;
 use tfs_serve::{
-    AcceptFault, Desk, Ended, Gate, Gated, Reads, RunFault, ServeFault, Service, SessionDesk,
-    TableDesk, Watched, Worker, converse, run_check, work, work_all,
+    AcceptFault, Desk, Ended, Gate, Gated, Load, Reads, RunFault, ServeFault, Service, SessionDesk,
+    TableDesk, Watched, Worker, converse, run_check, run_rebase, work, work_all,
 };
 use tfs_shared::{Lack, Naming, Opened, Session, Shared, Strangers, Unshared, gather, share};
 use tfs_state::Doc;
@@ -71,6 +71,18 @@ fn checks_of_journals(rt: HostRuntime) -> Result<(), Fail> {
     let status: Result<u8, RunFault> = run_check(rt.alloc(), b"TFJ1\n", &mut writer);
     assert!(rt; status.ok() == Some(0) && writer.inner.as_slice() == b"whole\n".as_slice());
     Ok(())
+}
+
+#[test]
+fn rebases_of_journals(rt: HostRuntime) {
+    let mut writer = Watched::new(Vec::new(rt.alloc()));
+    let rebased: Result<Table<Discard>, RunFault> = run_rebase(
+        rt.alloc(),
+        b"TFJ1\n",
+        Discard,
+        &mut writer,
+    );
+    assert!(rt; rebased.is_ok() && writer.inner.as_slice() == b"rebased 0 0\n".as_slice());
 }
 
 #[test]
@@ -181,13 +193,16 @@ fn desks<J: Naming, R: Wait + Abort + Alloc<A = Global>>(
     session: &mut Session<J>,
 ) {
     let turn = Mutex::new(());
-    let ended = AtomicBool::new(false);
+    let never = AtomicBool::new(false);
+    let load = Load::new(1);
     let service = Service {
         rt,
         alloc: rt.alloc(),
         shared,
         turn: &turn,
-        ended: &ended,
+        ended: &never,
+        muted: &never,
+        load: &load,
     };
     asks(rt, &service, session);
 }
@@ -214,13 +229,16 @@ fn works<
     R: Wait + Clock + Abort + Alloc<A = Global> + Net<Stream = TcpStream, Listener = TcpListener>,
 >(rt: &R, shared: &Shared<J, Discard>, listener: &TcpListener, session: &mut Session<J>) {
     let turn = Mutex::new(());
-    let ended = AtomicBool::new(false);
+    let never = AtomicBool::new(false);
+    let load = Load::new(1);
     let service = Service {
         rt,
         alloc: rt.alloc(),
         shared,
         turn: &turn,
-        ended: &ended,
+        ended: &never,
+        muted: &never,
+        load: &load,
     };
     let worked: Result<(), AcceptFault> = work(&service, listener, &mut Closed, session);
     assert!(rt; worked == Ok(()));

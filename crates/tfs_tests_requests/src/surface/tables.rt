@@ -6,12 +6,13 @@ use std::process::Abort;
 use std::sync::Arc;
 use std::test::Fail;
 use tfs_http::{Form, Request, Routes, Take, call_of, take, write_reply};
-use tfs_journal::{Discard, End, Entry};
+use tfs_index::Version;
+use tfs_journal::{Base, Discard, End, Entry};
 use tfs_lock::LockInfo;
 use tfs_state::Doc;
 use tfs_table::{
-    Bytes, Call, Chosen, Draft, Impact, Kind, OpenFault, Query, Raw, Refusal, Reply, Table, Text,
-    Texts, first_unlawful,
+    Bytes, Call, Chosen, Draft, Impact, Kind, OpenFault, Prepared, Query, Raw, Ready, Refusal,
+    Reply, Table, Text, Texts, first_unlawful,
 };
 
 /// A new table.
@@ -46,6 +47,36 @@ fn changes_and_reads(rt: HostRuntime) -> Result<(), Fail> {
     let impact: Result<Impact, Refusal> = table.impact(&name_a(&rt), &query_of(&rt)?);
     is_no_state(&rt, impact.err());
     Ok(())
+}
+
+#[test]
+fn changes_in_two_halves(rt: HostRuntime) -> Result<(), Fail> {
+    let mut table = table_of(&rt);
+    let prepared: Prepared = Prepared::new(rt.alloc(), name_a(&rt), lock_of(&rt)?)?;
+    assert!(rt; finished(&mut table, prepared) == Some(1));
+    Ok(())
+}
+
+/// The position of a change of `a` that leaves no state, made in its two halves.
+fn finished(table: &mut Table<Discard>, prepared: Prepared) -> Option<u64> {
+    let made: Result<Ready, Refusal> = table.ready(prepared);
+    let Ok(ready) = made else {
+        return None;
+    };
+    let version: Option<&Arc<Version>> = ready.version();
+    if version.is_some() || ready.name().text() != "a" {
+        return None;
+    }
+    let finished: Result<u64, Refusal> = table.finish(ready);
+    finished.ok()
+}
+
+#[test]
+fn tables_are_rebased(rt: HostRuntime) {
+    let rebased: Result<Table<Discard>, OpenFault> = table_of(&rt).rebase(Discard);
+    let table = rebased.ok().expect(&rt, "a table");
+    let base: &Base = table.base();
+    assert!(rt; base.position() == 0 && table.len() == 0);
 }
 
 /// The refusal for a name that has no state.

@@ -1,5 +1,5 @@
 -- Each worker has served, from the opening journal to the one that is gathered.
-use Rattle.std.proofs.Common.{◌≡◌, ◌+◌, List, length, sum_by, All, refl, ◌∙◌, ap, subst}
+use Rattle.std.proofs.Common.{◌+◌, List, length, sum_by, All, refl, ◌∙◌, ap, subst}
 use Rattle.tfs_published.specs.Beginning.{BeginsWith}
 use Rattle.tfs_shared.specs.Signed.{AreSigned}
 use Rattle.tfs_shared.specs.View.{SessionView}
@@ -17,9 +17,10 @@ returns-in-Ok g c =
     let grows = c.in-Ok.ensures.counted
     ∙ ap (λ (l : List SessionView). length opening.entries + sum_by (λ (s : SessionView). s.accepted) l) sessions in
     record {
-      run = run_of (λ w. w.gate) told (λ w. w.session) (λ w. w.failed) _ _ opening last c.args.crew.gates.items c.filled-workers.result.items
-          c.worked-workers.result.items c.parted-sessions.result.1.items (λ w. refl) c.filled-workers.ensures.gates
+      run = run_of (λ m. m.gate) told (λ m. m.session) (λ m. m.fault) _ _ opening last c.args.crew.gates.items c.filled-members.result.items
+          c.worked-members.result.items c.parted-sessions.result.1.items (λ m. refl) c.filled-members.ensures.gates
           c.parted-sessions.ensures.served c.requires.some c.in-Ok.ensures.lawful c.in-Ok.ensures.opening
-          c.filled-workers.ensures.sessions c.worked-workers.ensures.worked c.worked-workers.ensures.len begun signed grows;
+          c.filled-members.ensures.sessions c.worked-members.ensures.caused c.worked-members.ensures.worked c.worked-members.ensures.len begun signed
+          grows;
       kept = tt;
     }

@@ -1,14 +1,14 @@
--- A worker for each gate so far, and as many sessions as gates are left.
-use Rattle.std.proofs.Common.{◌≡◌, ◌+◌, ◌≤◌, length, map, vec_len, vec_capacity}
+-- A member for each gate so far, and as many sessions as gates are left.
+use Rattle.std.proofs.Common.{◌≡◌, ◌+◌, ◌≤◌, length, map, vec_capacity}
 use Rattle.tfs_shared.specs.View.{AreNew}
 use Rattle.tfs_serve.proofs.Returning.{HaveNumbers}
 use Rattle.tfs_serve.proofs.crew.filled.Given as goal
 
 abbrev pub invariant-loop-gate : goal.invariant-loop-gate
 invariant-loop-gate g l = record {
-  gates : map (λ worker. worker.gate) l.workers.items ≡ l.yielded;
-  sessions : HaveNumbers (λ worker. worker.session) g.J.Naming.opening (length l.fn.gates.items) l.workers.items;
-  room : length l.fn.gates.items ≤ vec_capacity l.workers;
+  gates : map (λ member. member.gate) l.members.items ≡ l.yielded;
+  sessions : HaveNumbers (λ member. member.session) g.J.Naming.opening (length l.fn.gates.items) l.members.items;
+  room : length l.fn.gates.items ≤ vec_capacity l.members;
   left : length l.sessions.items + length l.yielded ≡ length l.fn.gates.items;
   new : AreNew g.J.Naming.opening (length l.sessions.items) l.sessions.items;
 }

@@ -1,16 +1,18 @@
 //! Taking a connection from a listener, and what its errors ask for.
 
 ghost use Rattle.std.specs.Prelude.{◌≡◌, Some, IfErr};
-ghost use Rattle.tfs_serve.specs.Accepting.{IsFinal, error_of, remedy_for, remedy_by_number};
+ghost use Rattle.tfs_connections.specs.Accepting.{IsFinal, error_of, remedy_for, remedy_by_number};
 
 use crate::limits::LOOK_MILLISECONDS;
+use crate::load::Load;
+use std::fmt::Formatter;
 use std::io::ErrorKind;
 use std::net::{OpenListener, TcpListener, TcpStream};
 use std::os::fd::OwnedFd;
 use std::sync::Wait;
 use std::sync::atomic::{AtomicBool, Ordering};
 use std::time::{Clock, Duration};
-use std::{io, thread};
+use std::{fmt, io, thread};
 use thiserror::Error;
 
 /// A worker waits so long before it asks again for a connection where the system lacks descriptors or memory.
@@ -23,9 +25,18 @@ pub struct AcceptError {
     pub number: Option<i32>,
 }
 
+impl fmt::Display for AcceptError {
+    fn fmt<W: fmt::Write>(&self, f: &mut Formatter<W>) -> fmt::Result {
+        match self.number {
+            Some(number) => write!(f, "{} (os error {number})", self.kind),
+            None => write!(f, "{}", self.kind),
+        }
+    }
+}
+
 /// The listener gives no connection any more: it has told an error after which it is of no use.
 #[derive(Clone, Copy, Debug, PartialEq, Eq, Error)]
-#[error("no connection could be taken")]
+#[error("no connection could be taken: {error}")]
 pub struct AcceptFault {
     error: AcceptError,
 }
@@ -90,9 +101,9 @@ fn remedy_by_number(number: Option<i32>) -> Remedy
 }
 
 /// Gives connections.
-pub(crate) trait Listener {
+pub trait Listener {
     ghost use Rattle.std.specs.Prelude.{Option};
-    ghost use Rattle.tfs_serve.specs.declared.accepting.AcceptError.{AcceptError};
+    ghost use Rattle.tfs_connections.specs.declared.accepting.AcceptError.{AcceptError};
 
     type Stream: Drop;
 
@@ -106,14 +117,14 @@ pub(crate) trait Listener {
 
 /// A listener of the system, which is lent, and the last error that it has told.
 #[derive(Drop)]
-pub(crate) struct Listening<'l, L: OpenListener> {
+pub struct Listening<'l, L: OpenListener> {
     listener: &'l L,
     error: Option<AcceptError>,
 }
 
 impl<'l, L: OpenListener> Listening<'l, L> {
     /// No error has been told.
-    pub(crate) fn new(listener: &'l L) -> Listening<'l, L> {
+    pub fn new(listener: &'l L) -> Listening<'l, L> {
         Listening {
             listener,
             error: None,
@@ -150,9 +161,25 @@ pub fn limit_waits(listener: TcpListener) -> io::Result<TcpListener> {
     Ok(TcpListener::from(OwnedFd::from(socket)))
 }
 
-/// The next connection. It waits until there is one, the listener has told an error after which it is of no use, or conversations are to
-/// end: then there is none.
-pub(crate) fn accepted<L: Listener, R: Wait + Clock>(
+/// The next connection, for which a worker is free until it has come. It waits until there is one, the listener has told an error after
+/// which it is of no use, or conversations are to end: then there is none.
+pub fn taken<L: Listener, R: Wait + Clock>(
+    rt: &R,
+    listener: &mut L,
+    ended: &AtomicBool,
+    load: &Load,
+) -> Result<Option<L::Stream>, AcceptFault>
+    ensures told { IfErr result (λ fault. L.told listener.new ≡ Some (error_of fault)) }
+    ensures ends { IfErr result (λ fault. IsFinal (error_of fault)) }
+{
+    load.begin_wait();
+    let next = accepted(rt, listener, ended);
+    load.end_wait();
+    next
+}
+
+/// The next connection, if there is one before conversations are to end.
+fn accepted<L: Listener, R: Wait + Clock>(
     rt: &R,
     listener: &mut L,
     ended: &AtomicBool,

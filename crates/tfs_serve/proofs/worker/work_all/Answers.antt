@@ -8,20 +8,20 @@ use Rattle.std.proofs.sync.atomic.AtomicBool.TheSendSync as atomic
 use Rattle.std.proofs.sync.Mutex.TheSendSync as mutex
 use Rattle.std.proofs.alloc.Global.TheSendSync as global
 use Rattle.tfs_shared.proofs.Crossing.{shared_sync}
-use Rattle.tfs_serve.specs.Accepting.{IsAdmitted}
-use Rattle.tfs_serve.specs.Gate.{IsClosed}
+use Rattle.tfs_serve.specs.Gate.{IsAdmitted, IsClosed}
 use Rattle.tfs_serve.specs.Session.{IsLater}
 use Rattle.tfs_serve.specs.Working.{HasWorked, end_of_work}
-use Rattle.tfs_serve.proofs.Captures.{seven_sync}
-use Rattle.tfs_serve.proofs.worker.work_until.Goals as goal
+use Rattle.tfs_serve.proofs.Captures.{eight_sync}
+use Rattle.tfs_connections.proofs.load.Load.TheSendSync as load
+use Rattle.tfs_serve.proofs.worker.work_all.Goals as goal
 
 pub for_each_mut-requires-sync-F : goal.for_each_mut-requires-sync-F
 for_each_mut-requires-sync-F g c κs within =
     let table = shared_sync (param 1 g.row.J) (param 2 g.row.K) g.J.Naming g.J.Ledger g.K.Sink c.type_bounds.send-K in
     let turn = mutex.the_sync unit (search sendable) in
-    param_sync 2 _ (arg_sync _ no _ (seven_sync _ _ _ _ _ _ _ _
+    param_sync 2 _ (arg_sync _ no _ (eight_sync _ _ _ _ _ _ _ _ _
     (shr_sync _ _ _ turn) (shr_sync _ _ _ turn) (shr_sync _ _ _ c.type_bounds.sync-R) (shr_sync _ _ _ global.the_sync) (shr_sync _ _ _ table)
-    (shr_sync _ _ _ atomic.the_sync) (shr_sync _ _ _ c.type_bounds.sync-L)))
+    (shr_sync _ _ _ atomic.the_sync) (shr_sync _ _ _ load.the_sync) (shr_sync _ _ _ c.type_bounds.sync-L)))
 
 pub returns : goal.returns
 returns g c = record {

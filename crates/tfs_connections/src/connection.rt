@@ -13,7 +13,7 @@ use std::time::{Clock, Duration};
 use tfs_conversation::{LentFault, Outlet, Source};
 
 /// Has reads and writes of a connection look up now and then, and what is written go out at once.
-pub(crate) fn limit(stream: &TcpStream) -> io::Result<()> {
+pub fn limit(stream: &TcpStream) -> io::Result<()> {
     let look = Duration::from_millis(LOOK_MILLISECONDS);
     stream.set_read_timeout(Some(look))?;
     stream.set_write_timeout(Some(look))?;
@@ -23,7 +23,7 @@ pub(crate) fn limit(stream: &TcpStream) -> io::Result<()> {
 /// The reading end of a connection, which tells what its stream tells. It fails where that fails, where the client takes too long, and
 /// where the conversation is to end.
 #[derive(Drop)]
-pub(crate) struct Incoming<'t, 'r, 'e, R: Clock, S: Read> {
+pub struct Incoming<'t, 'r, 'e, R: Clock, S: Read> {
     timing: &'t Timing<'r, 'e, R>,
     stream: S,
     has_failed: bool,
@@ -31,7 +31,7 @@ pub(crate) struct Incoming<'t, 'r, 'e, R: Clock, S: Read> {
 
 impl<'t, 'r, 'e, R: Clock, S: Read> Incoming<'t, 'r, 'e, R, S> {
     /// It hasn't failed.
-    pub(crate) fn new(timing: &'t Timing<'r, 'e, R>, stream: S) -> Incoming<'t, 'r, 'e, R, S> {
+    pub fn new(timing: &'t Timing<'r, 'e, R>, stream: S) -> Incoming<'t, 'r, 'e, R, S> {
         Incoming {
             timing,
             stream,
@@ -70,7 +70,7 @@ fn read_in_time<R: Clock, S: Read>(
     for _look in 0..MAX_LOOKS {
         match stream.read(buf) {
             Ok(count) => {
-                timing.has_read();
+                timing.has_read(count);
                 return Ok(count);
             }
             Err(error) => {
@@ -86,7 +86,7 @@ fn read_in_time<R: Clock, S: Read>(
 /// The writing end of a connection, which tells what its stream tells. It fails where that fails or takes nothing, where the client
 /// takes too long, and where the conversation is to end.
 #[derive(Drop)]
-pub(crate) struct Outgoing<'t, 'r, 'e, R: Clock, S: Write> {
+pub struct Outgoing<'t, 'r, 'e, R: Clock, S: Write> {
     timing: &'t Timing<'r, 'e, R>,
     stream: S,
     has_failed: bool,
@@ -94,7 +94,7 @@ pub(crate) struct Outgoing<'t, 'r, 'e, R: Clock, S: Write> {
 
 impl<'t, 'r, 'e, R: Clock, S: Write> Outgoing<'t, 'r, 'e, R, S> {
     /// It hasn't failed.
-    pub(crate) fn new(timing: &'t Timing<'r, 'e, R>, stream: S) -> Outgoing<'t, 'r, 'e, R, S> {
+    pub fn new(timing: &'t Timing<'r, 'e, R>, stream: S) -> Outgoing<'t, 'r, 'e, R, S> {
         Outgoing {
             timing,
             stream,

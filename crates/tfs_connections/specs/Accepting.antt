@@ -1,14 +1,13 @@
--- What an error of accepting a connection asks for (accept(2) and errno(3) of Linux), and where a worker ends by one.
-use Rattle.std.specs.Prelude.{◌≡◌, ℤ, pos, true, Option, Some, None, List, [], ◌∷◌, ◌++◌, if◌then◌else◌}
+-- What an error of accepting a connection asks for (accept(2) and errno(3) of Linux).
+use Rattle.std.specs.Prelude.{◌≡◌, ℤ, pos, Option, Some, None, List, [], ◌∷◌, if◌then◌else◌}
 use Rattle.std.specs.List.{list_any}
 use Rattle.std.specs.Ordering.{int_eq}
 use Rattle.std.specs.declared.io.ErrorKind.{ErrorKind}
 use Rattle.std.specs.declared.io.ErrorKind.TheVariants as kind
-use Rattle.tfs_serve.specs.Gate.{Event, asked}
-use Rattle.tfs_serve.specs.declared.accepting.AcceptError.{AcceptError}
-use Rattle.tfs_serve.specs.declared.accepting.AcceptFault.{AcceptFault}
-use Rattle.tfs_serve.specs.declared.accepting.Remedy.{Remedy}
-use Rattle.tfs_serve.specs.declared.accepting.Remedy.TheVariants.{Again, Pause, End}
+use Rattle.tfs_connections.specs.declared.accepting.AcceptError.{AcceptError}
+use Rattle.tfs_connections.specs.declared.accepting.AcceptFault.{AcceptFault}
+use Rattle.tfs_connections.specs.declared.accepting.Remedy.{Remedy}
+use Rattle.tfs_connections.specs.declared.accepting.Remedy.TheVariants.{Again, Pause, End}
 
 -- Numbers of errors that the network told of one connection: ENONET, EPROTO, ENOPROTOOPT, EOPNOTSUPP, EHOSTDOWN.
 abbrev pub numbers_of_a_connection : List ℤ
@@ -43,8 +42,3 @@ error_of fault = fault.error
 -- The listener is of no use after such an error.
 abbrev pub IsFinal : AcceptError → Type 0
 IsFinal error = remedy_for error.kind error.number ≡ End
-
--- The last thing that a gate was told is that it was asked for a connection, and said yes.
-abbrev pub IsAdmitted : Option (List Event) → Type 0
-IsAdmitted None = Unit {0}
-IsAdmitted (Some events) = (earlier : List Event) × (events ≡ earlier ++ asked true ∷ [])

@@ -1,0 +1,21 @@
+//! Connections: how one is taken from a listener, and how long it may take.
+#![tactic(auto)]
+
+mod accepting;
+mod connection;
+mod limits;
+mod load;
+mod timing;
+
+pub use accepting::{
+    AcceptError, AcceptFault, Listener, Listening, PAUSE_MILLISECONDS, Remedy, limit_waits,
+    remedy_of, taken,
+};
+pub use connection::{Incoming, Outgoing, limit};
+pub use limits::{
+    LOOK_MILLISECONDS, MAX_CROWDED_IDLE_MILLISECONDS, MAX_ENDING_SECONDS, MAX_IDLE_SECONDS,
+    MAX_REPLY_SECONDS, MAX_REQUEST_SECONDS, MAX_WAIT_SECONDS, REPLY_BYTES_A_SECOND,
+    SLOW_BYTES_A_SECOND, SLOW_SECONDS, WORKERS_FOR_A_SLOW_CLIENT,
+};
+pub use load::Load;
+pub use timing::Timing;

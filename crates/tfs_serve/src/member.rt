@@ -1,0 +1,88 @@
+//! The members of a run's crew.
+
+ghost use Rattle.std.specs.Prelude.{ℕ, ◌<◌, is_some, length, slice_index_or};
+ghost use Rattle.tfs_serve.specs.Faults.{IsCaused};
+ghost use Rattle.tfs_serve.specs.Working.{HasWorked, end_of_work};
+
+use crate::gate::Gate;
+use crate::runtime::Runtime;
+use crate::serving::work;
+use crate::session_desk::Service;
+use std::net::{OpenListener, TcpStream};
+use std::sync::{Mutex, Wait};
+use std::thread;
+use std::thread::Threads;
+use std::time::Clock;
+use tfs_connections::{AcceptFault, Load};
+use tfs_records::Sink;
+use tfs_shared::{Naming, Session, Shared};
+
+/// A session that works in a run, its gate, and the fault by which its listener gave it no connection.
+#[derive(Drop)]
+pub(crate) struct Member<J: Naming, G: Gate> {
+    pub(crate) gate: G,
+    pub(crate) session: Session<J>,
+    pub(crate) fault: Option<AcceptFault>,
+}
+
+impl<J: Naming, G: Gate> Member<J, G> {
+    /// Works until the gate admits no more, or the listener fails.
+    fn run<L: OpenListener<Stream = TcpStream>, K: Sink, R: Wait + Clock>(
+        &mut self,
+        service: &Service<'_, J, K, R>,
+        listener: &L,
+    )
+        ensures caused { IsCaused self.new.fault }
+        ensures worked { HasWorked J.opening (G.told self.old.gate) (G.told self.new.gate) self.old.session self.new.session
+            (end_of_work (is_some self.new.fault)) }
+    {
+        match work(service, listener, &mut self.gate, &mut self.session) {
+            Ok(()) => self.fault = None,
+            Err(fault) => self.fault = Some(fault),
+        }
+    }
+}
+
+/// Has each member work, at the same time where the system makes the threads, until its gate has said no or its listener gives it no
+/// connection.
+pub(crate) fn work_until<
+    L: OpenListener<Stream = TcpStream> + Sync,
+    J: Naming + Send + Sync,
+    K: Sink + Send,
+    G: Gate + Send,
+    R: Threads + Wait + Clock + Sync,
+>(runtime: &Runtime<'_, R>, listener: &L, members: &mut [Member<J, G>], shared: &Shared<J, K>)
+    ensures caused { (i : ℕ) (d : _) → i < length members.old → IsCaused (slice_index_or members.new i d).fault }
+    ensures worked { (i : ℕ) (d : _) → i < length members.old
+        → HasWorked J.opening (G.told (slice_index_or members.old i d).gate) (G.told (slice_index_or members.new i d).gate)
+        (slice_index_or members.old i d).session (slice_index_or members.new i d).session
+        (end_of_work (is_some (slice_index_or members.new i d).fault)) }
+{
+    let (rt, alloc) = (runtime.rt, runtime.alloc);
+    let (ended, muted) = (runtime.ended, runtime.muted);
+    let even = Mutex::new(());
+    let odd = Mutex::new(());
+    let load = Load::new(members.len());
+    thread::for_each_mut(
+        rt,
+        members,
+        16,
+        &|number: usize, member: &mut Member<J, G>|
+            ensures caused { IsCaused member.exit.now.fault }
+            ensures worked { HasWorked J.opening (G.told member.entry.now.gate) (G.told member.exit.now.gate) member.entry.now.session
+                member.exit.now.session (end_of_work (is_some member.exit.now.fault)) }
+        {
+            let turn = if number % 2 == 0 { &even } else { &odd };
+            let service = Service {
+                rt,
+                alloc,
+                shared,
+                turn,
+                ended,
+                muted,
+                load: &load,
+            };
+            member.run(&service, listener)
+        },
+    );
+}
