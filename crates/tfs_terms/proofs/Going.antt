@@ -1,37 +1,44 @@
 -- Terms of service, one after another.
-use Rattle.std.proofs.Common.{◌≡◌, ◌+◌, ◌<◌, ℕ, suc, Bool, List, length, get_or, map, sum_by, All, [], ◌∷◌, ◌++◌, Option, refl, sym, ◌∙◌, ap, subst, arith}
+use Rattle.std.proofs.Common.{◌≡◌, ◌+◌, ◌<◌, ℕ, suc, List, length, get_or, map, sum_by, All, [], ◌∷◌, ◌++◌, Option, refl, sym, ◌∙◌, ap, subst, arith}
 use Rattle.std.proofs.lemmas.List.Elements.{All-nil, All-cons}
 use Rattle.std.proofs.lemmas.List.Sums.{sum_by-append}
 use Rattle.tfs_records.specs.Journal.{Journal}
-use Rattle.tfs_table.specs.Lawful.{IsLawful}
-use Rattle.tfs_table.specs.Rebase.{IsRebased}
 use Rattle.tfs_published.specs.Beginning.{BeginsWith}
-use Rattle.tfs_published.proofs.Beginnings.{begins_with_itself}
+use Rattle.tfs_published.proofs.Beginnings.{begins_with_itself, begins_with_earlier}
 use Rattle.tfs_serve.specs.Gate.{Event}
 use Rattle.tfs_serve.specs.Working.{Answer}
 use Rattle.tfs_serve.specs.Serving.{ServedView, IsServed, IsRun, accepted_in, answers_on}
-use Rattle.tfs_terms.specs.Terms.{AnswersWithin, IsTerm, GoesBy, GoesOn, EndsOn}
+use Rattle.tfs_terms.specs.Terms.{AnswersWithin, IsTerm, LeadsTo, GoesBy, GoesOn, EndsOn}
 
 -- One more term.
 goes_by_then : (first opening last next : Journal) (lasts : List Journal) → GoesBy first lasts opening → IsTerm opening last
-    → IsRebased last next → GoesBy first (lasts ++ last ∷ []) next
-goes_by_then first opening last next [] goes term rebased =
-    (next, subst (λ (j : Journal). IsTerm j last) goes term, rebased, refl)
-goes_by_then first opening last next (l ∷ lasts) goes term rebased =
-    (goes.0, goes.1, goes.2, goes_by_then goes.0 opening last next lasts goes.3 term rebased)
+    → LeadsTo last next → GoesBy first (lasts ++ last ∷ []) next
+goes_by_then first opening last next [] goes term leads =
+    (next, subst (λ (j : Journal). IsTerm j last) goes term, leads, refl)
+goes_by_then first opening last next (l ∷ lasts) goes term leads =
+    (goes.0, goes.1, goes.2, goes_by_then goes.0 opening last next lasts goes.3 term leads)
 
 -- No term yet.
 pub goes_nowhere : (j : Journal) → GoesOn j j
 goes_nowhere j = ([], refl)
 
 -- A term after others.
-pub goes_on_then : (first opening last next : Journal) → GoesOn first opening → IsTerm opening last → IsRebased last next → GoesOn first next
-goes_on_then first opening last next goes term rebased =
-    (goes.0 ++ last ∷ [], goes_by_then first opening last next goes.0 goes.1 term rebased)
+pub goes_on_then : (first opening last next : Journal) → GoesOn first opening → IsTerm opening last → LeadsTo last next → GoesOn first next
+goes_on_then first opening last next goes term leads =
+    (goes.0 ++ last ∷ [], goes_by_then first opening last next goes.0 goes.1 term leads)
 
 -- A journal begins with itself.
 pub begins_itself : (j : Journal) → BeginsWith j j
 begins_itself = begins_with_itself
+
+-- What begins the opening journal of a term begins its last one.
+pub term_begins : (placed opening last : Journal) → IsTerm opening last → BeginsWith opening placed → BeginsWith last placed
+term_begins placed opening last term begins = begins_with_earlier last opening placed term.begins begins
+
+-- A journal that is the last one begins with the one in place, if that is the same too.
+pub same_begins : (last end before after : Journal) → end ≡ last → after ≡ before → BeginsWith last before → BeginsWith end after
+same_begins last end before after same placed begins =
+    subst (λ (j : Journal). BeginsWith j after) (sym same) (subst (λ (p : Journal). BeginsWith last p) (sym placed) begins)
 
 -- The opening journal of a term itself is an end.
 pub ends_at : (first opening : Journal) → GoesOn first opening → EndsOn first opening

@@ -1,5 +1,5 @@
 -- Terms of service: runs one after another, between which the journal is rebased.
-use Rattle.std.specs.Prelude.{◌≡◌, ◌+◌, ℕ, All, List, [], ◌∷◌, length, sum_by}
+use Rattle.std.specs.Prelude.{◌≡◌, ◌⊎◌, ◌+◌, All, List, [], ◌∷◌, length, sum_by}
 use Rattle.tfs_records.specs.Journal.{Journal}
 use Rattle.tfs_table.specs.Lawful.{IsLawful}
 use Rattle.tfs_table.specs.Rebase.{IsRebased}
@@ -20,10 +20,14 @@ pub record IsTerm (opening last : Journal) : Type 0 where
   pub replies : All (AnswersWithin opening last) workers
   pub grows : length last.entries ≡ length opening.entries + sum_by accepted_in workers
 
--- From one journal to another by terms, whose last journals are these: each next one opens with the rebased last one.
+-- What the next term opens with: the rebased last journal or, where that wasn't put in place, the last journal itself.
+abbrev pub LeadsTo : Journal → Journal → Type 0
+LeadsTo last next = IsRebased last next ⊎ (next ≡ last)
+
+-- From one journal to another by terms, whose last journals are these.
 abbrev pub GoesBy : Journal → List Journal → Journal → Type 0
 GoesBy first [] now = now ≡ first
-GoesBy first (last ∷ more) now = (next : Journal) × IsTerm first last × IsRebased last next × GoesBy next more now
+GoesBy first (last ∷ more) now = (next : Journal) × IsTerm first last × LeadsTo last next × GoesBy next more now
 
 -- The same by some terms.
 abbrev pub GoesOn : Journal → Journal → Type 0
@@ -32,3 +36,7 @@ GoesOn first now = (lasts : List Journal) × GoesBy first lasts now
 -- After some terms, a journal begins with the opening one of the term that was then.
 abbrev pub EndsOn : Journal → Journal → Type 0
 EndsOn first end = (opening : Journal) × GoesOn first opening × BeginsWith end opening
+
+-- Where a journal began with the one in place, so does a later one with the one in place then.
+abbrev pub StaysPlaced : Journal → Journal → Journal → Journal → Type 0
+StaysPlaced old placed new later = BeginsWith old placed → BeginsWith new later

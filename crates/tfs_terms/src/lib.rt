@@ -1,6 +1,6 @@
-//! Terms of service: runs of workers one after another over one listener. Between two of them the journal is rebased into a new sink.
+//! Terms of service: runs of workers one after another. Between two of them the journal is rebased into a new sink.
 #![tactic(auto)]
 
 mod terms;
 
-pub use terms::{Finish, Terms, serve_terms};
+pub use terms::{Finish, Terms, Unturned, serve_terms};

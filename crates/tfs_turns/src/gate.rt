@@ -1,0 +1,64 @@
+//! The gates of a server's workers: they have a reply wait until what it tells is durable, keep the file of the least position up, have a
+//! term end that has grown by as much as it may, and end a server that can't write or sync its journal.
+
+use crate::watch::Watch;
+use std::sync::{Arc, Mutex, MutexGuard, Wait};
+use tfs_durable::{Durable, FileDevice};
+use tfs_files::PositionFile;
+use tfs_serve::Gate;
+use tfs_table::{Call, Refusal, Reply};
+
+/// A gate that takes every connection until conversations are to end. Before a reply is written, all is durable that was written to the journal
+/// by then; once that can't be had, nothing more is written to anybody. It raises the least position with each change that is accepted: once
+/// the change is durable, and without a sync; where the file can't be written, it lags behind.
+#[derive(Drop)]
+pub(crate) struct Watching<'g, R: AllocGlobal + Wait> {
+    pub(crate) rt: &'g R,
+    pub(crate) watch: &'g Watch<'g>,
+    pub(crate) durable: Arc<Durable<FileDevice>>,
+    pub(crate) least: &'g Mutex<Option<PositionFile>>,
+    pub(crate) serves_reads: bool,
+}
+
+impl<'g, R: AllocGlobal + Wait> Watching<'g, R> {
+    /// Raises the position of the file, where there is one.
+    fn raise(&self, position: u64) {
+        let mut guard = self.least.lock(self.rt);
+        if let Some(file) = &mut *guard {
+            let _ = file.raise(self.rt.alloc(), position);
+        }
+        MutexGuard::unlock(guard);
+    }
+}
+
+impl<'g, R: AllocGlobal + Wait> Gate for Watching<'g, R> {
+    ghost use Rattle.std.specs.Prelude.{None};
+
+    ghost told = { λ gate. None };
+
+    fn admit(&mut self) -> bool {
+        self.watch.look();
+        !self.watch.is_ended()
+    }
+
+    fn before(&mut self, _call: &Call) {}
+
+    fn after(&mut self, reply: &Reply) {
+        let count = self.durable.written();
+        if self.durable.cover(self.rt, count).is_err() {
+            self.watch.mute();
+            return;
+        }
+        match reply {
+            Reply::Done(position) => {
+                self.raise(*position);
+                self.watch.grow(*position);
+            }
+            Reply::Refused(Refusal::JournalFault | Refusal::JournalStopped) => {
+                self.watch.stop(self.serves_reads);
+            }
+            Reply::State(_) | Reply::Impact(_) | Reply::Refused(_) => {}
+        }
+        self.watch.look();
+    }
+}

@@ -1,0 +1,119 @@
+//! A folder that is served in terms.
+
+ghost use Rattle.std.specs.Prelude.{◌≤◌};
+ghost use Rattle.tfs_terms.specs.Terms.{EndsOn};
+
+use crate::fault::end_of;
+use crate::news::News;
+use crate::turning::Turning;
+use crate::watch::Watch;
+use std::cell::Cell;
+use std::net::TcpListener;
+use std::snapshot::Snapshot;
+use std::sync::{Mutex, Wait};
+use std::thread::Threads;
+use std::time::Clock;
+use tfs_files::{Fault, JournalSink, PositionFile, numbers_here};
+use tfs_serve::AcceptFault;
+use tfs_table::Table;
+use tfs_terms::serve_terms;
+
+/// How much the journal of a term may grow, in bytes and in entries, before the server goes on in a shorter one.
+#[derive(Clone, Copy, Debug)]
+pub struct Bounds {
+    pub bytes: u64,
+    pub entries: u64,
+}
+
+/// What a folder is served with.
+#[derive(Drop)]
+pub struct Plan<'p> {
+    /// The folder.
+    pub folder: &'p str,
+    /// The address that the listener has, as it is told.
+    pub address: &'p str,
+    /// How many of the newest files stay in `old/`.
+    pub keep: u64,
+    /// When a term is to end.
+    pub bounds: Bounds,
+    /// The number of workers.
+    pub workers: usize,
+    /// Whether reads are still answered once the journal can't be written.
+    pub serves_reads: bool,
+    ghost some: { 1 ≤ workers },
+    ghost few: { workers ≤ 16 },
+}
+
+/// What a start has made: the listener, whose waits look up, the file of the least position, and the table over the newest journal.
+#[derive(Drop)]
+pub struct Begun {
+    pub listener: TcpListener,
+    pub least: Option<PositionFile>,
+    pub table: Table<JournalSink>,
+}
+
+/// What the terms of a folder leave: the table of the last one, the fault that has ended them, and the first error, if any, that its workers
+/// were told by the listener.
+#[derive(Drop)]
+pub struct Left {
+    pub table: Table<JournalSink>,
+    pub fault: Fault,
+    pub accepting: Option<AcceptFault>,
+}
+
+/// Serves a folder in terms, until it ends by a fault.
+pub fn serve_folder<R: AllocGlobal + Threads + Wait + Clock + Sync>(
+    rt: &R,
+    host: &HostRuntime,
+    plan: &Plan<'_>,
+    begun: Begun,
+) -> Left
+    ensures ends { EndsOn begun.table.journal result.table.journal }
+{
+    let Begun {
+        listener,
+        least,
+        table,
+    } = begun;
+    let Some(number) = newest(host, plan.folder) else {
+        return Left {
+            table,
+            fault: Fault::CannotRead,
+            accepting: None,
+        };
+    };
+    let least = Mutex::new(least);
+    let watch = Watch::new(host, plan);
+    watch.open(number, table.base().position());
+    let mut turning = Turning {
+        rt,
+        host,
+        plan,
+        watch: &watch,
+        least: &least,
+        listener: &listener,
+        news: Cell::new(News::First),
+        placed: Snapshot::of(&table),
+        accepting: Cell::new(None),
+    };
+    let (table, finish) = serve_terms(rt, rt.alloc(), table, &mut turning);
+    let fault = if watch.is_muted() {
+        Fault::SyncFault
+    } else {
+        end_of(finish, table.stopped())
+    };
+    let accepting = turning.accepting.get();
+    Left {
+        table,
+        fault,
+        accepting,
+    }
+}
+
+/// The number of a folder's newest journal.
+fn newest(host: &HostRuntime, folder: &str) -> Option<u64> {
+    match numbers_here(host, folder) {
+        Ok(numbers) => numbers.as_slice().last().copied(),
+        Err(_) => None,
+    }
+}

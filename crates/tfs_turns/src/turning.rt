@@ -1,0 +1,160 @@
+//! What a folder's terms are served with.
+
+ghost use Rattle.std.specs.Prelude.{◌≡◌, length, IfOk};
+
+use crate::fault::{TurnFault, fault_of, fault_of_opening};
+use crate::gate::Watching;
+use crate::listening::Listening;
+use crate::news::{News, Turned};
+use crate::placing::{length_of, place, remove, sink_of};
+use crate::serve::Plan;
+use crate::watch::Watch;
+use std::alloc::AllocError;
+use std::cell::Cell;
+use std::net::TcpListener;
+use std::snapshot::Snapshot;
+use std::sync::atomic::AtomicBool;
+use std::sync::{Arc, Mutex, Wait};
+use tfs_durable::{Durable, FileDevice};
+use tfs_files::{JournalSink, PositionFile};
+use tfs_serve::{AcceptFault, Served, first_fault};
+use tfs_table::Table;
+use tfs_terms::{Terms, Unturned};
+
+/// The terms of a folder: what they share, what is to be told once the next one begins, and the journal that is in place.
+#[derive(Drop)]
+pub(crate) struct Turning<'t, R: AllocGlobal + Wait> {
+    pub(crate) rt: &'t R,
+    pub(crate) host: &'t HostRuntime,
+    pub(crate) plan: &'t Plan<'t>,
+    pub(crate) watch: &'t Watch<'t>,
+    pub(crate) least: &'t Mutex<Option<PositionFile>>,
+    pub(crate) listener: &'t TcpListener,
+    pub(crate) news: Cell<News>,
+    pub(crate) placed: Snapshot<Table<JournalSink>>,
+    pub(crate) accepting: Cell<Option<AcceptFault>>,
+}
+
+impl<'t, R: AllocGlobal + Wait> Turning<'t, R> {
+    /// The number of the next journal.
+    fn next_number(&self) -> u64 {
+        self.watch.number().saturating_add(1)
+    }
+
+    /// The journal goes on, since the next one isn't made: what was begun of it goes, and another try is made later.
+    fn stay(&self, fault: TurnFault) {
+        let number = self.next_number();
+        let _ = remove(self.host, self.plan.folder, number);
+        self.watch.rest();
+        self.news.set(News::Stayed(number, fault_of(fault)));
+    }
+}
+
+impl<'t, R: AllocGlobal + Wait + Sync> Terms for Turning<'t, R> {
+    ghost use Rattle.std.specs.Prelude.{◌≡◌, ◌≤◌, [], length, IfOk, OnOk, OnErr, IfSome};
+
+    type Gate = Watching<'t, R>;
+
+    type Sink = JournalSink;
+
+    type Listener = Listening<'t>;
+
+    type Fault = TurnFault;
+
+    ghost placed = { λ t. t.placed.value.journal };
+
+    fn gates(&self, table: &Table<JournalSink>) -> Result<Vec<Watching<'t, R>>, TurnFault> {
+        match gates_of(self, table.sink().durable()) {
+            Ok(gates) => Ok(gates),
+            Err(_) => Err(TurnFault::NoMemory),
+        }
+    }
+
+    fn listen(&self) -> Result<Listening<'t>, TurnFault> {
+        let waited = self.watch.go_on();
+        let news = self.news.replace(News::Nothing);
+        match news.tell(self.host, self.plan, waited) {
+            Ok(()) => Ok(Listening {
+                listener: self.listener,
+                watch: self.watch,
+            }),
+            Err(_) => Err(TurnFault::Write),
+        }
+    }
+
+    fn ended(&self) -> Option<&AtomicBool> {
+        Some(self.watch.ended())
+    }
+
+    fn muted(&self) -> Option<&AtomicBool> {
+        Some(self.watch.muted())
+    }
+
+    fn goes_on(&self, last: &Table<JournalSink>, served: &[Served<Watching<'t, R>>]) -> bool {
+        self.accepting.set(first_fault(served));
+        self.watch.is_ended()
+            && !self.watch.is_muted()
+            && (self.plan.serves_reads || !last.stopped())
+    }
+
+    fn sink(&self) -> Result<JournalSink, TurnFault> {
+        sink_of(self.host, self.plan.folder, self.next_number())
+    }
+
+    fn turn(&mut self, next: &Table<JournalSink>) -> Result<(), TurnFault> {
+        let (folder, number) = (self.plan.folder, self.next_number());
+        let before = length_of(self.host, folder, self.watch.number()).unwrap_or(0);
+        match place(self.host, folder, number) {
+            Ok(()) => {}
+            Err(fault) => return Err(fault),
+        }
+        self.placed = Snapshot::of(next);
+        self.watch.open(number, next.position());
+        let (position, names) = (next.position(), next.names());
+        let after = self.watch.bytes();
+        self.news.set(News::Turned(Turned {
+            number,
+            position,
+            names,
+            before,
+            after,
+        }));
+        Ok(())
+    }
+
+    fn goes_on_after(&self, why: &Unturned<TurnFault>) -> bool {
+        match why {
+            Unturned::Stopped => true,
+            Unturned::Failed(TurnFault::Unsynced) => false,
+            Unturned::Failed(fault) => {
+                self.stay(*fault);
+                true
+            }
+            Unturned::Unopened(fault) => {
+                self.stay(fault_of_opening(*fault));
+                true
+            }
+        }
+    }
+}
+
+/// A gate for each worker.
+fn gates_of<'t, R: AllocGlobal + Wait>(
+    turning: &Turning<'t, R>,
+    durable: &Arc<Durable<FileDevice>>,
+) -> Result<Vec<Watching<'t, R>>, AllocError>
+    ensures as_many { IfOk result (λ gates. length gates.items ≡ turning.now.plan.now.workers) }
+{
+    let number = turning.plan.workers;
+    let mut gates = Vec::with_capacity(turning.rt.alloc(), number)?;
+    for made in 0..number {
+        gates.push(Watching {
+            rt: turning.rt,
+            watch: turning.watch,
+            durable: durable.clone()?,
+            least: turning.least,
+            serves_reads: turning.plan.serves_reads,
+        })?;
+    }
+    Ok(gates)
+}
