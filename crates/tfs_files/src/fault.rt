@@ -15,6 +15,8 @@ pub enum Fault {
     Arguments,
     #[error("OutOfMemory: memory was refused. Give it more")]
     OutOfMemory,
+    #[error("SmallStack: a thread's stack has {0} bytes, and a request may need 524288. Raise the limit (ulimit -s)")]
+    SmallStack(u64),
     #[error("NoFolder: it isn't there. Mount it, or begin one with --first")]
     NoFolder,
     #[error("NotAllowed: it may not be read or written. Give this user the right to")]
@@ -59,6 +61,8 @@ pub enum Fault {
     CannotBind,
     #[error("JournalFault: its journal can't be written any more. Look at its disk, and start again")]
     JournalFault,
+    #[error("SyncFault: its journal can't be synced any more. Look at its disk, and start again")]
+    SyncFault,
     #[error("AcceptFault: the listener gives no connections any more. Start again")]
     AcceptFault,
 }
@@ -74,6 +78,7 @@ pub fn status_of(fault: Fault) -> u8
         | Fault::Write
         | Fault::NoPlace
         | Fault::CannotBind
+        | Fault::SyncFault
         | Fault::AcceptFault => 1,
         Fault::Arguments | Fault::NotPast => 2,
         Fault::TornBase => 3,
@@ -88,7 +93,7 @@ pub fn status_of(fault: Fault) -> u8
         | Fault::Served => 6,
         Fault::NotAtLeast(_, _) | Fault::NoPosition => 7,
         Fault::NoFolder | Fault::NotAllowed => 8,
-        Fault::OutOfMemory => 9,
+        Fault::OutOfMemory | Fault::SmallStack(_) => 9,
         Fault::JournalFault => 10,
     }
 }

@@ -7,11 +7,16 @@ mod folder;
 mod next;
 mod past;
 mod position_file;
+mod stack;
 mod start;
 
 pub use copies::{below, name_parts, originals, write_parts};
 pub use fault::{End, Fault, Place, end_by, status_of};
-pub use folder::{files_of, locked, numbers_here, refuse_served};
-pub use next::{keep_newest, put_away};
+pub use folder::{
+    files_of, journal_path, locked, numbers_here, numbers_in, old_numbers, refuse_served,
+    sync_names,
+};
+pub use next::{JournalSink, keep_newest, part_path, put_away, remove_part, sink_of, sync_part};
 pub use position_file::{PositionFile, least_position, raised};
+pub use stack::{LEAST_STACK, refuse_small_stack};
 pub use start::{Start, started};

@@ -1,0 +1,33 @@
+//! The stack of a thread.
+
+ghost use Rattle.std.specs.Prelude.{◌≡◌, ◌≤◌, ◌<◌, IfSome, IfErr};
+ghost use Rattle.tfs_files.specs.declared.fault.Fault.TheVariants.{SmallStack};
+
+use crate::fault::Fault;
+use libc::types::rlimit;
+use libc::{RLIMIT_STACK, getrlimit};
+
+/// The least stack of a thread, in bytes, on which each request fits (tests/check_serve.py).
+pub const LEAST_STACK: u64 = 524_288;
+
+/// Refuses a limit of stacks below the least one. The C library gives each thread a stack of the limit that a program is started with.
+pub fn refuse_small_stack() -> Result<(), Fault>
+    ensures small { IfErr result (λ fault. (limit : _) × (fault ≡ SmallStack limit) × (limit < 524_288)) }
+{
+    match limit_of_stacks() {
+        Some(limit) if limit < LEAST_STACK => Err(Fault::SmallStack(limit)),
+        _ => Ok(()),
+    }
+}
+
+/// The limit of stacks, where the system tells it.
+fn limit_of_stacks() -> Option<u64> {
+    let mut limit = rlimit {
+        rlim_cur: 0,
+        rlim_max: 0,
+    };
+    if getrlimit(RLIMIT_STACK, &mut limit) != 0 {
+        return None;
+    }
+    Some(limit.rlim_cur)
+}
