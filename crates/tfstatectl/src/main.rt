@@ -1,10 +1,14 @@
-//! The program `tfstatectl`: runs the server on a folder of journals (`serve`), tells what a folder has (`check`), and copies it (`copy`).
+//! The program `tfstatectl`: runs the server on a folder of journals (`serve`), tells what a folder has (`check`,
+//! `list`, `history`, `show`, `restore`, `impact`, `stats`), and copies it (`copy`).
 #![tactic(auto)]
 
+mod arguments;
 mod check;
 mod command;
+mod commands;
 mod copy;
-mod gate;
+mod numbers;
+mod reading;
 mod serve;
 mod start;
 
@@ -29,12 +33,13 @@ fn main(rt: HostRuntime) -> ExitCode {
         Some(("serve", given)) => {
             let asked = Serving::of(given);
             match start::start(&rt, &asked) {
-                Ok(ready) => serve::run(&rt, &asked, ready),
+                Ok(ready) => serve::run(&rt, &rt, &asked, ready),
                 Err(end) => end_by(&rt, asked.name_at(end.place()), end),
             }
         }
         Some(("copy", given)) => copy::run(&rt, &Copying::of(given)),
-        Some((_, given)) => check::run(&rt, folder_of(given)),
+        Some(("check", given)) => check::run(&rt, folder_of(given)),
+        Some((command, given)) => reading::run(&rt, command, given),
         None => end_by(&rt, "", End::at(Place::Command, Fault::Arguments)),
     }
 }

@@ -3,8 +3,10 @@
 use crate::command::Serving;
 use std::fs::{self, File};
 use std::net::TcpListener;
-use tfs_files::{End, Fault, Place, PositionFile, Start, least_position, locked, raised, started};
-use tfs_records::FileSink;
+use tfs_files::{
+    End, Fault, JournalSink, Place, PositionFile, Start, least_position, locked, raised,
+    refuse_small_stack, started,
+};
 use tfs_table::Table;
 
 /// A folder that is ready to be served: its lock, which is kept as long as the file is open, the listener, the file of the least position,
@@ -14,11 +16,15 @@ pub(crate) struct Ready {
     pub(crate) lock: File,
     pub(crate) listener: TcpListener,
     pub(crate) least: Option<PositionFile>,
-    pub(crate) table: Table<FileSink>,
+    pub(crate) table: Table<JournalSink>,
 }
 
-/// Takes the lock of a folder and the address, and makes the folder's next journal; or ends by the first fault.
+/// Looks at the stack of threads, takes the lock of a folder and the address, and makes the folder's next journal; or ends by the first
+/// fault.
 pub(crate) fn start(rt: &HostRuntime, asked: &Serving<'_>) -> Result<Ready, End> {
+    if let Err(fault) = refuse_small_stack() {
+        return Err(End::at(Place::Command, fault));
+    }
     let begins = asked.start.first.is_some();
     if begins {
         let _ = fs::create_dir_all(rt, asked.start.folder);

@@ -1,0 +1,57 @@
+//! Numbers with K, M or G, which are written out before the command line is read.
+
+use std::alloc::{AllocError, Global};
+
+/// The options that take such numbers.
+const OPTIONS: [&str; 2] = ["--compact-bytes", "--compact-entries"];
+
+/// The words of a command line, in which the numbers of these options are written out.
+pub(crate) fn written_out(alloc: Global, words: Vec<String>) -> Result<Vec<String>, AllocError> {
+    let mut all = Vec::with_capacity(alloc, words.len())?;
+    let mut is_number = false;
+    for word in words {
+        let next = OPTIONS.contains(&word.as_str());
+        all.push(word_of(alloc, word, is_number)?)?;
+        is_number = next;
+    }
+    Ok(all)
+}
+
+/// A word, in which a number is written out that stands in it alone, if it stands behind such an option, or behind such an option and `=`.
+fn word_of(alloc: Global, word: String, is_number: bool) -> Result<String, AllocError> {
+    if is_number {
+        return match value_of(word.as_str()) {
+            Some(value) => format!(in alloc; "{value}"),
+            None => Ok(word),
+        };
+    }
+    let written = match word.as_str().split_once('=') {
+        Some((option, number)) if OPTIONS.contains(&option) => match value_of(number) {
+            Some(value) => Some(format!(in alloc; "{option}={value}")?),
+            None => None,
+        },
+        _ => None,
+    };
+    Ok(written.unwrap_or(word))
+}
+
+/// The value of a number with K, M or G behind it: so many times 1,024, its square or its cube. None where it has none of these, or is too
+/// great.
+fn value_of(text: &str) -> Option<u64> {
+    let (digits, unit) = parts_of(text)?;
+    digits.parse::<u64>().ok()?.checked_mul(unit)
+}
+
+/// The digits of such a number, and what its last letter stands for.
+fn parts_of(text: &str) -> Option<(&str, u64)> {
+    if let Some(digits) = text.strip_suffix('K') {
+        return Some((digits, 1_024));
+    }
+    if let Some(digits) = text.strip_suffix('M') {
+        return Some((digits, 1_048_576));
+    }
+    match text.strip_suffix('G') {
+        Some(digits) => Some((digits, 1_073_741_824)),
+        None => None,
+    }
+}
