@@ -26,9 +26,9 @@ def call_of(line):
 
 
 def may_run_out(place):
-    """Whether the call that answers in this place asks for memory, and has no fault to tell first. The first one is `strip` of the
-    empty text, which asks for none."""
-    return place > 0 and "a bracket is" not in AMPLE[place]
+    """Whether the call that answers in this place asks for memory, and has no fault to tell first. `strip` of a text of which nothing is
+    left asks for none."""
+    return AMPLE[place] != "strip: " and "a bracket is" not in AMPLE[place]
 
 
 def out_of_memory(line):

@@ -11,7 +11,7 @@ from pathlib import Path
 
 from checking import S1, S2, checks_in, expect, run_checks
 from journal_reader import base_text, push_content, record_text
-from serve_program import LOOPBACK, Server, asked, entries_of, free_port, fresh, run
+from serve_program import LOOPBACK, Server, asked, entries_of, free_port, fresh, preloaded, run
 from stdio_program import USAGE, request_text
 
 A, B = b'{"ID":"A" ,"Who":""}', b'{"ID":"B"}'
@@ -104,6 +104,15 @@ def check_a_journal_is_never_written_over():
     expect(Path(target).exists(), False)
 
 
+def check_a_write_or_a_sync_that_a_signal_interrupts_is_tried_again():
+    old = fresh(WHOLE)
+    server = Server(workers=1, old=old, env={"LD_PRELOAD": preloaded("interrupted_calls.c")})
+    for name in ("b", "c"):
+        expect(server.ask("POST", f"/state/{name}", S1), (200, b""), f"a push of {name}")
+        expect(server.ask("GET", f"/state/{name}"), (200, S1), f"the state of {name}")
+    expect([name for _, name, _ in entries_of(server.kill())], ["a", "a", "b", "c"])
+
+
 def check_a_worker_that_is_given_no_connection_ends_alone():
     server = Server(workers=3)
     held = [server.connect() for _ in range(3)]
@@ -113,10 +122,16 @@ def check_a_worker_that_is_given_no_connection_ends_alone():
     for number, connection in enumerate(held):
         expect(asked(connection, "POST", f"/state/n{number}", S1), (200, b""), f"after {number} have ended")
         connection.close()
-        time.sleep(0.2)  # in which the program may end, which it must not before the last
+        time.sleep(0.05)  # in which the program may end, which it must not before the last
     expect(server.end(), (b"", 1, b"tfstated: AcceptFault\n"), "all have ended")
     names = [name for _, name, _ in entries_of(Path(server.new).read_bytes())]
     expect(names, ["n0", "n1", "n2"], "what was acknowledged is there")
+
+
+def seconds_of(server):
+    """The processor time that a server has taken, in seconds."""
+    fields = Path(f"/proc/{server.process.pid}/stat").read_text().rpartition(")")[2].split()
+    return sum(map(int, fields[11:13])) / os.sysconf("SC_CLK_TCK")
 
 
 def check_workers_go_on_once_descriptors_are_there_again():
@@ -124,7 +139,9 @@ def check_workers_go_on_once_descriptors_are_there_again():
     server.leave_free(server.lowest_free() + 1)
     held = [server.connect() for _ in range(4)]
     expect(asked(held[0], "GET", "/state/a")[0], 404)
+    began = seconds_of(server)
     time.sleep(1)  # in which the other three find no descriptor, more than once
+    expect(seconds_of(server) - began < 0.5, True, "they pause in between")
     server.leave_free(256)
     for number, connection in enumerate(held):
         expect(asked(connection, "POST", f"/state/n{number}", S1), (200, b""), f"connection {number}, beside the others")

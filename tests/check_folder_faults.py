@@ -10,7 +10,7 @@ import sys
 from checking import S2, checks_in, expect, run_checks
 from folder_program import Serving, ended, served
 from journal_reader import read_journal
-from serve_program import preloaded
+from serve_program import Server, preloaded
 from folders import A, B, NEWEST, PUSH1, REBASED, S1, S3, all_of, at_once, fresh, journals, named
 
 EMPTY = b"TFJ1\n"
@@ -51,6 +51,29 @@ def check_files_that_cant_grow_lose_nothing():
     again = Serving(folder)
     expect_newest(again)
     again.kill()
+
+
+def limit_stacks(size):
+    """Lets each thread have a stack of a size."""
+    return lambda: resource.setrlimit(resource.RLIMIT_STACK, (size, size))
+
+
+def check_a_start_with_a_small_stack_is_refused():
+    folder = fresh(n1=NEWEST)
+    status, _, errors = ended(folder, preexec_fn=limit_stacks((1 << 19) - 4096))
+    expect((status, "SmallStack: a thread's stack has 520192 bytes" in errors), (9, True), errors)
+    expect(all_of(folder), {f"{named(1)}.tfj": NEWEST}, "nothing is done")
+    server = Serving(folder, preexec_fn=limit_stacks(1 << 19))
+    expect_newest(server)
+    server.kill()
+
+
+def check_a_server_whose_listener_is_shut_tells_the_error():
+    folder = fresh(n1=NEWEST)
+    server = Serving(folder).listens()
+    Server.shut(server)
+    status, errors = server.end()
+    expect((status, f"{folder}: AcceptFault: no connection could be taken: invalid input parameter (os error 22). " in errors), (1, True), errors)
 
 
 LEFT = {"n2": EMPTY + PUSH1, "n3": NEWEST, "n4": REBASED, "n5": REBASED[:50]}

@@ -16,7 +16,7 @@ from pathlib import Path
 from checking import S1, S2, SECONDS, checks_in, expect, run_checks
 from journal_reader import base_text, lines_of, push_content, read_journal, record_text
 from journal_rows import DAMAGED_BASES, DAMAGED_RECORDS, EMPTY, FLIPPED, LONG_RECORDS, PREFIXES, TORN_BASES, TORN_RECORDS, WHOLE_BASES
-from refused_requests import FOREVER, build_shim, built, count_of, fault_of
+from refused_requests import FOREVER, build_shim, built, count_of, fault_of, run_counted
 
 PROGRAM = built("tfs_probe")
 FOLDER = tempfile.TemporaryDirectory(prefix="tfstated-")
@@ -30,6 +30,8 @@ MORE_STATES = [
     b'{"version":4,"serial":0,"lineage":"x","resources":[{"mode":"managed","type":"t","name":"n","instances":[{}]}]}',
 ]
 LATER = [(3, b"b", push_content(b"", S2)), (2, b"a", b"B")]
+# The most requests for memory that the four journals below are read and written with, and the bytes of the longest one.
+MOST_REQUESTS, MOST_BYTES = 153, 2048
 
 
 def pieces_of(header, base, entries):
@@ -284,6 +286,9 @@ def check_each_request_for_memory_is_refused_in_turn():
     data = "".join(text.hex() + "\n" for text in TEXTS).encode()
     ample = "".join(line + "\n" for text in TEXTS for line in lines_of(text)).encode()
     requests = range(1, count_of([PROGRAM, "journal"], ample, data) + 1)
+    expect(len(requests) <= MOST_REQUESTS, True, f"{len(requests)} requests")
+    longest = run_counted([PROGRAM, "journal"], 0, 0, data)[1].longest
+    expect(longest <= MOST_BYTES, True, f"a request for {longest} bytes")
     for last in (0, FOREVER):
         faults = {fault_of([PROGRAM, "journal"], ample, request, max(request, last), data)[1] for request in requests}
         expect([fault for fault in faults if fault and b"memory" not in fault], [], "memory runs out")

@@ -19,6 +19,9 @@ LONG = S1.ljust(16 << 20)
 # Ten seconds in which nothing can be written, after those in which the system's buffers take something.
 WRITE_SECONDS = (9, 30)
 IDLE_SECONDS = (1.9, 6)
+# Half a second, where no worker is free; two seconds for a client that is slow then.
+CROWDED_SECONDS = (0.4, 1.8)
+SLOW_SECONDS = (1.9, 8)
 REQUEST_SECONDS = (59, 72)
 # A minute, and a second for each 1,000,000 of the bytes of a long reply; then a look, and what was written before.
 REPLY_SECONDS = (75, 90)
@@ -108,10 +111,74 @@ def check_the_17th_client_is_served_once_a_silent_one_is_left():
     server, silent = started(MAX_WORKERS), []
     for _ in range(MAX_WORKERS):
         silent.append(server.connect())
-    expect_next(server, time.monotonic(), IDLE_SECONDS, "the client after sixteen that are silent")
+    expect_next(server, time.monotonic(), CROWDED_SECONDS, "the client after sixteen that are silent")
     for number, connection in enumerate(silent):
         with connection:
             expect(connection.recv(1), b"", f"silent client {number} is left")
+
+
+@slow
+def check_a_client_is_waited_for_two_seconds_while_a_worker_is_free():
+    server = started(3)
+    with server.connect() as silent, server.connect() as idle:
+        expect(asked(idle, "GET", "/state/a")[0], 404)
+        began = time.monotonic()
+        for connection in (silent, idle):
+            expect(connection.recv(1), b"", "it is left")
+            expect_between(time.monotonic() - began, IDLE_SECONDS, "beside a free worker")
+
+
+@slow
+def check_a_quarter_of_the_workers_stays_with_slow_clients_while_others_wait():
+    server, slow_ones = started(MAX_WORKERS), []
+    for _ in range(MAX_WORKERS):
+        slow_ones.append(server.connect())
+        slow_ones[-1].sendall(request_text("GET", "/state/a")[:20])
+    expect_next(server, time.monotonic(), SLOW_SECONDS, "the client after sixteen that are slow")
+    time.sleep(1)  # in which each worker has looked at its client
+    left = sum(is_left(connection) for connection in slow_ones)
+    expect(1 <= left <= MAX_WORKERS - MAX_WORKERS // 4, True, f"{left} are left")
+
+
+@slow
+def check_slow_clients_that_are_gone_count_no_more():
+    server, text = started(1), request_text("GET", "/state/a", more="Connection: close\r\n")
+    for number in range(3):
+        with server.connect() as connection, connection.makefile("rb") as file:
+            connection.sendall(text[:20])
+            time.sleep(SLOW_SECONDS[0] + 2)
+            connection.sendall(text[20:])
+            expect(reply_of(file), (404, b'{"error":"NoState"}'), f"slow client {number}, the only one")
+
+
+@slow
+def check_clients_that_send_100_kb_a_second_are_not_slow():
+    server = started(4)
+    with concurrent.futures.ThreadPoolExecutor(5) as pool:
+        pushes = [pool.submit(pushed_in_pieces, server, name) for name in "abcd"]
+        time.sleep(1)  # in which each of them has a worker
+        waiting = pool.submit(server.ask, "GET", "/state/e")
+        expect([push.result() for push in pushes], [(200, b"")] * 4, "pushes, while another client waits")
+        expect(waiting.result()[0], 404)
+
+
+def pushed_in_pieces(server, name):
+    """The reply to a push that takes five seconds."""
+    text = request_text("POST", f"/state/{name}", S1.ljust(500000))
+    with server.connect() as connection, connection.makefile("rb") as file:
+        for place in range(0, len(text), 50000):
+            connection.sendall(text[place : place + 50000])
+            time.sleep(0.5)
+        return reply_of(file)
+
+
+def is_left(connection):
+    """Whether a connection has been ended."""
+    connection.setblocking(False)
+    try:
+        return connection.recv(1) == b""
+    except BlockingIOError:
+        return False
 
 
 def expect_left(server, beginning, piece, pause):

@@ -12,7 +12,7 @@ from checking import S1, checks_in, expect, run_checks
 import refused_requests
 from refused_requests import FOREVER
 from stdio_model import DONE, Request, Table, refusal_text, reply_text
-from stdio_program import CRATE, PROGRAM, USAGE, request_text
+from stdio_program import CRATE, MAX_READ, PROGRAM, USAGE, request_text
 
 PUSH_AND_GET = (CRATE / "stdin").read_bytes()
 STATE = reply_text(200, S1)
@@ -153,6 +153,43 @@ def check_all_requests_from_each_one_on_of_a_conversation_with_locks_are_refused
     for request in range(for_arguments + 1, requests + 1):
         *ran, _, others = run_refused(request, FOREVER, data=LOCKS_TEXT)
         expect((tuple(ran) in allowed, others), (True, 0), f"request {request}, {ran}")
+
+
+# A state of three instances, a request before it, and the request that is counted with the most requests for memory that it may make. A
+# list that grows with the journal asks again now and then, so what twenty of them make is counted.
+THREE = (b'{"version":4,"serial":1,"lineage":"L1","resources":[{"mode":"managed","type":"t","name":"a","instances":[{}]},'
+         b'{"mode":"managed","type":"t","name":"b","instances":[{"dependencies":["t.a"]}]},'
+         b'{"mode":"managed","type":"t","name":"c","instances":[{"dependencies":["t.b"]}]}]}')
+MOST = [
+    ("a read of no state", ("GET", "/state/z", b""), 4),
+    ("a read", ("GET", "/state/a", b""), 3),
+    ("a lock", ("LOCK", "/state/a", A), 11),
+    ("an unlock", ("UNLOCK", "/state/a", A), 12),
+    ("a push", ("POST", "/state/a", THREE), 66),
+    ("a push that comes in pieces", ("POST", "/state/a", LONG), 13),
+    ("an impact", ("GET", "/impact/a/any?of=t.a", b""), 16),
+    ("an impact of two", ("GET", "/impact/a/all?of=t.a&of=t.b", b""), 17),
+]
+
+
+def requests_of(request, times):
+    """How many requests for memory a conversation makes that pushes a state and then sends a request so many times."""
+    data = request_text("POST", "/state/a", THREE) + request_text(*request) * times
+    _, status, errors, requests, others = run_refused(0, 0, data=data)
+    expect((status, errors, others), (0, b"", 0), "no request is refused")
+    return requests
+
+
+def check_no_request_asks_for_memory_more_often_than_it_needs():
+    for what, request, most in MOST:
+        asked = requests_of(request, 40) - requests_of(request, 20)
+        expect(asked <= 20 * most + 8, True, f"{what} makes {asked / 20} requests for memory")
+
+
+def check_no_request_of_a_short_conversation_asks_for_more_than_a_read():
+    ran, counts = refused_requests.run_counted([PROGRAM, "stdio"], 0, 0, LOCKS_TEXT)
+    expect((ran.stdout, ran.returncode), (b"".join(LOCKS_REPLIES), 0), "no request is refused")
+    expect(counts.longest <= MAX_READ, True, f"a request for {counts.longest} bytes")
 
 
 if __name__ == "__main__":

@@ -76,7 +76,8 @@ def check_each_path_is_there():
 
 
 def check_each_page_that_code_names_is_there():
-    files = [path for pattern in ("crates/*/src/**/*.rt", "crates/*/specs/*.antt", "tests/*.py", "deploy/*", "Makefile") for path in TOP.glob(pattern)]
+    patterns = ("crates/*/src/**/*.rt", "crates/*/specs/*.antt", "tests/*.py", "deploy/**/*", "Makefile")
+    files = [path for pattern in patterns for path in TOP.glob(pattern) if path.is_file()]
     named = {(page, path) for path in files for page in re.findall(r"\b(?:docs|deploy)/\w+\.md\b", path.read_text())}
     expect(len(named) > 5, True, "pages that are named")
     expect(sorted(f"{path.relative_to(TOP)}: {page}" for page, path in named if not (TOP / page).is_file()), [])

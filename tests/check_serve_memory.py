@@ -3,6 +3,7 @@ texts that are long or meant to take much."""
 import contextlib
 import io
 import os
+import select
 import sys
 import threading
 import time
@@ -11,7 +12,8 @@ from pathlib import Path
 from checking import S1, checks_in, expect, run_checks
 from journal_reader import base_text, push_content, record_text
 from refused_requests import FOREVER, SHIM, build_shim, run_refused
-from serve_program import LOOPBACK, Server, asked, entries_of, free_port, fresh, hostile, limited, push_large, reply_of, state
+from sample_states import chain
+from serve_program import LOOPBACK, Server, asked, entries_of, free_port, fresh, hostile, limited, preloaded, push_large, reply_of, state
 from stdio_model import Request, Table
 from stdio_program import PROGRAM, USAGE
 
@@ -25,6 +27,8 @@ TALK = [("POST", "/state/a", S1), ("GET", "/state/a", b""), ("LOCK", "/state/a",
 SMALL_SECONDS, SMALL_ANSWERS = 5, 120
 # A state of 8 MB and what comes of it take a few times its bytes: of the body, its document, the index and the journal's record.
 TIMES_ITS_BYTES = 8
+# Long blocks of four pushes: of each its body, its record and its index, and what is freed of them.
+LONG_BLOCKS = 16
 
 
 def refused_starts(requests, words, new):
@@ -227,6 +231,35 @@ def check_small_clients_are_answered_beside_fifteen_hostile_bodies():
     expect(told.count(200) >= max(SMALL_ANSWERS, 0.9 * len(told)), True, f"{told.count(200)} of {len(told)} small requests are answered")
     expect(len(large) == 15 and set(large) <= {200, 400, 503}, True, large)
     expect(server.ask("GET", "/state/b")[0], 404, "nothing has ended")
+
+
+def long_push(serial):
+    """A state of 600,000 bytes and 2,048 instances, whose index has 524,288 bytes."""
+    return chain(2048, serial=serial).ljust(600_000)
+
+
+def push_in_turn(server, count, replies):
+    """Pushes so many states of one name, one after the other."""
+    for serial in range(1, count + 1):
+        replies.append(server.ask("POST", "/state/a", long_push(serial)))
+
+
+def check_no_long_block_is_asked_for_or_freed_under_the_lock():
+    # Who asks for a long block, or frees one, stands still until a change of another workspace is judged, which is refused and publishes nothing.
+    (told, telling), (going_on, lets_go) = os.pipe(), os.pipe()
+    given = {"LD_PRELOAD": preloaded("hold_blocks.c"), "LONG": "500000", "TOLD": str(telling), "GOES_ON": str(going_on)}
+    server, replies, held = Server(workers=2, env=given, pass_fds=[telling, going_on]), [], 0
+    expect(server.ask("LOCK", "/state/b", B), (200, b""))
+    pushing = threading.Thread(target=push_in_turn, args=(server, 4, replies), daemon=True)
+    pushing.start()
+    while pushing.is_alive():
+        if select.select([told], [], [], 0.1)[0]:
+            os.read(told, 1)
+            expect(server.ask("LOCK", "/state/b", A), (423, B), f"beside the long block {held}")
+            held += 1
+            os.write(lets_go, b"x")
+    expect(replies, [(200, b"")] * 4, "the pushes")
+    expect(held >= LONG_BLOCKS, True, f"{held} long blocks")
 
 
 if __name__ == "__main__":

@@ -88,10 +88,11 @@ def check_no_request_is_made_for_a_state():
         expect(ran(text, "state", before + 1, FOREVER), (SHARED + PUSHED + STATE + gathered(1), 0))
 
 
-def check_requests_do_not_grow_with_the_state():
-    inside = [requests_of(text, "submit", SHARED + PUSHED + gathered(1)) - requests_of(text, "share", SHARED + gathered(0))
-              for text in map(state_of, (1, 2, 4096))]
-    expect(inside, inside[:1] * 3)
+def check_requests_are_few_and_do_not_grow_with_the_state():
+    for text in map(state_of, (1, 2, 4096)):
+        made = [requests_of(text, "read", b""), requests_of(text, "share", SHARED + gathered(0)),
+                requests_of(text, "submit", SHARED + PUSHED + gathered(1))]
+        expect((made[1] - made[0] <= 12, made[2] - made[1] <= 5), (True, True), f"requests up to sharing, its end, and the push: {made}")
 
 
 def check_a_refusal_before_sharing_ends_the_program_or_changes_nothing():

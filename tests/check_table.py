@@ -12,9 +12,11 @@ build_shim()
 PROGRAM = built("tfs_probe")
 DONE, REFUSED = b"done 1\n", b"refused OutOfMemory\n"
 
-# A journal of two entries, and what is told of each table that is made with ample memory: its position, and what its sink was given.
+# A journal of two entries, and what is told of each table that is made with ample memory: its position, and what its sink was given. Then the
+# most requests that each makes, those for the input with them.
 JOURNAL = (b"TFJ1\n" + record_text(3, b"a", push_content(b"", S1)) + record_text(1, b"a", b'{"ID":"B"}')).hex().encode()
 MADE = {"new": b"made at 0, 31 bytes\n", "open": b"made at 2, 130 bytes\n", "rebase": b"made at 2, 92 bytes\n"}
+MOST = {"new": 11, "open": 29, "rebase": 35}
 UNMADE = b"NoMemory, 0 bytes\n"
 
 
@@ -58,6 +60,7 @@ def check_memory_is_refused_before_a_sink_is_given_anything():
     for word, made in MADE.items():
         output, status, requests = ran(JOURNAL, word)
         expect((output, status), (made, 0), word)
+        expect(requests <= MOST[word], True, f"{word}: {requests} requests")
         told = {ran(JOURNAL, word, number, last)[:2] for number in range(1, requests + 1) for last in (number, FOREVER)}
         expect(told - {(b"", 1), (made, 0)}, {(UNMADE, 0)}, f"{word}: requests for the table are refused, beside those for the input")
         expect(ran(JOURNAL, word, requests + 1, FOREVER)[:2], (made, 0), f"{word}: there is no further request")

@@ -1,23 +1,24 @@
-"""Runs the tests of deploy/: those of its pages, of nginx, which has to be installed, and of Terraform, where it is. The last line is `N passed, M failed`."""
+"""Runs the tests of deploy/: those of its pages and of the package, of nginx, which has to be installed, of each command of its page, and of
+Terraform, where it is. The last line is `N passed, M failed`."""
 import shutil
 import sys
 
 from gate import Screen, run, script
 from repository import TOP
 
-TESTS = ["deploy_pages.py", "deploy_nginx.py"]
-OF_TERRAFORM = "deploy_terraform.py"
+TESTS = ["deploy_pages.py", "deploy_package.py", "deploy_nginx.py", "deploy_page.py"]
+OF_TERRAFORM = ["deploy_terraform.py", "deploy_impact.py"]
 
 
 def main():
-    missing = [name for name in ("nginx", "openssl") if not shutil.which(name)]
+    missing = [name for name in ("nginx", "openssl", "dpkg-deb", "jq", "curl", "rsync", "ssh-keygen") if not shutil.which(name)]
     if missing:
-        sys.exit(f"deploy-test: {' and '.join(missing)} isn't installed")
+        sys.exit(f"deploy-test: not installed: {', '.join(missing)}")
     screen, tests = Screen(), list(TESTS)
     if shutil.which("terraform"):
-        tests.append(OF_TERRAFORM)
+        tests += OF_TERRAFORM
     else:
-        screen.show(f"terraform isn't installed: {OF_TERRAFORM} is left out")
+        screen.show(f"terraform isn't installed: {' and '.join(OF_TERRAFORM)} are left out")
     passed, failed = map(sum, zip(*(run(script(TOP / "tests" / name), screen)[0] for name in tests)))
     print(f"{passed} passed, {failed} failed", flush=True)
     return 1 if failed else 0

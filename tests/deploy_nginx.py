@@ -1,6 +1,7 @@
-"""Runs the setup of deploy/ with a real nginx: TLS, passwords, locks, bodies of 16 MiB and in chunks, clients that are slow, and
-names that are spread over two servers. Where nginx or openssl isn't installed it says so in one line and fails."""
+"""Runs the setup of deploy/ with a real nginx: TLS, passwords, who may do what, the log, locks, bodies of 16 MiB and in chunks, clients that
+are slow or many, and a name with a server of its own. Where nginx or openssl isn't installed it says so in one line and fails."""
 import base64
+import concurrent.futures
 import contextlib
 import hashlib
 import http.client
@@ -14,14 +15,17 @@ import sys
 import time
 from pathlib import Path
 
-from checking import SECONDS, STARTED, checks_in, expect, run_checks
+from checking import S2, SECONDS, STARTED, checks_in, expect, run_checks
 from folder_program import Serving
 from folders import A, B, FOLDER, LOOPBACK, S1, ask_over, free_port, fresh, journals
 from journal_reader import read_journal
 from repository import TOP
 
 DEPLOY, ROOM = TOP / "deploy", Path(FOLDER.name)
-USER, PASSWORD = "team", "secret words"
+LOG = ROOM / "tfstated.log"
+USER, PASSWORD = "admin", "secret words"
+# The users of deploy/nginx-access.conf, and one who has no line there.
+USERS = [USER, "auditor", "network-ci", "stranger"]
 MAX_BODY = 16777216
 AROUND = """{user}
 worker_processes 2;
@@ -39,7 +43,14 @@ http {{
     include {room}/site.conf;
 }}
 """
-WITH_PASSWORD = {"Authorization": "Basic " + base64.b64encode(f"{USER}:{PASSWORD}".encode()).decode()}
+
+
+def signed(user, password=PASSWORD):
+    """The field by which a user shows a password."""
+    return {"Authorization": "Basic " + base64.b64encode(f"{user}:{password}".encode()).decode()}
+
+
+WITH_PASSWORD = signed(USER)
 
 
 def quiet(*words):
@@ -54,31 +65,31 @@ def replaced(text, old, new):
 
 
 def make_secrets():
-    """A certificate of this machine, its key, and a file of passwords."""
+    """A certificate of this machine, its key, a file of passwords, and the one of who may do what."""
     subject = ["-subj", "/CN=tfstated.example.com", "-addext", f"subjectAltName=IP:{LOOPBACK}"]
     files = ["-keyout", ROOM / "key.pem", "-out", ROOM / "certificate.pem"]
     key = ["-newkey", "ec", "-pkeyopt", "ec_paramgen_curve:prime256v1", "-nodes"]
     quiet("openssl", "req", "-x509", *key, "-days", "2", *subject, *files)
-    line = f"{USER}:{quiet('openssl', 'passwd', '-6', PASSWORD).decode()}"
-    (ROOM / "passwords").write_text(line)
+    hashed = quiet("openssl", "passwd", "-6", PASSWORD).decode()
+    (ROOM / "passwords").write_text("".join(f"{user}:{hashed}" for user in USERS))
+    shutil.copy(DEPLOY / "nginx-access.conf", ROOM / "access.conf")
 
 
-def site(backend, port):
-    """The site of deploy/nginx.conf with a port and files of this machine."""
+def site(backend, port, rate=1000):
+    """The site of deploy/nginx.conf with a port and files of this machine, and with so many requests a second."""
     text = (DEPLOY / "nginx.conf").read_text()
     text = replaced(text, "server 127.0.0.1:8080;", f"server {LOOPBACK}:{backend};")
     text = replaced(text, "listen 443 ssl;", f"listen {LOOPBACK}:{port} ssl;")
+    text = replaced(text, "/var/log/nginx/tfstated.log", str(LOG))
+    text = replaced(text, "rate=20r/s", f"rate={rate}r/s")
     return text.replace("/etc/nginx/tfstated", str(ROOM))
 
 
-def spread_site(backends, port, placed=""):
-    """The site with deploy/nginx-spread.conf in place of its first block, and a line for names with a place of their own."""
-    first = (DEPLOY / "nginx-spread.conf").read_text()
-    for number, backend in enumerate(backends):
-        first = replaced(first, f"server 127.0.0.1:{8080 + number};", f"server {LOOPBACK}:{backend};")
-    first = replaced(first, "# prod tfstated_2;", placed)
-    rest = replaced(site(0, port), "proxy_pass http://tfstated;", "proxy_pass http://$tfstated_server;")
-    return first + rest[rest.index("server {\n") :]
+def spread_site(backends, port):
+    """The site with the lines for a second server, which has the names that begin with `billing.`."""
+    text = replaced(site(backends[0], port), "# ~^billing", "~^billing")
+    text = replaced(text, "# upstream tfstated_2", "upstream tfstated_2")
+    return replaced(text, "server 127.0.0.1:8081;", f"server {LOOPBACK}:{backends[1]};")
 
 
 class Nginx:
@@ -150,6 +161,90 @@ def check_passwords_are_asked_for_over_tls():
         with contextlib.suppress(ssl.SSLError):
             http.client.HTTPSConnection(LOOPBACK, proxy.port, context=ssl.create_default_context()).connect()
             raise AssertionError("another certificate is taken")
+
+
+def check_each_user_may_do_what_its_line_says():
+    with served() as (server, proxy):
+        table = [
+            ("admin", "POST", "/state/other", S1, 200), ("admin", "POST", "/state/network.a", S1, 200), ("admin", "GET", "/elsewhere", None, 404),
+            ("auditor", "GET", "/state/other", None, 200), ("auditor", "GET", "/impact/other/any?of=t.a", None, 404),
+            ("auditor", "LOCK", "/state/other", A, 403), ("auditor", "POST", "/state/other", S1, 403),
+            ("auditor", "DELETE", "/state/other", None, 403), ("auditor", "UNLOCK", "/state/other", b"", 403),
+            ("network-ci", "LOCK", "/state/network.a", A, 200), ("network-ci", "GET", "/state/network.a", None, 200),
+            ("network-ci", "POST", "/state/network.a?ID=A", S1, 200), ("network-ci", "UNLOCK", "/state/network.a", A, 200),
+            ("network-ci", "GET", "/impact/network.a/all?of=t.a", None, 404), ("network-ci", "DELETE", "/state/network.a", None, 403),
+            ("stranger", "GET", "/state/network.a", None, 403), ("stranger", "POST", "/state/stranger", S1, 403),
+        ]
+        for user, method, target, body, wanted in table:
+            expect(proxy.ask(method, target, body, signed(user))[0], wanted, f"{user} {method} {target}")
+        expect(server.ask("GET", "/state/other"), (200, S1), "what was refused has changed nothing")
+
+
+def check_no_target_leads_to_the_names_of_another_team():
+    targets = """/state/other /impact/other/any?of=t.a /state/network. /state/networkx /state//network.a /state/network.a/../other
+/state/network.a/ /state/other?x=/state/network.a /state/%6eetwork.a /state/other#/state/network.a //state/network.a /state/other%00network.a
+/impact/network.a/any/../../other/any /state/network.a%2f..%2fother /x/state/network.a /STATE/network.a"""
+    with served() as (server, proxy):
+        expect(proxy.ask("POST", "/state/other", S2), (200, b""))
+        for target in targets.split():
+            status, body = proxy.ask("GET", target, None, signed("network-ci"))
+            expect((status in (400, 403, 404), S2 in body), (True, False), f"{target}: {status}")
+        for target in ("/state/other", "/state/other?x=/state/network.a", "/state/networkx"):
+            expect(proxy.ask("GET", target, None, signed("network-ci"))[0], 403, target)
+
+
+def check_a_wrong_password_is_401_whoever_it_is():
+    with served() as (server, proxy):
+        for user in [*USERS, "nobody", "admin:GET:", ""]:
+            expect(proxy.ask("GET", "/state/a", None, signed(user, "wrong"))[0], 401, user)
+            expect(proxy.ask("LOCK", "/state/network.a", A, signed(user, ""))[0], 401, user)
+
+
+def check_the_log_has_a_line_of_json_for_each_request():
+    LOG.write_text("")
+    with served() as (server, proxy):
+        proxy.ask("POST", '/state/a.b?ID="', S1)
+        proxy.ask("GET", "/state/a.b", None, signed("auditor", "wrong"))
+        proxy.ask("GET", "/healthz", None, {})
+        proxy.ask("DELETE", "/state/x", None, signed("auditor"))
+        lines = told_in(LOG, 3)
+    fields = [[line[key] for key in ("user", "method", "name", "status", "from")] for line in lines]
+    wanted = [["admin", "POST", "a.b", 409, LOOPBACK], ["auditor", "GET", "a.b", 401, LOOPBACK], ["auditor", "DELETE", "x", 403, LOOPBACK]]
+    expect(fields, wanted)
+    expect((lines[0]["target"], 0 <= lines[0]["seconds"] < SECONDS), ('/state/a.b?ID="', True))
+    expect(lines[0]["time"][:3], "202", "a time as 2026-11-26T21:30:00+00:00")
+
+
+def told_in(path, count):
+    """The lines of a log, once there are so many."""
+    end = time.monotonic() + SECONDS
+    while len(path.read_text().splitlines()) < count and time.monotonic() < end:
+        time.sleep(0.05)
+    lines = path.read_text().splitlines()
+    expect(len(lines), count, lines)
+    return [json.loads(line) for line in lines]
+
+
+def check_healthz_tells_whether_the_server_answers():
+    server, port = Serving(fresh(n1=b"TFJ1\n")).listens(), free_port()
+    with Nginx(site(server.port, port), port) as proxy:
+        expect(proxy.ask("GET", "/healthz", None, {}), (200, b"it answers\n"))
+        for method in ("POST", "DELETE", "LOCK"):
+            expect(proxy.ask(method, "/healthz", S1, {})[0], 403, method)
+        server.kill()
+        expect(proxy.ask("GET", "/healthz", None, {})[0], 502)
+
+
+def check_a_flood_is_refused_and_what_is_usual_waits():
+    server, port = Serving(fresh(n1=b"TFJ1\n")).listens(), free_port()
+    with Nginx(site(server.port, port, rate=20), port) as proxy:
+        began = time.monotonic()
+        expect([proxy.ask("GET", "/state/a")[0] for _ in range(30)], [404] * 30)
+        expect(0.5 < time.monotonic() - began < 10, True, "30 requests wait, and are answered")
+        with concurrent.futures.ThreadPoolExecutor(150) as pool:
+            found = list(pool.map(lambda _: proxy.ask("GET", "/state/a")[0], range(150)))
+        expect((set(found), 20 <= found.count(429) <= 60), ({404, 429}, True), f"{found.count(429)} are refused")
+    server.kill()
 
 
 def check_changes_locks_and_queries_pass():
@@ -244,24 +339,22 @@ def check_a_server_that_is_away_is_told_and_comes_back():
         expect(proxy.ask("GET", "/state/a"), (200, S1))
 
 
-def check_names_are_spread_and_stay_where_they_are():
+def check_a_name_has_the_server_of_its_line_and_all_others_the_first():
     folders, port = [fresh(n1=b"TFJ1\n"), fresh(n1=b"TFJ1\n")], free_port()
     servers = [Serving(folder).listens() for folder in folders]
-    names = [f"net-{number}.prod" for number in range(20)] + ["moved"]
-    text = spread_site([server.port for server in servers], port, placed="moved tfstated_2;")
-    with Nginx(text, port) as proxy:
-        for name in names:
-            expect(proxy.ask("POST", f"/state/{name}?x=/state/{name}-", S1), (200, b""), name)
-        for name in names:
+    firsts = [f"net-{number}.prod" for number in range(20)] + ["billing", "xbilling.a"]
+    seconds = ["billing.a", "billing.b"]
+    with Nginx(spread_site([server.port for server in servers], port), port) as proxy:
+        for name in firsts + seconds:
+            expect(proxy.ask("POST", f"/state/{name}?x=/state/billing.-", S1), (200, b""), name)
+        for name in firsts + seconds:
             expect(proxy.ask("GET", f"/impact/{name}/any?of=t.a"), (404, b'{"error":"UnknownAddress"}'), name)
             expect(proxy.ask("GET", f"/state/{name}"), (200, S1), name)
         expect(proxy.ask("GET", "/state/%61")[0], 400)
     for server in servers:
         server.kill()
     kept = [{name for _, name, _ in read_journal(journals(folder)[2])[3]} for folder in folders]
-    expect(kept[0] | kept[1], set(names))
-    expect(kept[0] & kept[1], set(), "no name is on both")
-    expect((min(map(len, kept)) > 3, "moved" in kept[1]), (True, True), kept)
+    expect(kept, [set(firsts), set(seconds)])
 
 
 if __name__ == "__main__":

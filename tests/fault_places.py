@@ -1,18 +1,20 @@
-"""Where src/ makes a fault of memory, of a sink or of a copy as a value, and where a file is emptied or made twice over.
+"""Where src/ makes a fault of memory, of a sink, of a sync, of a connection or of a copy as a value, and where a file is emptied or made
+twice over.
 
 A contract can't tell a refused request for memory from one that was never made. So each place that makes such a fault stands in
-tests/fault_places.txt with what it passes on, and any other place is listed here. `set_len`, `File::create(` and `try_clone` stand
-nowhere in src/, since no contract says what they do to a file."""
+tests/fault_places.txt with what it passes on, and any other place is listed here. Room is asked for by a length or by a constant with a
+name: a number that is written there could be one that no machine has. `set_len`, `File::create(` and `try_clone` stand nowhere in src/,
+since no contract says what they do to a file."""
 import re
 
 from repository import TOP
 
 PLACES = TOP / "tests" / "fault_places.txt"
 FAULT = re.compile(
-    r"\b(?:(?!ErrorKind)\w+::(?:OutOfMemory|NoMemory|SinkFault|NoCopy|NoPlace|JournalFault|JournalStopped|AcceptFault)\b"
-    r"|(?:Err\(|return |=> )(?:AllocError|SinkFault|AcceptFault)\b)"
+    r"\b(?:(?!ErrorKind)\w+::(?:OutOfMemory|NoMemory|SinkFault|SyncFault|NoCopy|NoPlace|JournalFault|JournalStopped|AcceptFault|Lost|Unplaced)\b"
+    r"|(?:Err\(|return |=> )(?:AllocError|SinkFault|SyncFault|AcceptFault|LentFault)\b)"
 )
-FILES = re.compile(r"\bset_len\b|\bFile::create\(|\btry_clone\b")
+CALLS = re.compile(r"\bset_len\b|\bFile::create\(|\btry_clone\b|\b(?:with_capacity|reserve|reserve_exact|resize)\(.*(?:<<|\b\d\d|\b\d_)")
 FUNCTION = re.compile(r"^\s*(?:pub(?:\([a-z]+\))? )?(?:const )?(?:unsafe )?fn (\w+)")
 LEFT_OUT = ("tfs_tests_", "tfs_bench", "tfs_probe")
 
@@ -63,11 +65,11 @@ def listed_places():
     return rows
 
 
-def file_calls():
-    """Calls in src/ that empty a file or make one twice over."""
+def wrong_calls():
+    """Calls in src/ that empty a file or make one twice over, or ask for room for a number without a name."""
     for path in sources():
         for function, line in code_lines(path.read_text(encoding="utf-8")):
-            if FILES.search(line):
+            if CALLS.search(line):
                 yield f"{path.relative_to(TOP)}: {function}: {line}"
 
 
@@ -77,4 +79,4 @@ def unlisted():
     for key in sorted(set(found) | set(listed)):
         if found.get(key, 0) != listed.get(key, 0):
             yield f"{' '.join(key)}: made {found.get(key, 0)} times, listed {listed.get(key, 0)} times"
-    yield from file_calls()
+    yield from wrong_calls()

@@ -25,7 +25,7 @@ class Serving:
     """The server on a folder, or a start that failed: then there is no line."""
 
     def __init__(self, folder, *words, port=None, workers="2", **how):
-        self.port = port or free_port()
+        self.folder, self.port = folder, port or free_port()
         words = [FOLDER_PROGRAM, "serve", str(folder), "--listen", f"{LOOPBACK}:{self.port}", "--workers", workers, *map(str, words)]
         self.process = subprocess.Popen(words, stdin=subprocess.DEVNULL, stdout=subprocess.PIPE, stderr=subprocess.PIPE, **how)
         STARTED.append(self.process)

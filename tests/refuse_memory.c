@@ -1,10 +1,12 @@
 /* Preloaded into the program: counts its requests for memory, and refuses those from REFUSE_FROM to REFUSE_TO, counted
    from 1. A request counts where its caller's code is the program's own; what the loader and the C library ask for is
    counted apart and never refused. At the end both counts are written to the descriptor COUNTS, also where the program ends
-   by _exit, as one with threads does. */
+   by _exit, as one with threads does. Behind them stand the bytes of the program's longest request, and the most memory that
+   was given out at once, where a block that is moved counts once, and a program that has threads counts it roughly. */
 #define _GNU_SOURCE
 #include <errno.h>
 #include <link.h>
+#include <malloc.h>
 #include <stdint.h>
 #include <stdio.h>
 #include <stdlib.h>
@@ -15,9 +17,11 @@ void *__libc_malloc(size_t);
 void *__libc_calloc(size_t, size_t);
 void *__libc_realloc(void *, size_t);
 void *__libc_memalign(size_t, size_t);
+void __libc_free(void *);
 
 static uintptr_t low, high;
-static long from, to, own, others;
+static long from, to, own, others, live, most;
+static size_t longest;
 static int counts = -1;
 
 static int find_program(struct dl_phdr_info *info, size_t size, void *unused) {
@@ -45,8 +49,8 @@ __attribute__((constructor)) static void begin(void) {
 }
 
 __attribute__((destructor)) static void end(void) {
-    char text[64];
-    int length = snprintf(text, sizeof text, "%ld %ld\n", own, others);
+    char text[96];
+    int length = snprintf(text, sizeof text, "%ld %ld %zu %ld\n", own, others, longest, most);
     if (counts < 0) return;
     if (write(counts, text, length) != length) abort();
     counts = -1;
@@ -58,30 +62,50 @@ void _exit(int status) {
     __builtin_unreachable();
 }
 
-/* Whether a request from this place in the code is refused. */
-static int refuses(void *place) {
+/* Whether a request for so many bytes from this place in the code is refused. */
+static int refuses(void *place, size_t size) {
     uintptr_t caller = (uintptr_t)place;
     if (caller < low || high <= caller) {
         others++;
         return 0;
     }
     own++;
+    if (longest < size) longest = size;
     if (own < from || to < own) return 0;
     errno = ENOMEM;
     return 1;
 }
 
-#define REFUSED refuses(__builtin_return_address(0))
+#define REFUSED(size) refuses(__builtin_return_address(0), size)
 
-void *malloc(size_t size) { return REFUSED ? NULL : __libc_malloc(size); }
-void *calloc(size_t count, size_t size) { return REFUSED ? NULL : __libc_calloc(count, size); }
-void *realloc(void *block, size_t size) { return REFUSED ? NULL : __libc_realloc(block, size); }
-void *aligned_alloc(size_t alignment, size_t size) { return REFUSED ? NULL : __libc_memalign(alignment, size); }
-void *memalign(size_t alignment, size_t size) { return REFUSED ? NULL : __libc_memalign(alignment, size); }
+static void *given(void *block) {
+    live += malloc_usable_size(block);
+    if (most < live) most = live;
+    return block;
+}
+
+static void *moved(void *block, size_t size) {
+    long before = malloc_usable_size(block);
+    void *found = __libc_realloc(block, size);
+    if (!found) return NULL;
+    live -= before;
+    return given(found);
+}
+
+void *malloc(size_t size) { return REFUSED(size) ? NULL : given(__libc_malloc(size)); }
+void *calloc(size_t count, size_t size) { return REFUSED(count * size) ? NULL : given(__libc_calloc(count, size)); }
+void *realloc(void *block, size_t size) { return REFUSED(size) ? NULL : moved(block, size); }
+void *aligned_alloc(size_t alignment, size_t size) { return REFUSED(size) ? NULL : given(__libc_memalign(alignment, size)); }
+void *memalign(size_t alignment, size_t size) { return REFUSED(size) ? NULL : given(__libc_memalign(alignment, size)); }
 
 int posix_memalign(void **block, size_t alignment, size_t size) {
-    void *found = REFUSED ? NULL : __libc_memalign(alignment, size);
+    void *found = REFUSED(size) ? NULL : given(__libc_memalign(alignment, size));
     if (!found) return ENOMEM;
     *block = found;
     return 0;
+}
+
+void free(void *block) {
+    live -= malloc_usable_size(block);
+    __libc_free(block);
 }

@@ -5,6 +5,7 @@ import subprocess
 import sys
 import tempfile
 from pathlib import Path
+from typing import NamedTuple
 
 from repository import TOP
 
@@ -37,17 +38,30 @@ def built(crate):
     return str(program)
 
 
-def run_refused(words, first, last, data=b"", **how):
-    """Runs a program, whose requests from the first to the last are refused: what it wrote, its status, what it wrote on
-    standard error, and the counts of its own requests and of others."""
+class Counts(NamedTuple):
+    """What a program asked for: its own requests and others', the bytes of its longest one, and the most that was given out at once."""
+
+    own: int
+    others: int
+    longest: int
+    most: int
+
+
+def run_counted(words, first, last, data=b"", **how):
+    """Runs a program, whose requests from the first to the last are refused: how it ended, and its counts."""
     reading, writing = os.pipe()
     given = {"LD_PRELOAD": str(SHIM), "REFUSE_FROM": str(first), "REFUSE_TO": str(last), "COUNTS": str(writing)}
     how = {"input": data, "stdout": subprocess.PIPE, "stderr": subprocess.PIPE, "timeout": SECONDS, "check": False, **how}
     ran = subprocess.run(words, env=given, pass_fds=[writing], **how)
     os.close(writing)
     with os.fdopen(reading) as counts:
-        own, others = map(int, counts.read().split())
-    return ran.stdout, ran.returncode, ran.stderr, own, others
+        return ran, Counts(*map(int, counts.read().split()))
+
+
+def run_refused(words, first, last, data=b"", **how):
+    """The same: what it wrote, its status, what it wrote on standard error, and the counts of its own requests and of others."""
+    ran, counts = run_counted(words, first, last, data, **how)
+    return ran.stdout, ran.returncode, ran.stderr, counts.own, counts.others
 
 
 def fault_of(words, ample, first, last, data=b""):
@@ -67,3 +81,8 @@ def count_of(words, ample, data=b""):
     if (output, status, fault) != (ample, 0, b"") or not own:
         raise AssertionError(f"with ample memory: {output[-200:]}, status {status}, {fault}, {own} requests")
     return own
+
+
+def most_of(words, data=b""):
+    """The most bytes that a program has at once, where no request is refused."""
+    return run_counted(words, 0, 0, data)[1].most

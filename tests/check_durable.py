@@ -1,0 +1,198 @@
+"""What `tfstatectl serve` tells is on the disk: over one that keeps only what was synced (lazy_disk.c), with kills at random moments, a sync that
+fails at each turn, and syncs that take long. KILLS says how many kills, SEED which ones."""
+import http.client
+import json
+import os
+import random
+import sys
+import threading
+import time
+
+from check_terms import serials_of, serving
+from checking import checks_in, expect, run_checks
+from folder_program import Serving
+from folders import LOOPBACK, all_of, ask_over, fresh
+from serve_program import preloaded, state
+
+KILLS, SEED = int(os.environ.get("KILLS", "20")), int(os.environ.get("SEED", "1"))
+GONE = (OSError, http.client.HTTPException)
+NAMES = [f"n{number}" for number in range(4)]
+
+
+def disk(**how):
+    """The surroundings of a server on the disk."""
+    return {**os.environ, "LD_PRELOAD": SHIM, **{name: str(value) for name, value in how.items()}}
+
+
+class Told:
+    """What a server has told: of each name the last serial that was acknowledged or read, and the greatest position."""
+
+    def __init__(self):
+        self.acknowledged, self.read, self.position, self.count = {}, {}, 0, 0
+
+    def push(self, connection, name):
+        serial = self.acknowledged.get(name, 0) + 1
+        if ask_over(connection, "POST", f"/state/{name}", state(serial, ("a",), ("b", "t.a")))[0] == 200:
+            self.acknowledged[name] = serial
+            self.count += 1
+
+    def look(self, connection, name):
+        status, text = ask_over(connection, "GET", f"/state/{name}")
+        if status == 200:
+            self.read[name] = max(self.read.get(name, 0), json.loads(text)["serial"])
+        status, text = ask_over(connection, "GET", f"/impact/{name}/any?of=t.a")
+        if status == 200:
+            answer = json.loads(text)
+            self.read[name] = max(self.read.get(name, 0), answer["serial"])
+            self.position = max(self.position, answer["position"])
+
+    def expect_in(self, folder, about):
+        """All of it is in the journals of a folder."""
+        serials, position = serials_of(folder)
+        for name in NAMES:
+            found, last = serials.get(name, []), self.acknowledged.get(name, 0)
+            expect(found, sorted(found), f"{about}: the order of {name}")
+            expect(sorted(set(found))[:last], list(range(1, last + 1)), f"{about}: {name}")
+            expect(self.read.get(name, 0) <= max(found, default=0), True, f"{about}: {name} was read with {self.read.get(name)}, found {found[-3:]}")
+        expect(self.position <= position, True, f"{about}: position {self.position} was told, the last one is {position}")
+
+
+def ask_on(server, step):
+    """Asks until the server is gone."""
+    connection = http.client.HTTPConnection(LOOPBACK, server.port, timeout=10)
+    try:
+        while True:
+            step(connection)
+    except GONE:
+        connection.close()
+
+
+def beside(server, told, readers):
+    """Threads that push to each name, and some that read."""
+    steps = [lambda connection, name=name: told.push(connection, name) for name in NAMES]
+    steps += [lambda connection, name=name: told.look(connection, name) for name in NAMES[:readers]]
+    threads = [threading.Thread(target=ask_on, args=(server, step)) for step in steps]
+    for thread in threads:
+        thread.start()
+    return threads
+
+
+def kill_beside(server, told, rng):
+    """Kills a server at a random moment under load."""
+    threads, count = beside(server, told, 3), told.count + rng.randrange(12)
+    while told.count < count:
+        time.sleep(0.001)
+    time.sleep(rng.random() * 0.02)
+    server.kill()
+    for thread in threads:
+        thread.join()
+
+
+def check_kills_lose_nothing_that_was_told():
+    folder, told, rng = fresh(), Told(), random.Random(SEED)
+    for kill in range(KILLS):
+        server = serving(folder, workers="8", env=disk(DELAY=rng.choice((0, 300, 3000))))
+        kill_beside(server, told, rng)
+        told.expect_in(folder, f"kill {kill}")
+    expect(told.count > KILLS and told.position > KILLS and len(told.read) == 3, True, "there was something to lose")
+
+
+def events_in(path):
+    """The letters of a trace, each with its thread."""
+    return [(line[0], line[2:]) for line in path.read_text().splitlines()]
+
+
+def expect_synced(path, about):
+    """Before the first byte of a reply to a change, a sync was done that began after the change was written. Gives how many such replies there are."""
+    events, begun, written, synced, replies = events_in(path), {}, {}, -1, 0
+    for place, (letter, thread) in enumerate(events):
+        if letter == "s":
+            begun[thread] = place
+        elif letter == "d":
+            synced = max(synced, begun[thread])
+        elif letter == "w":
+            written[thread] = place
+        elif letter == "r" and thread in written:
+            expect(written.pop(thread) < synced, True, f"{about}: a reply before its sync, at line {place + 1}")
+            replies += 1
+    return replies
+
+
+def check_no_reply_is_written_before_its_sync():
+    folder, told, trace = fresh(), Told(), fresh() / "trace"
+    server = serving(folder, workers="8", env=disk(DELAY=500, TRACE=trace))
+    threads = beside(server, told, 2)
+    while told.count < 500:
+        time.sleep(0.01)
+    server.kill()
+    for thread in threads:
+        thread.join()
+    replies = expect_synced(trace, "under load")
+    expect(replies >= told.count >= 500, True, f"{replies} replies, {told.count} were told")
+    syncs = sum(letter == "s" for letter, _ in events_in(trace))
+    expect(syncs < replies, True, f"{syncs} syncs for {replies} replies")
+
+
+def fail_at(turn):
+    """Has a sync fail: whether the server began. It ends with status 1, and what it told is there after a restart."""
+    folder, told, trace = fresh(), Told(), fresh() / "trace"
+    words = (folder, "--first", "--keep", "1000000")
+    server = Serving(*words, workers="8", env=disk(DELAY=500, FAIL=turn, TRACE=trace))
+    threads = beside(server, told, 2) if server.line else []
+    status, errors = server.end()
+    for thread in threads:
+        thread.join()
+    fault = "SyncFault: its journal can't be synced any more" if server.line else "CannotWrite"
+    expect((status, f": {fault}" in errors), (1, True), f"turn {turn}: {errors}")
+    expect_synced(trace, f"turn {turn}")
+    if server.line or any(path.endswith(".tfj") for path in all_of(folder)):
+        serving(folder).kill()
+        told.expect_in(folder, f"turn {turn}")
+    return bool(server.line)
+
+
+def check_after_a_sync_that_fails_nothing_is_told():
+    began = [fail_at(turn) for turn in range(1, 25)]
+    expect((began[0], began[-1], sum(began) > 10), (False, True, True), began)
+
+
+def check_a_write_or_a_sync_that_a_signal_interrupts_is_made_again():
+    folder, told = fresh(), Told()
+    server = serving(folder, env={**os.environ, "LD_PRELOAD": preloaded("interrupted_calls.c")})
+    for _ in range(9):
+        connection = http.client.HTTPConnection(LOOPBACK, server.port, timeout=10)
+        told.push(connection, "n0")
+        told.look(connection, "n0")
+        connection.close()
+    expect((told.acknowledged, told.read), ({"n0": 9}, {"n0": 9}))
+    server.kill()
+    told.expect_in(folder, "after all")
+
+
+def rate(server, names, seconds):
+    """How many changes a second are made by a writer on each name."""
+    told, end = Told(), time.monotonic() + seconds
+
+    def write(name):
+        connection = http.client.HTTPConnection(LOOPBACK, server.port, timeout=10)
+        while time.monotonic() < end:
+            told.push(connection, name)
+        connection.close()
+    threads = [threading.Thread(target=write, args=(name,)) for name in names]
+    for thread in threads:
+        thread.start()
+    for thread in threads:
+        thread.join()
+    return sum(told.acknowledged.values()) / seconds
+
+
+def check_one_sync_serves_many():
+    server = serving(fresh(), workers="16", env=disk(DELAY=5000))
+    one, many = rate(server, ["one"], 2), rate(server, [f"m{number}" for number in range(16)], 3)
+    server.kill()
+    expect(many >= 6 * one, True, f"{one:.0f} changes a second of one writer, {many:.0f} of 16")
+
+
+if __name__ == "__main__":
+    SHIM = preloaded("lazy_disk.c")
+    sys.exit(run_checks(checks_in(globals())))

@@ -1,0 +1,379 @@
+"""Runs the commands of `tfstatectl` that read a folder: on small folders by hand, and on folders at random, beside servers that write, against a
+plain model. Nothing of a folder is changed."""
+import json
+import os
+import random
+import shutil
+import subprocess
+import sys
+import threading
+
+from check_folder import broken, some_folder
+from checking import S1, S2, SECONDS, checks_in, expect, run_checks
+from folder_model import Fault, number_of
+from folder_program import FOLDER_PROGRAM, Serving, run
+from folders import LOOPBACK, NEWEST, PUSH1, PUSH2, REBASED, SHORT, all_of, at_once, fresh, named
+from journal_reader import push_content, record_text
+from impact_model import impact, instances_of
+from metrics import read_metrics
+from repository import TOP
+from sample_states import resource, text_of
+from stdio_model import json_of
+from version_model import as_json, counts, history, listing, newest_version, restored, version
+
+HARD = ['a"b', "c\\d", "e\nf", "é"]
+STATUSES = {"NoJournal": 6, "NoFolder": 8, "NotAllowed": 8, "TornBase": 3, "Damaged": 4, "Unlawful": 5, "Changing": 1, "Write": 1, "NoName": 11,
+            "NoState": 12, "BeforeOldest": 13, "BehindNewest": 13, "NotKept": 13, "LineageDiffers": 14, "SerialAtLimit": 15, "TooLong": 15, "UnknownAddress": 16, "TooManyAddresses": 16}
+WHO = {"ID": "x", "Operation": "OperationTypeApply", "Who": "ann@build", "Created": "2026-02-03T04:05:06Z", "Info": "", "Path": ""}
+TURNS = int(os.environ.get("VERSION_TURNS", "100"))
+
+
+def bytes_of(*words):
+    """What the program writes on standard output, which is to end well."""
+    ran = subprocess.run([FOLDER_PROGRAM, *map(str, words)], stdin=subprocess.DEVNULL, capture_output=True, timeout=SECONDS, check=False)
+    expect((ran.returncode, ran.stderr), (0, b""), words)
+    return ran.stdout
+
+
+def told(folder, *words):
+    """The rows that a command prints as JSON."""
+    return json.loads(bytes_of(words[0], folder, *words[1:], "--json"))
+
+
+def refused(fault, folder, *words, output=None):
+    """A command that ends with a fault, and changes nothing: what it tells."""
+    before = all_of(folder) if folder.is_dir() else None
+    status, written, errors = run(words[0], folder, *words[1:])
+    expect((status, f": {fault}" in errors, len(errors.splitlines())), (STATUSES[fault], True, 1), f"{words}: {errors}")
+    if output is None:
+        expect(written, "", words)
+    expect(all_of(folder) if before is not None else None, before, f"{words}: nothing is changed")
+    return errors
+
+
+def state(serial, lineage=b"L1"):
+    return b'{"version":4, "serial":%d ,"lineage":"%s"}' % (serial, lineage)
+
+
+def put_away(folder, **files):
+    """The folder, with journals in its `old/`."""
+    (folder / "old").mkdir()
+    for name, data in files.items():
+        (folder / "old" / f"{named(int(name[1:]))}.tfj").write_bytes(data)
+    return folder
+
+
+def some_past():
+    """A folder with two journals, of which the older one was put away."""
+    return put_away(fresh(n3=SHORT + PUSH2 + record_text(1, b"a", json.dumps(WHO).encode())), n2=b"TFJ1\n" + PUSH1)
+
+
+def check_a_history_has_each_act_once_in_order():
+    rows = told(some_past(), "history", "a")
+    wanted = [{"position": 1, "act": "push", "serial": 1, "instances": 0, "bytes": 41, "id": None},
+              {"position": 2, "act": "push", "serial": 2, "instances": 0, "bytes": 41, "id": None},
+              {"position": 3, "act": "lock", "id": "x", "who": "ann@build", "operation": "OperationTypeApply", "created": "2026-02-03T04:05:06Z"}]
+    expect(rows, wanted)
+    lines = bytes_of("history", some_past(), "a").decode().splitlines()
+    expect([line.split()[:3] for line in lines], [["position", "act", "serial"], ["1", "push", "1"], ["2", "push", "2"], ["3", "lock", "-"]])
+    expect("ann@build" in lines[3], True, lines)
+
+
+def check_a_list_has_each_name_with_its_holder():
+    rows = told(some_past(), "list")
+    expect(rows, [{"name": "a", "serial": 2, "instances": 0, "bytes": 41, "holder": "x", "who": "ann@build", "operation": "OperationTypeApply",
+                   "created": "2026-02-03T04:05:06Z"}])
+    expect(bytes_of("list", fresh(n1=b"TFJ1\n"), "--json"), b"[]\n")
+    expect(len(bytes_of("list", fresh(n1=b"TFJ1\n")).splitlines()), 1, "the names of the columns alone")
+
+
+def check_other_peoples_texts_are_escaped_in_tables():
+    bad = {"ID": "a\u202eb", "Who": "red\x1b[31m\n\x9b\x7f", "Operation": "é"}
+    folder = fresh(n3=SHORT + record_text(1, b"a", json.dumps(bad).encode()))
+    for words in (("list", folder), ("history", folder, "a")):
+        text = bytes_of(*words).decode()
+        expect((r"red\u{1b}[31m\u{a}\u{9b}\u{7f}" in text, r"a\u{202e}b" in text, "é" in text), (True, True, True), text)
+        expect([c for c in text if ord(c) < 32 and c != "\n"], [], text)
+    expect(told(folder, "list")[0]["who"], bad["Who"], "JSON has its own escapes")
+
+
+def check_versions_are_printed_byte_for_byte():
+    folder = some_past()
+    expect([bytes_of("show", folder, "a", *words) for words in ((), ("--position", 1), ("--position", 2), ("--position", 3))], [S2, S1, S2, S2])
+    hard = b'{ "version" :4,\r\n\t"serial":7,"lineage":"\\u00e9\xc3\xa9","resources":null, "x":1e400000}'.replace(b"1e400000", b"1.50")
+    gone = record_text(4, b"a", b"")
+    folder = fresh(n3=SHORT + gone + record_text(3, b"a", push_content(b"", hard)) + gone)
+    expect(bytes_of("show", folder, "a", "--position", "3"), hard)
+    refused("NoState", folder, "show", "a")
+    refused("NoState", folder, "show", "a", "--position", "2")
+    expect(bytes_of("restore", folder, "a", "--position", "3"), hard, "there is no state now")
+
+
+def check_faults_name_what_is_not_there():
+    folder = some_past()
+    errors = refused("BehindNewest", folder, "show", "a", "--position", "4")
+    expect("newest position is 3" in errors, True, errors)
+    for words in (("show", "b"), ("show", "b", "--position", "2"), ("history", "b"), ("restore", "b", "--position", "1"), ("history", "no name")):
+        refused("NoName", folder, *words)
+    refused("NoState", folder, "show", "a", "--position", "0")
+    (folder / "old" / f"{named(2)}.tfj").unlink()
+    errors = refused("BeforeOldest", folder, "show", "a", "--position", "0")
+    expect("begins at position 1" in errors, True, errors)
+    expect(bytes_of("show", folder, "a", "--position", "1"), S1, "the base has it")
+    refused("NotKept", put_away(fresh(n4=REBASED), n2=b"TFJ1\n" + PUSH1), "show", "a", "--position", "2")
+    refused("NoJournal", fresh(), "list")
+    refused("NoFolder", fresh() / "none", "list")
+    table = (("list",), ("history", folder), ("restore", folder, "a"), ("show", folder, "a", "--position", "x"), ("list", folder, "more"), ("unknown", folder))
+    for words in table:
+        status, output, errors = run(*words)
+        expect((status, output, bool(errors)), (2, "", True), words)
+
+
+def check_a_folder_that_may_not_be_entered():
+    folder = some_past()
+    if os.geteuid() == 0:
+        shutil.rmtree(folder)
+        folder.write_bytes(b"")
+        refused("NoFolder", folder, "list")
+        return
+    folder.chmod(0)
+    status, _, errors = run("list", folder)
+    folder.chmod(0o700)
+    expect((status, "NotAllowed" in errors), (8, True), errors)
+
+
+def check_what_is_whole_is_shown_before_a_damage():
+    late = NEWEST[:-1] + bytes([NEWEST[-1] ^ 1])
+    for data, fault in ((late, "Damaged"), (SHORT + PUSH2 + PUSH1, "Unlawful")):
+        folder = fresh(n3=data)
+        status, output, errors = run("history", folder, "a", "--json")
+        expect((status, [row["serial"] for row in json.loads(output)], f"{named(3)}.tfj: {fault}" in errors), (STATUSES[fault], [2], True), errors)
+        refused(fault, folder, "list")
+        expect(bytes_of("show", folder, "a", "--position", "2"), S2)
+    refused("TornBase", fresh(n3=NEWEST[:40]), "history", "a")
+    folder = fresh(n3=NEWEST, n4=REBASED[:40])
+    expect((told(folder, "list")[0]["serial"], len(told(folder, "history", "a"))), (2, 2), "what a failed start left is passed over")
+    torn = fresh(n3=NEWEST[:-5])
+    expect((told(torn, "list")[0]["holder"], len(told(torn, "history", "a"))), (None, 1), "a record that is being written")
+
+
+def check_restored_states_differ_in_their_serial():
+    other = record_text(3, b"a", push_content(b"", state(9, b"L2")))
+    gone = record_text(4, b"a", b"")
+    expect(bytes_of("restore", fresh(n3=NEWEST), "a", "--position", "1"), S1.replace(b"1 ", b"3 "))
+    refused("LineageDiffers", fresh(n3=SHORT + gone + other), "restore", "a", "--position", "1")
+    top = record_text(3, b"a", push_content(b"", state(2**64 - 1)))
+    refused("SerialAtLimit", fresh(n3=SHORT + top), "restore", "a", "--position", "1")
+    near = record_text(3, b"a", push_content(b"", state(2**64 - 2)))
+    expect(bytes_of("restore", fresh(n3=SHORT + near), "a", "--position", "1"), S1.replace(b"1 ", b"18446744073709551615 "))
+    table = [(b'{"serial":"x","version":4,"serial":[1,{"serial":2}],"lineage":"L1","serial":3,"z":{"serial":4}}', b'"serial":3', b'"serial":5'),
+             (b'{"version":4,"lineage":"L1","\\u0073erial"  :\t3\n,"x":"3"}', b":\t3", b":\t5"), (b'{"version":4,"lineage":"L1","serial":3}', b"3}", b"5}"),
+             (b'{"a":"\\"serial\\":3","version":4,"lineage":"L1","serial":3 , "b":[3,"serial"]}', b":3 ,", b":5 ,")]
+    for text, was, new in table:
+        push = record_text(3, b"a", push_content(b"", text))
+        last = record_text(3, b"a", push_content(b"", state(4)))
+        expect(bytes_of("restore", fresh(n3=b"TFJ1\n" + push + last), "a", "--position", "1"), text.replace(was, new), text)
+
+
+def check_a_restored_state_is_taken_by_a_push():
+    folder = some_past()
+    server = Serving(folder).listens()
+    text = bytes_of("restore", folder, "a", "--position", "1")
+    expect(server.ask("UNLOCK", "/state/a"), (200, b""))
+    expect(server.ask("POST", "/state/a", text), (200, b""))
+    expect(server.ask("GET", "/state/a"), (200, S1.replace(b"1 ", b"3 ")))
+    expect([row["act"] for row in told(folder, "history", "a")], ["push", "push", "lock", "unlock", "push"], "while it is served")
+
+
+def graph():
+    """A state in which instances depend on others, and the instances as the model reads them."""
+    texts = [resource("a", [{"index_key": key} for key in (0, 1, *HARD)])]
+    texts += [resource("b", [{"dependencies": ["t.a"]}]), resource("c", [{"index_key": key, "dependencies": ["t.b", "t.none"]} for key in ("x", "y")])]
+    data = text_of([*texts, resource("d", [{}]), resource("e", [{"dependencies": ["t.d", "t.e"]}])])
+    return data, instances_of(dict(json_of(data)))
+
+
+def quoted(instance):
+    return '"' + instance.address.replace("\\", "\\\\").replace('"', '\\"').replace("\n", "\\n") + '"'
+
+
+def drawn(instances, among, chosen):
+    """The lines of a picture, by the model."""
+    nodes = [f"  {quoted(instances[u])}{' [style=filled]' if u in chosen else ''};" for u in among]
+    edges = [f"  {quoted(instances[u])} -> {quoted(instances[v])};" for u in among for v in among
+             if instances[v].configuration in instances[u].dependencies]
+    return ["digraph {", *nodes, *edges, "}"]
+
+
+def check_an_impact_is_that_of_the_server_and_of_the_model():
+    data, instances = graph()
+    folder = fresh(n1=b"TFJ1\n" + record_text(3, b"a", push_content(b"", data)))
+    for kind, texts in (("any", ["t.a"]), ("all", ["t.a", "t.d"]), ("any", ["t.a[0]", "t.d"]), ("any", ["t.e"]), ("all", ['t.c["x"]'])):
+        words = ("impact", folder, "a", kind, *texts)
+        wanted = impact(kind, texts, instances)
+        expect([row["instance"] for row in json.loads(bytes_of(*words, "--json"))], wanted, texts)
+        expect(bytes_of(*words).decode().splitlines()[1:], [address.replace("\n", "\\u{a}") for address in wanted], texts)
+        chosen = [u for u, instance in enumerate(instances) if instance.address in wanted]
+        expect(bytes_of(*words, "--dot").decode().splitlines(), drawn(instances, range(len(instances)), chosen), texts)
+        expect(bytes_of(*words, "--dot", "--answer-only").decode().splitlines(), drawn(instances, chosen, chosen), texts)
+    refused("UnknownAddress", folder, "impact", "a", "any", "t.a", "t.unknown")
+    refused("TooManyAddresses", folder, "impact", "a", "any", *["t.a"] * 65)
+    refused("NoName", folder, "impact", "b", "any", "t.a")
+    for words in (("any",), ("other", "t.a"), ()):
+        expect(run("impact", folder, "a", *words)[0], 2, words)
+
+
+class Project:
+    """A configuration whose state is kept by a server, and Terraform in its folder."""
+
+    def __init__(self, port):
+        self.folder = fresh()
+        address = f"http://{LOOPBACK}:{port}/state/prod"
+        (self.folder / "backend.tf").write_text(f'terraform {{\n  backend "http" {{\n    address = "{address}"\n    lock_address = "{address}"\n'
+                                                f'    unlock_address = "{address}"\n    retry_max = 0\n  }}\n}}\n')
+
+    def run(self, script):
+        """What a script of the page prints, which is to end well."""
+        tool = self.folder / "bin"
+        tool.mkdir(exist_ok=True)
+        if not (tool / "tfstatectl").exists():
+            (tool / "tfstatectl").symlink_to(os.path.abspath(FOLDER_PROGRAM))
+        variables = {**os.environ, "PATH": f"{tool}:{os.environ['PATH']}", "CHECKPOINT_DISABLE": "1", "TF_IN_AUTOMATION": "1", "HOME": str(self.folder),
+                     "TF_CLI_ARGS": "-no-color", "TF_CLI_CONFIG_FILE": "/dev/null"}
+        how = {"cwd": self.folder, "env": variables, "stdin": subprocess.DEVNULL, "capture_output": True, "timeout": SECONDS}
+        ran = subprocess.run(["sh", "-e", "-c", script], check=False, **how)
+        expect(ran.returncode, 0, f"{script}: {ran.stdout.decode()} {ran.stderr.decode()}")
+        return ran.stdout.decode()
+
+    def apply(self, value):
+        (self.folder / "main.tf").write_text(f'resource "terraform_data" "a" {{ input = "{value}" }}\n'
+                                             'resource "terraform_data" "b" { input = terraform_data.a.id }\n')
+        self.run("terraform apply -auto-approve")
+
+
+def check_the_page_goes_back_with_terraform():
+    if not shutil.which("terraform"):
+        print("terraform isn't there: the page's commands aren't run")
+        return
+    commands = [line.strip() for line in (TOP / "docs" / "VERSIONS.md").read_text().splitlines() if line.startswith("    ")]
+    folder = fresh(n1=b"TFJ1\n")
+    server = Serving(folder).listens()
+    project = Project(server.port)
+    project.run("terraform init")
+    project.apply("first")
+    project.apply("second")
+    printed = {line: project.run(line.replace("/var/lib/tfstated/journal", str(folder))) for line in commands}
+    expect(len(printed), 9, commands)
+    expect([row["act"] for row in told(folder, "history", "prod")][:6], ["lock", "push", "unlock", "lock", "push", "unlock"])
+    expect("terraform_data.b" in printed["tfstatectl impact /var/lib/tfstated/journal prod any terraform_data.a"], True, printed)
+    then, newest = (json.loads((project.folder / name).read_text()) for name in ("then.json", "newest.json"))
+    current = json.loads(server.ask("GET", "/state/prod")[1])
+    expect((current["serial"] > newest["serial"], current["resources"]), (True, then["resources"]), current)
+    expect('"first" -> "second"' in printed["terraform plan"], True, printed["terraform plan"])
+
+
+def check_closed_output_is_told():
+    folder = some_past()
+    for words in (("list", folder), ("history", folder, "a"), ("show", folder, "a")):
+        with open("/dev/full", "wb") as full:
+            ran = subprocess.run([FOLDER_PROGRAM, *map(str, words)], stdout=full, stderr=subprocess.PIPE, timeout=SECONDS, check=False)
+        expect((ran.returncode, b": Write" in ran.stderr), (1, True), words)
+
+
+def outcome(work):
+    """What the model says: what is printed, or a fault and the number of its journal."""
+    try:
+        return work(), None
+    except Fault as fault:
+        return None, fault.args
+
+
+def read_by(command):
+    """What reads the output of a command."""
+    return {"show": bytes, "restore": bytes, "stats": counted}.get(command, lambda output: as_json(json.loads(output)))
+
+
+def counted(output):
+    """The numbers of `stats`, but for ages."""
+    return {name: value for name, (value, _) in read_metrics(output.decode()).items() if "_age_" not in name}
+
+
+def compare(about, folder, words, wanted, fault):
+    """A command prints what the model says, and ends as it says."""
+    ran = subprocess.run([FOLDER_PROGRAM, words[0], folder, *words[1:]], stdin=subprocess.DEVNULL, capture_output=True, timeout=SECONDS, check=False)
+    printed = read_by(words[0])(ran.stdout) if ran.stdout else b""
+    expect(printed, wanted if wanted is not None else b"", f"{about} {words}: {ran.stderr}")
+    expect(ran.returncode, STATUSES[fault[0]] if fault else 0, f"{about} {words}: {ran.stderr}")
+    if fault:
+        parts = [f": {fault[0]}", f"{named(fault[1])}.tfj"] if fault[1] is not None else [f": {fault[0]}"]
+        expect([part for part in parts if part.encode() not in ran.stderr], [], f"{about} {words}: {ran.stderr}")
+    return fault[0] if fault else "told"
+
+
+def expect_random(case):
+    """The commands on a folder at random tell what the model says: which ends were met."""
+    turn, files, away, chance = case
+    folder, about = fresh(), f"folder {turn}: {files} {away}"
+    for name, data in files.items():
+        (folder / name).write_bytes(data)
+    (folder / "old").mkdir()
+    for name, data in away.items():
+        (folder / "old" / name).write_bytes(data)
+    here = {number_of(name): data for name, data in files.items() if number_of(name) is not None}
+    whole = {**{number_of(name): data for name, data in away.items() if number_of(name) is not None}, **here}
+    met = {compare(about, folder, ("list", "--json"), *outcome(lambda: as_json(listing(here))))}
+    found, fault = outcome(lambda: counts(here))
+    met.add(compare(about, folder, ("stats",), found[0] if found else None, fault or found[1]))
+    for name in ("a", "b"):
+        rows, fault = outcome(lambda own=name: history(whole, own))
+        met.add(compare(about, folder, ("history", name, "--json"), as_json(rows[0]) if rows else None, fault or rows[1]))
+        met.add(compare(about, folder, ("show", name), *outcome(lambda own=name: newest_version(here, own))))
+        for position in chance.sample([*range(12), 2**62 - 1, 2**62, 2**64 - 1], 3):
+            words = (name, "--position", str(position))
+            met.add(compare(about, folder, ("show", *words), *outcome(lambda own=name, at=position: version(whole, own, at))))
+            met.add(compare(about, folder, ("restore", *words), *outcome(lambda own=name, at=position: restored(here, whole, own, at))))
+    return met
+
+
+def some_split(turn):
+    """A folder at random, some of whose first journals were put away."""
+    chance = random.Random(turn)
+    files = broken(chance, some_folder(chance))
+    names = sorted(files)
+    away = names[: chance.randrange(len(names) + 1)] if chance.random() < 0.6 else []
+    return turn, {name: files[name] for name in names if name not in away}, {name: files[name] for name in away}, chance
+
+
+def check_random_folders_are_told_as_the_model_says():
+    met = set().union(*at_once(expect_random, [some_split(turn) for turn in range(TURNS)]))
+    expect(met >= {"told", "NoJournal", "Damaged", "Unlawful", "TornBase", "NoName", "NoState", "BeforeOldest", "BehindNewest"}, True, met)
+
+
+def check_reading_beside_a_server_that_writes_and_starts_anew():
+    folder, done = fresh(n1=b"TFJ1\n"), threading.Event()
+    acknowledged, faults = [0], []
+
+    def read():
+        while not done.is_set():
+            least = acknowledged[0]
+            rows = told(folder, "history", "a")
+            if [row["serial"] for row in rows] != [*range(1, len(rows) + 1)] or len(rows) < least:
+                faults.append((least, rows))
+
+    server = Serving(folder).listens()
+    expect(server.ask("POST", "/state/a", state(1)), (200, b""))
+    reader = threading.Thread(target=read)
+    reader.start()
+    for serial in range(2, 61):
+        if serial % 20 == 0:
+            server.kill()
+            server = Serving(folder).listens()
+        expect(server.ask("POST", "/state/a", state(serial)), (200, b""))
+        acknowledged[0] = serial
+    done.set()
+    reader.join()
+    expect(faults, [])
+
+
+if __name__ == "__main__":
+    sys.exit(run_checks(checks_in(globals())))

@@ -1,0 +1,120 @@
+"""Makes the package and looks at it without installing it: its files and their sums, what its control file and its manual pages say, and its units."""
+import hashlib
+import re
+import shutil
+import subprocess
+import sys
+import tarfile
+import tempfile
+from pathlib import Path
+
+import package
+from checking import SECONDS, checks_in, expect, run_checks
+from repository import TOP
+
+FOLDER = tempfile.TemporaryDirectory(prefix="tfstated-")
+ROOT = Path(FOLDER.name) / "root"
+UNITS = ["tfstated", "tfstated-copy", "tfstated-standby", "tfstated-stats"]
+WANTED = """usr/bin/tfstatectl usr/bin/tfstated usr/share/man/man8/tfstatectl.8.gz usr/share/man/man1/tfstated.1.gz
+lib/systemd/system/tfstated.service lib/systemd/system/tfstated-copy.service lib/systemd/system/tfstated-copy.timer
+lib/systemd/system/tfstated-standby.service lib/systemd/system/tfstated-standby.timer
+lib/systemd/system/tfstated-stats.service lib/systemd/system/tfstated-stats.timer
+usr/share/doc/tfstated/README.md usr/share/doc/tfstated/IMPACT.md usr/share/doc/tfstated/FOLDER.md usr/share/doc/tfstated/VERSIONS.md usr/share/doc/tfstated/copyright
+usr/share/doc/tfstated/SHA256SUMS usr/share/tfstated/nginx.conf usr/share/tfstated/nginx-access.conf
+usr/share/tfstated/postinst usr/share/tfstated/impact_comment.py usr/share/tfstated/impact-gitlab.yml usr/share/tfstated/impact-github.yml"""
+
+
+def made(ending):
+    return package.DIST / f"{package.NAME}{ending}"
+
+
+def tool(*words):
+    """The status of a tool, and what it prints."""
+    ran = subprocess.run([str(word) for word in words], stdout=subprocess.PIPE, stderr=subprocess.STDOUT, timeout=SECONDS, check=False)
+    return ran.returncode, ran.stdout.decode()
+
+
+def check_both_archives_have_the_same_files():
+    expect(tool("dpkg-deb", "--extract", made(".deb"), ROOT)[0], 0)
+    expect({str(path.relative_to(ROOT)) for path in package.files_of(ROOT)}, set(WANTED.split()))
+    with tarfile.open(made(".tar.gz")) as archive:
+        members = {member.name[2:]: member for member in archive.getmembers() if member.isfile()}
+        expect(set(members), set(WANTED.split()))
+        for name, member in members.items():
+            expect(archive.extractfile(member).read() == (ROOT / name).read_bytes(), True, name)
+            expect((member.uid, member.mode), (0, 0o755 if "/bin/" in name or name.endswith("/postinst") else 0o644), name)
+
+
+def check_the_sums_are_those_of_the_files():
+    for sums, folder in ((made(".sha256"), package.DIST), (ROOT / "usr/share/doc/tfstated/SHA256SUMS", ROOT)):
+        lines = [line.split("  ") for line in sums.read_text().splitlines()]
+        expect(len(lines) in (2, len(WANTED.split()) - 1), True, sums)
+        expect([hashlib.sha256((folder / name).read_bytes()).hexdigest() for _, name in lines], [told for told, _ in lines])
+
+
+def check_a_second_run_makes_the_same_bytes():
+    before = [made(ending).read_bytes() for ending in (".deb", ".tar.gz")]
+    expect(package.main(), 0)
+    expect([made(ending).read_bytes() for ending in (".deb", ".tar.gz")] == before, True)
+
+
+def check_the_control_file():
+    fields = dict(re.findall(r"^([A-Z][\w-]+): (.*)$", tool("dpkg-deb", "--field", made(".deb"))[1], re.M))
+    wanted = {"Package": "tfstated", "Version": package.VERSION, "Architecture": "amd64"}
+    expect({name: fields.get(name) for name in wanted}, wanted)
+    expect(re.fullmatch(r"libc6 \(>= 2\.[0-9]+(\.[0-9]+)?\), passwd", fields["Depends"]) is not None, True, fields["Depends"])
+    scripts = tool("dpkg-deb", "--ctrl-tarfile", made(".deb"))[0]
+    expect(scripts, 0)
+
+
+def check_the_manual_pages_have_no_fault():
+    tools = [("mandoc", ("mandoc", "-T", "lint", "-W", "warning")), ("man", ("man", "--warnings=w", "-E", "UTF-8", "-l", "-Tutf8", "-Z"))]
+    there = [words for name, words in tools if shutil.which(name)]
+    expect(there != [], True, "mandoc or man is there")
+    for page in ("man8/tfstatectl.8", "man1/tfstated.1"):
+        text = subprocess.run(["gzip", "-dc", ROOT / f"usr/share/man/{page}.gz"], stdout=subprocess.PIPE, check=True).stdout
+        path = ROOT.parent / Path(page).name
+        path.write_bytes(text)
+        for words in there:
+            ran = subprocess.run([*words, path], capture_output=True, timeout=SECONDS, check=False)
+            told = ran.stderr.decode() + (ran.stdout.decode() if words[0] == "mandoc" else "")
+            expect((ran.returncode, told), (0, ""), words)
+
+
+def check_the_manual_has_each_option_and_each_status():
+    text = (ROOT.parent / "tfstatectl.8").read_text().replace("\\-", "-")
+    told = tool(package.program("tfstatectl"), "serve", "--help")[1]
+    options = re.findall(r"--([a-z-]+)", told)
+    expect(len(options) > 6, True, options)
+    expect([option for option in options if f"Fl -{option}" not in text], [])
+    expect([status for status in range(11) if not re.search(rf"^\.It (?:\d, )?{status}\b", text, re.M)], [])
+
+
+def check_a_start_that_a_person_has_to_look_at_is_not_tried_again():
+    """The unit against the table of docs/FOLDER.md."""
+    table = re.findall(r"^\| ([0-9, ]+) \| .* \|(.*)\|$", (TOP / "docs" / "FOLDER.md").read_text(), re.M)
+    again = {status for told, words in table for status in told.split(", ") if "may help" in words}
+    others = {status for told, words in table for status in told.split(", ")} - again
+    expect((len(again), len(others)), (2, 8))
+    line = re.findall(r"^RestartPreventExitStatus=(.*)$", (TOP / "deploy" / "tfstated.service").read_text(), re.M)
+    expect(set(line[0].split()), others)
+
+
+def check_systemd_reads_the_units():
+    if not shutil.which("systemd-analyze"):
+        print("systemd-analyze isn't there: the units aren't read by it")
+        return
+    for target in ("sysinit", "basic", "shutdown", "multi-user", "timers", "network-online", "network", "local-fs"):
+        package.put(ROOT, f"lib/systemd/system/{target}.target", b"[Unit]\nDescription=a target\n")
+    for name in ("usr/bin/rsync", "usr/bin/find", "bin/sh"):
+        package.put(ROOT, name, b"", 0o755)
+    units = [ROOT / f"lib/systemd/system/{name}.service" for name in UNITS]
+    status, told = tool("systemd-analyze", "verify", "--man=no", f"--root={ROOT}", *units)
+    expect((status, told), (0, ""))
+
+
+if __name__ == "__main__":
+    if not shutil.which("dpkg-deb"):
+        sys.exit("not installed: dpkg-deb")
+    package.main()
+    sys.exit(run_checks(checks_in(globals())))

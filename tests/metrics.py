@@ -1,0 +1,29 @@
+"""Reads the text format of Prometheus (prometheus.io/docs/instrumenting/exposition_formats), as far as numbers without labels and times need it."""
+import re
+
+NAME = "[a-zA-Z_:][a-zA-Z0-9_:]*"
+HELP = re.compile(rf"# HELP ({NAME}) ((?:[^\\\n]|\\\\|\\n)+)")
+TYPE = re.compile(rf"# TYPE ({NAME}) (counter|gauge|histogram|summary|untyped)")
+SAMPLE = re.compile(rf"({NAME}) ([0-9]+(?:\.[0-9]+)?)")
+
+
+def number_in(text):
+    """A number: exact where it is whole."""
+    return int(text) if text.isdigit() else float(text)
+
+
+def read_metrics(text):
+    """The value and the kind of each number by its name. Each has one help text, then one kind, then one value; a count of what has happened is
+    a counter, and its name ends in `_total`."""
+    if not text.endswith("\n"):
+        raise ValueError("the last line has no end")
+    lines, found = text[:-1].split("\n"), {}
+    for three in zip(lines[::3], lines[1::3], lines[2::3], strict=True):
+        parts = [form.fullmatch(line) for form, line in zip((HELP, TYPE, SAMPLE), three)]
+        if None in parts or len({part[1] for part in parts}) != 1 or parts[0][1] in found:
+            raise ValueError(f"not a number's lines: {three}")
+        name, kind = parts[0][1], parts[1][2]
+        if (kind == "counter") != name.endswith("_total"):
+            raise ValueError(f"{name} is a {kind}")
+        found[name] = (number_in(parts[2][2]), kind)
+    return found

@@ -1,0 +1,178 @@
+"""Stand-ins for the commands of deploy/README.md that change a whole system, so that the page can be run in a folder: dpkg, install, runuser, systemctl,
+nginx, curl, usermod, ssh-keyscan, and rsync, which takes files from another folder in place of a machine. They know of one folder, which is the root of the page's paths, and of units what systemd does with their commands.
+
+    python3 tests/page_tools.py TOOL ARGUMENT ..
+
+ROOM names the folder: its `root` has the files, its `ports` the ports of nginx and of the server. FIRST names that of the first machine."""
+import os
+import re
+import shlex
+import shutil
+import signal
+import subprocess
+import sys
+import time
+from pathlib import Path
+
+from folders import LOOPBACK
+
+ROOM = Path(os.environ.get("ROOM", "."))
+ROOT, HOST = ROOM / "root", "tfstated.example.com"
+OWN = ("/var/lib/", "/var/backups", "/var/log/nginx", "/etc/nginx", "/etc/systemd", "/lib/systemd", "/usr/share/tfstated", "/usr/bin/tfstatectl")
+AROUND = """user root;
+daemon on;
+pid {room}/nginx.pid;
+error_log {room}/error.log;
+events {{}}
+http {{
+    client_body_temp_path {room}/bodies;
+    proxy_temp_path {room}/replies;
+    fastcgi_temp_path {room}/unused-1;
+    uwsgi_temp_path {room}/unused-2;
+    scgi_temp_path {room}/unused-3;
+    include {room}/site.conf;
+}}
+"""
+
+
+def moved(text):
+    """A text of the page or of a unit, whose paths and ports are those of the room."""
+    nginx, server = (ROOM / "ports").read_text().split()
+    for path in OWN:
+        text = re.sub(rf"(?<!{re.escape(str(ROOT))}){re.escape(path)}", f"{ROOT}{path}", text)
+    text = text.replace("127.0.0.1:8080", f"{LOOPBACK}:{server}").replace("/usr/bin/find", shutil.which("find")).replace("/usr/bin/rsync", "rsync")
+    return text.replace("listen 443 ssl;", f"listen {LOOPBACK}:{nginx} ssl;")
+
+
+def enter(room):
+    """Has all that follows know of another folder."""
+    global ROOM, ROOT
+    ROOM, ROOT = room, room / "root"
+
+
+def real(name):
+    """The command itself, which stands behind its stand-in on the PATH."""
+    path = os.pathsep.join(folder for folder in os.environ["PATH"].split(os.pathsep) if Path(folder) != ROOM / "tools")
+    return shutil.which(name, path=path)
+
+
+def run(*words):
+    return subprocess.run([str(word) for word in words], check=False).returncode
+
+
+def dpkg(words):
+    """Unpacks one package."""
+    if len(words) != 2 or words[0] != "-i":
+        return 2
+    return run(real("dpkg-deb"), "--extract", words[1], ROOT)
+
+
+def install(words):
+    """Leaves owners and groups out, since there is no user of the service."""
+    kept = [word for before, word in zip(["", *words], words) if word not in ("-o", "-g") and before not in ("-o", "-g")]
+    return run(real("install"), *kept)
+
+
+def runuser(words):
+    if words[:3] != ["-u", "tfstated", "--"]:
+        return 2
+    return run(*words[3:])
+
+
+def curl(words):
+    nginx = (ROOM / "ports").read_text().split()[0]
+    return run(real("curl"), "--connect-to", f"{HOST}:443:{LOOPBACK}:{nginx}", "--cacert", ROOM / "certificate.pem", *words)
+
+
+def rsync(words):
+    """Takes the journals of the first machine, as its key allows."""
+    first = f"{os.environ['FIRST']}/root/var/lib/tfstated/journal/"
+    if "tfstated@primary.example.com:/" not in words:
+        return 2
+    return run(real("rsync"), *(first if word.endswith(".com:/") else word for word in words))
+
+
+def nothing(words):
+    """What has no meaning in a folder: a login shell, the keys of another machine."""
+    return 0
+
+
+def nginx(words):
+    """Looks at the site of the page within a configuration of the room."""
+    (ROOM / "site.conf").write_text(moved((ROOT / "etc/nginx/conf.d/tfstated.conf").read_text()))
+    text = AROUND.format(room=ROOM)
+    (ROOM / "nginx.conf").write_text(text if os.getuid() == 0 else text.replace("user root;\n", ""))
+    return run(real("nginx"), "-p", ROOM, "-c", ROOM / "nginx.conf", *words)
+
+
+def commands_of(unit):
+    """The words of each command of a service, with those of its drop-ins: an empty one takes away those before it."""
+    folders = [ROOT / "etc/systemd/system", ROOT / "lib/systemd/system"]
+    files = [next(folder / unit for folder in folders if (folder / unit).exists()), *sorted((folders[0] / f"{unit}.d").glob("*.conf"))]
+    found = []
+    for command in re.findall(r"^ExecStart=(.*)$", "\n".join(file.read_text() for file in files), re.M):
+        found = found + [moved(command)] if command else []
+    return [shlex.split(command) for command in found]
+
+
+def start(unit):
+    """Starts the server and waits until it listens, or does what another unit does once."""
+    if unit != "tfstated.service":
+        return max((run(*command) for command in commands_of(unit)), default=0)
+    if alive():
+        return 0
+    with open(ROOM / "server.log", "wb") as log:
+        process = subprocess.Popen(commands_of(unit)[0], stdin=subprocess.DEVNULL, stdout=log, stderr=log, start_new_session=True)
+    (ROOM / "server.pid").write_text(str(process.pid))
+    end = time.monotonic() + 20
+    while b"listening" not in (ROOM / "server.log").read_bytes() and time.monotonic() < end and process.poll() is None:
+        time.sleep(0.05)
+    return 0 if b"listening" in (ROOM / "server.log").read_bytes() else 1
+
+
+def pid_of(name):
+    path = ROOM / f"{name}.pid"
+    return int(path.read_text()) if path.exists() and path.read_text().strip() else 0
+
+
+def alive(name="server"):
+    """Whether a process runs; one that has ended and waits for its parent doesn't."""
+    path = Path(f"/proc/{pid_of(name)}/stat")
+    return bool(pid_of(name)) and path.exists() and path.read_text().rpartition(")")[2].split()[0] != "Z"
+
+
+def stop(name):
+    """Ends the server or nginx, and waits until it has ended."""
+    if alive(name):
+        os.kill(pid_of(name), signal.SIGTERM)
+        while alive(name):
+            time.sleep(0.05)
+    return 0
+
+
+def act(verb, unit):
+    """What a verb of systemctl does with a unit."""
+    if unit == "nginx":
+        if verb == "reload":
+            return nginx(["-s", "reload"])
+        return stop("nginx") + nginx([])
+    unit = unit if "." in unit else f"{unit}.service"
+    if unit.endswith(".timer"):
+        return start(unit.replace(".timer", ".service")) if verb in ("start", "enable") else 0
+    if verb in ("stop", "restart"):
+        stop("server")
+    return start(unit) if verb in ("start", "restart", "enable") else 0
+
+
+def systemctl(words):
+    verb, *units = [word for word in words if word != "--now"]
+    known = ("enable", "disable", "start", "stop", "restart", "reload", "reset-failed", "daemon-reload")
+    return max((act(verb, unit) for unit in units), default=0) if verb in known else 2
+
+
+TOOLS = {"dpkg": dpkg, "install": install, "runuser": runuser, "curl": curl, "nginx": nginx, "systemctl": systemctl, "rsync": rsync}
+TOOLS.update({"usermod": nothing, "ssh-keyscan": nothing})
+
+
+if __name__ == "__main__":
+    sys.exit(TOOLS[sys.argv[1]](sys.argv[2:]))

@@ -1,0 +1,326 @@
+"""Installs the package into a fresh Debian tree and runs it under a systemd of its own, in a container without a network: each command of
+deploy/README.md, Terraform's cycle with TLS and a user, a kill, a damaged journal, a standby over ssh, and a removal that leaves the journals. It needs
+root, debootstrap, systemd-nspawn, Terraform and a Debian mirror, which MIRROR may name. The last line is `N passed, M failed`."""
+import json
+import os
+import re
+import shutil
+import subprocess
+import sys
+import tempfile
+import time
+from pathlib import Path
+
+import package
+from checking import SECONDS, STARTED, checks_in, expect, run_checks
+from page_blocks import blocks_of, titles
+from repository import TOP
+
+SUITE, KEPT = "bookworm", TOP / "out" / "package-test"
+INSTALLED = "systemd,systemd-sysv,nginx-light,openssl,curl,ca-certificates,jq,rsync,openssh-server,python3"
+NEXT = package.VERSION + "+next"
+MACHINE = "tfstated-test"
+CONFIGURATION = """terraform {
+  backend "http" {
+    address        = "https://tfstated.example.com/state/network.prod"
+    lock_address   = "https://tfstated.example.com/state/network.prod"
+    unlock_address = "https://tfstated.example.com/state/network.prod"
+    username       = "admin"
+  }
+}
+resource "terraform_data" "a" { input = "1" }
+resource "terraform_data" "b" { input = terraform_data.a.output }
+"""
+
+
+def tool(*words, **how):
+    return subprocess.run([str(word) for word in words], stdin=subprocess.DEVNULL, check=True, **how)
+
+
+def base_tree():
+    """A fresh Debian tree with systemd and nginx, which later runs copy."""
+    base = KEPT / SUITE
+    if not (base / "done").exists():
+        shutil.rmtree(base, ignore_errors=True)
+        base.parent.mkdir(parents=True, exist_ok=True)
+        mirror = [os.environ["MIRROR"]] if "MIRROR" in os.environ else []
+        with open(KEPT / "debootstrap.log", "wb") as log:
+            tool("debootstrap", "--variant=minbase", f"--include={INSTALLED}", SUITE, base, *mirror, stdout=log, stderr=log)
+        (base / "done").touch()
+    return base
+
+
+class Container:
+    """A Debian tree under a systemd of its own, with a loopback alone."""
+
+    def __init__(self, tree):
+        self.tree = tree
+        mount = "mkdir -p /run/systemd/nspawn && mount -t tmpfs tmpfs /run/systemd/nspawn && exec"
+        words = f"systemd-nspawn --quiet --keep-unit --register=no --private-network --boot --machine={MACHINE} --console=pipe --directory={tree}"
+        words += f" --bind-ro={shutil.which('terraform')}:/usr/local/bin/terraform"
+        self.log = open(KEPT / "boot.log", "wb")
+        how = {"stdin": subprocess.DEVNULL, "stdout": self.log, "stderr": self.log}
+        self.process = subprocess.Popen(["unshare", "--mount", "sh", "-c", f"{mount} {words}"], **how)
+        self.leader = None
+
+    def boots(self):
+        """Whether its systemd is up before long."""
+        end = time.monotonic() + SECONDS
+        while time.monotonic() < end and self.process.poll() is None:
+            children = Path(f"/proc/{self.process.pid}/task/{self.process.pid}/children").read_text().split()
+            if children:
+                self.leader = children[0]
+                if self.run("systemctl is-system-running")[1].strip() in ("running", "degraded"):
+                    return True
+            time.sleep(0.5)
+        return False
+
+    def run(self, script, given=None):
+        """The status of a script in it, and what it writes."""
+        words = ["nsenter", "--target", self.leader, "--all", "env", "-i", "PATH=/usr/local/bin:/usr/sbin:/usr/bin:/sbin:/bin", "HOME=/root", "LANG=C.UTF-8"]
+        how = {"stdout": subprocess.PIPE, "stderr": subprocess.STDOUT, "timeout": 2 * SECONDS, "check": False, "text": True}
+        ran = subprocess.run([*words, "bash", "-e", "-c", script], input=given or "", **how)
+        return ran.returncode, ran.stdout
+
+    def do(self, script, given=None):
+        """What a script in it writes, which is to end well."""
+        status, text = self.run(script, given)
+        expect(status, 0, f"{script}\n{text}")
+        return text
+
+    def end(self):
+        if self.leader:
+            self.run("systemctl poweroff")
+        try:
+            self.process.wait(SECONDS / 4)
+        except subprocess.TimeoutExpired:
+            self.process.kill()
+            self.process.wait()
+        self.log.close()
+
+
+BOX, PASSWORDS, DONE = None, {}, []
+
+
+def do(title):
+    """What the commands under a heading of the page write, which are to end well."""
+    DONE.append(title)
+    return "".join(BOX.do(f"cd /root\n{block}") for block in blocks_of(title))
+
+
+def waits_for(script, text=""):
+    """Waits until a script in the container ends well and writes a text."""
+    end, found = time.monotonic() + SECONDS, (1, "")
+    while time.monotonic() < end and (found[0] or text not in found[1]):
+        found = BOX.run(script)
+        time.sleep(0.5)
+    expect((found[0], text in found[1]), (0, True), f"{script}: {found[1]}")
+    return found[1]
+
+
+def check_it_installs_and_starts_nothing():
+    text = BOX.do("cd /root && dpkg -i tfstated_*_amd64.deb")
+    expect("nothing is started" in text, True, text)
+    expect(BOX.do("stat -c '%U %G %a' /var/lib/tfstated").split(), ["tfstated", "tfstated", "700"])
+    states = BOX.run("systemctl is-enabled tfstated tfstated-copy.timer tfstated-standby.timer")[1].split()
+    expect(states, ["disabled"] * 3)
+    expect(BOX.run("systemctl is-active tfstated")[1].strip(), "inactive")
+    expect(BOX.do("tfstatectl --version").split()[1], package.VERSION)
+    expect(BOX.do("cd / && sha256sum --quiet -c /usr/share/doc/tfstated/SHA256SUMS"), "")
+
+
+def check_the_first_day_of_the_page():
+    BOX.do("echo 127.0.0.1 tfstated.example.com >>/etc/hosts")
+    BOX.do("cd /root && openssl req -x509 -newkey ec -pkeyopt ec_paramgen_curve:prime256v1 -nodes -days 2 -keyout key.pem -out certificate.pem "
+           "-subj /CN=tfstated.example.com -addext subjectAltName=DNS:tfstated.example.com 2>&1")
+    BOX.do("cp /root/certificate.pem /usr/local/share/ca-certificates/tfstated.crt && update-ca-certificates 2>&1")
+    began = time.monotonic()
+    text = do("First day")
+    print(f"the commands of the first day take {time.monotonic() - began:.0f} seconds", flush=True)
+    PASSWORDS.update(line.split() for line in text.splitlines() if len(line.split()) == 2 and len(line.split()[1]) == 24)
+    expect(set(PASSWORDS), {"admin", "auditor", "network-ci"}, text)
+    expect(BOX.do("systemctl is-active tfstated nginx").split(), ["active", "active"])
+    expect(BOX.do("curl -fs https://tfstated.example.com/healthz"), "it answers\n")
+
+
+def terraform(*words):
+    """What Terraform writes in the container, which is to end well."""
+    return BOX.do(f"cd /root/project && TF_HTTP_PASSWORD='{PASSWORDS['admin']}' CHECKPOINT_DISABLE=1 terraform {' '.join(words)} -no-color 2>&1")
+
+
+def state():
+    return json.loads(BOX.do(f"curl -fs -u 'admin:{PASSWORDS['admin']}' https://tfstated.example.com/state/network.prod"))
+
+
+def check_terraform_applies_with_tls_and_a_user():
+    (BOX.tree / "root" / "project").mkdir()
+    (BOX.tree / "root" / "project" / "main.tf").write_text(CONFIGURATION)
+    terraform("init")
+    expect("2 added" in terraform("apply", "-auto-approve"), True)
+    expect([resource["name"] for resource in state()["resources"]], ["a", "b"])
+    expect("No changes" in terraform("plan"), True)
+
+
+def check_an_older_state_is_told():
+    expect("push" in do("Back to a version"), True)
+    expect(json.loads(BOX.do("cat /root/back.json"))["serial"], state()["serial"] + 1)
+
+
+def check_a_killed_server_comes_back_with_its_state():
+    before = state()
+    BOX.do("systemctl kill --signal=KILL tfstated")
+    waits_for(f"curl -fs -u 'admin:{PASSWORDS['admin']}' https://tfstated.example.com/state/network.prod")
+    expect(state(), before)
+    expect("No changes" in terraform("plan"), True)
+
+
+def check_the_timer_copies_as_the_user_of_the_service():
+    do("Copies")
+    waits_for("ls /var/backups/tfstated/journal", "journal-")
+    expect(BOX.do("stat -c %U /var/backups/tfstated/journal/*.tfj").split()[0], "tfstated")
+    expect("whole" in BOX.do("tfstatectl check /var/backups/tfstated/journal"), True)
+    expect(BOX.do("systemctl show -P Result tfstated-copy.service").strip(), "success")
+
+
+def check_a_damaged_journal_ends_the_start_for_good_and_a_copy_restores_it():
+    before = state()
+    BOX.do("systemctl start tfstated-copy.service && systemctl stop tfstated-copy.timer tfstated")
+    newest = BOX.do("ls /var/lib/tfstated/journal/*.tfj | tail -1").strip()
+    BOX.do(f"printf x | dd of={newest} bs=1 seek=60 conv=notrunc 2>&1")
+    BOX.run("systemctl start tfstated")
+    waits_for("systemctl is-failed tfstated", "failed")
+    expect(BOX.do("systemctl show -P ExecMainStatus tfstated; systemctl show -P NRestarts tfstated").split(), ["4", "0"])
+    expect("Damaged" in BOX.do("journalctl -u tfstated --no-pager -n 5"), True)
+    do("Restore")
+    waits_for("curl -fs https://tfstated.example.com/healthz")
+    expect(state(), before)
+
+
+def check_what_to_watch_and_users():
+    expect("a start goes on from" in do("What to watch"), True)
+    add, remove, allow = blocks_of("Users")
+    password = BOX.do(f"cd /root\n{add}").split()[-1]
+    ask = f"curl -s -o /dev/null -w '%{{http_code}}' -u 'ann:{password}' https://tfstated.example.com/state/network.prod"
+    expect(BOX.do(ask), "403")
+    BOX.do(allow)
+    waits_for(ask, "200")
+    BOX.do(remove)
+    expect(BOX.do(ask), "401")
+    DONE.append("Users")
+
+
+def check_a_full_disk_ends_the_server_until_there_is_room():
+    """The folder of the journals gets a disk of 4 MiB of its own, for so long."""
+    BOX.do("systemctl stop tfstated && mkdir /root/kept && cp -a /var/lib/tfstated/journal /root/kept && mount -t tmpfs -o size=4m,mode=700,uid=$(id -u tfstated) tmpfs "
+           "/var/lib/tfstated/journal && cp -a /root/kept/journal/*.tfj /var/lib/tfstated/journal && systemctl start tfstated")
+    waits_for("curl -fs https://tfstated.example.com/healthz")
+    state_of = 'printf \'{"version":4,"serial":%d,"lineage":"L","x":"%s"}\' $number "$(head -c 1000000 /dev/zero | tr "\\0" x)"'
+    push = f"for number in 1 2 3 4 5; do {state_of} | curl -s -o /dev/null -w '%{{http_code}} ' --data-binary @- http://127.0.0.1:8080/state/full; done"
+    expect(BOX.do(push).split(), ["200", "200", "200", "200", "500"])
+    waits_for("systemctl show -P ExecMainStatus tfstated", "1")
+    waits_for("journalctl -u tfstated --no-pager -n 20", "CannotWrite")
+    expect(BOX.run("systemctl is-failed tfstated")[1].strip(), "activating", "it is tried again")
+    BOX.do("mount -o remount,size=64m /var/lib/tfstated/journal")
+    waits_for("curl -fs https://tfstated.example.com/healthz")
+    expect(json.loads(BOX.do("curl -fs http://127.0.0.1:8080/state/full | jq 'del(.x)'"))["serial"] in (4, 5), True, "that which was answered 500 may be there")
+    BOX.do("systemctl stop tfstated && umount /var/lib/tfstated/journal && systemctl start tfstated")
+    waits_for("curl -fs https://tfstated.example.com/healthz")
+
+
+def check_a_least_position_that_the_server_raises():
+    do("The loss of a machine")
+    waits_for("curl -fs https://tfstated.example.com/healthz")
+    terraform("apply", "-auto-approve", "-replace=terraform_data.a")
+    position = int(BOX.do("cat /var/lib/tfstated-least/position"))
+    expect(position > 3, True, position)
+    BOX.do(f"echo {position + 1} >/var/lib/tfstated-least/position && systemctl restart tfstated || true")
+    waits_for("systemctl is-failed tfstated", "failed")
+    expect(BOX.do("systemctl show -P ExecMainStatus tfstated").strip(), "7")
+    BOX.do(f"echo {position} >/var/lib/tfstated-least/position && systemctl start tfstated")
+    waits_for("curl -fs https://tfstated.example.com/healthz")
+
+
+def check_a_standby_over_ssh_with_a_key_that_reads_the_journals_alone():
+    """Both machines are this one, so the standby gets other folders."""
+    standby, first, again, take_over = blocks_of("A warm standby")
+    BOX.do("echo 127.0.0.1 primary.example.com >>/etc/hosts && systemctl start ssh")
+    BOX.do(f"cd /root\n{standby}\ncp /var/lib/tfstated/.ssh/id_ed25519.pub standby.pub\n{first}\n{again}")
+    expect("ConditionPathExists" in BOX.do("systemctl status tfstated-standby.service || true"), True, "a server's folder takes no copies")
+    BOX.do("sed -i '/^Exec\\|^Cond/s#/var/lib/tfstated/journal#/var/lib/tfstated/standby#' /etc/systemd/system/tfstated-standby.service")
+    BOX.do("systemctl daemon-reload && systemctl start tfstated-standby.service")
+    newest = BOX.do("cd /var/lib/tfstated/journal && ls *.tfj | tail -1").strip()
+    BOX.do(f"cmp /var/lib/tfstated/journal/{newest} /var/lib/tfstated/standby/{newest}")
+    tried = BOX.run("runuser -u tfstated -- ssh -o BatchMode=yes tfstated@primary.example.com cat /etc/hostname")
+    expect(tried[0] != 0, True, tried)
+    BOX.do("rm /etc/systemd/system/tfstated-standby.service && systemctl daemon-reload")
+    BOX.do(take_over)
+    expect(BOX.run("systemctl is-enabled tfstated-standby.timer")[1].strip(), "disabled")
+    DONE.append("A warm standby")
+
+
+def check_an_upgrade_says_from_which_version_and_leaves_the_server():
+    before = BOX.do("systemctl show -P MainPID tfstated"), state()
+    BOX.do("cd /root && rm tfstated_*_amd64.deb && mv next.deb tfstated_next_amd64.deb")
+    install, *others = blocks_of("Upgrade")[0].splitlines()
+    text = BOX.do(f"cd /root && {install}")
+    expect(f"upgraded from {package.VERSION} to {NEXT}" in text, True, text)
+    expect((BOX.do("systemctl show -P MainPID tfstated"), state()), before, "the server goes on")
+    BOX.do("\n".join(others))
+    DONE.append("Upgrade")
+    waits_for("curl -fs https://tfstated.example.com/healthz")
+    expect(state(), before[1])
+
+
+def check_a_removal_leaves_the_journals():
+    before = BOX.do("ls /var/lib/tfstated/journal/")
+    text = BOX.do("dpkg -r tfstated")
+    expect("the journals in /var/lib/tfstated are left" in text, True, text)
+    expect(BOX.run("systemctl is-active tfstated")[1].strip(), "inactive")
+    expect((BOX.do("ls /var/lib/tfstated/journal/"), BOX.run("test -e /usr/bin/tfstatectl")[0]), (before, 1))
+    BOX.do("dpkg -P tfstated")
+    expect(BOX.do("ls /var/lib/tfstated/journal/"), before, "also where it is purged")
+    BOX.do("dpkg -i /root/tfstated_next_amd64.deb && systemctl start tfstated")
+    waits_for("curl -fs https://tfstated.example.com/healthz")
+    expect(state()["version"], 4, "and an installation goes on from them")
+
+
+def check_each_command_of_the_page_was_run():
+    expect(sorted(set(titles()) - set(DONE)), [])
+
+
+def next_deb(folder):
+    """The package again, under a higher version."""
+    tool("dpkg-deb", "--raw-extract", package.DIST / f"{package.NAME}.deb", folder)
+    for path in (folder / "DEBIAN").iterdir():
+        path.write_text(re.sub(rf"(?<![\d.]){re.escape(package.VERSION)}(?!\d|\.\d)", NEXT, path.read_text()))
+    tool("dpkg-deb", "--root-owner-group", "--build", folder, folder.parent / "next.deb", stdout=subprocess.DEVNULL)
+    return folder.parent / "next.deb"
+
+
+def main():
+    global BOX
+    missing = [name for name in ("debootstrap", "systemd-nspawn", "dpkg-deb", "terraform", "unshare", "nsenter") if not shutil.which(name)]
+    if os.getuid() or missing:
+        sys.exit(f"package-test: not here, since it needs {' and '.join(missing) or 'root'}")
+    package.main()
+    try:
+        base = base_tree()
+    except subprocess.CalledProcessError:
+        sys.exit(f"package-test: not here, since debootstrap fails: {KEPT}/debootstrap.log has why")
+    with tempfile.TemporaryDirectory(prefix="package-", dir=KEPT) as folder:
+        tree = Path(folder) / "tree"
+        tool("cp", "-a", base, tree)
+        shutil.copy(package.DIST / f"{package.NAME}.deb", tree / "root")
+        shutil.copy(next_deb(Path(folder) / "next"), tree / "root" / "next.deb")
+        BOX = Container(tree)
+        try:
+            if not BOX.boots():
+                sys.exit(f"package-test: not here, since systemd-nspawn boots no container: {KEPT}/boot.log has why")
+            return run_checks(checks_in(globals()))
+        finally:
+            BOX.end()
+            STARTED.clear()
+
+
+if __name__ == "__main__":
+    sys.exit(main())
