@@ -1,8 +1,8 @@
 """Runs everything that is tested: the lint, then the proof gate `rt ci`, then each black-box check of the built program.
 
 What it shows has the time since the start before each line, and leaves out the lines that only say that all is well with
-one function; out/gate.log has all of them, and out/gate-times.json what each part took. The last line is
-`N passed, M failed`, over all. The exit status is 1 where anything failed."""
+one function; out/gate.log has all of them, and out/gate-times.json what each part took. What failed is shown once more at
+the end. The last line is `N passed, M failed`, over all. The exit status is 1 where anything failed."""
 import datetime
 import json
 import os
@@ -25,6 +25,10 @@ QUIET = re.compile(
     r"|(logic|axioms|linked|by-macro:|==) .*|checked \S+, \d+ of \d+|so far: .*|test \S+ \.\.\. ok|tests: \d+|)"
 )
 
+WRONG = re.compile(r"\b(FAILED|NOT REFUSED|NOT TRIED|BAD EDIT)\b")
+TOLD = 8  # the lines, from the one that tells of a failure, that are shown again
+AGAIN = 24  # the most lines that are shown again
+
 
 class Screen:
     """Shows lines with the time since the start, and keeps them in a file where it has one."""
@@ -33,6 +37,7 @@ class Screen:
         self.began = time.monotonic()
         self.log = log
         self.lock = threading.Lock()
+        self.wrong, self.more = [], 0
 
     def elapsed(self):
         return time.monotonic() - self.began
@@ -46,6 +51,11 @@ class Screen:
 
     def hear(self, line):
         """Takes a line of a command: shows it, or only keeps it where it says that all is well with one function."""
+        if WRONG.search(line):
+            self.more = TOLD
+        if self.more:
+            self.wrong.append(line)
+            self.more -= 1
         if QUIET.fullmatch(line):
             self.keep(line)
         else:
@@ -135,6 +145,8 @@ def main():
             passed, failed = passed + more_passed, failed + more_failed
             steps[" ".join(command[1:] if command != PROOFS else command)] = times
         write_times(screen, watch, steps, passed, failed)
+        for line in screen.wrong[:AGAIN]:
+            screen.show(f"again: {line}")
         line = f"{passed} passed, {failed} failed"
         screen.keep(line)
         print(line, flush=True)
