@@ -11,7 +11,7 @@ from pathlib import Path
 
 from checking import S1, S2, checks_in, expect, run_checks
 from journal_reader import base_text, push_content, record_text
-from serve_program import LOOPBACK, Server, asked, entries_of, free_port, fresh, preloaded, run
+from serve_program import LOOPBACK, Server, asked, entries_of, free_port, fresh, preloaded, reply_of, run
 from stdio_program import USAGE, request_text
 
 A, B = b'{"ID":"A" ,"Who":""}', b'{"ID":"B"}'
@@ -137,15 +137,21 @@ def seconds_of(server):
 def check_workers_go_on_once_descriptors_are_there_again():
     server = Server(workers=4)
     server.leave_free(server.lowest_free() + 1)
+    time.sleep(0.2)  # in which each wait for a connection ends that had its descriptor before
     held = [server.connect() for _ in range(4)]
     expect(asked(held[0], "GET", "/state/a")[0], 404)
     began = seconds_of(server)
-    time.sleep(1)  # in which the other three find no descriptor, more than once
-    expect(seconds_of(server) - began < 0.5, True, "they pause in between")
+    time.sleep(0.5)  # in which the other three find no descriptor, more than once
+    expect(seconds_of(server) - began < 0.25, True, "they pause in between")
+    requests = [request_text("POST", f"/state/n{number}", S1) for number in range(4)]
+    for connection, request in zip(held, requests):
+        connection.sendall(request[:-1])
     server.leave_free(256)
-    for number, connection in enumerate(held):
-        expect(asked(connection, "POST", f"/state/n{number}", S1), (200, b""), f"connection {number}, beside the others")
-        connection.settimeout(5)
+    # Each keeps a worker until its last byte, so that four have to go on.
+    for connection, request in reversed(list(zip(held, requests))):
+        connection.sendall(request[-1:])
+        with connection.makefile("rb") as file:
+            expect(reply_of(file), (200, b""), "beside those that are not whole")
     for connection in held:
         connection.close()
     server.kill()

@@ -150,11 +150,11 @@ def long_module_path():
 
 @contextlib.contextmanager
 def asking(connection):
-    """Asks for the state of b twice a second on a connection, which is to be shown each time."""
+    """Asks for the state of b five times a second on a connection, which is to be shown each time."""
     ended, replies = threading.Event(), []
 
     def ask():
-        while not ended.wait(0.5):
+        while not ended.wait(0.2):
             replies.append(asked(connection, "GET", "/state/b"))
 
     thread = threading.Thread(target=ask)
