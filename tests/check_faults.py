@@ -137,7 +137,7 @@ def seconds_of(server):
 def check_workers_go_on_once_descriptors_are_there_again():
     server = Server(workers=4)
     server.leave_free(server.lowest_free() + 1)
-    time.sleep(0.2)  # in which each wait for a connection ends that had its descriptor before
+    time.sleep(0.5)  # in which each wait for a connection ends that had its descriptor before
     held = [server.connect() for _ in range(4)]
     expect(asked(held[0], "GET", "/state/a")[0], 404)
     began = seconds_of(server)
