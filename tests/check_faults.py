@@ -136,16 +136,18 @@ def seconds_of(server):
 
 def check_workers_go_on_once_descriptors_are_there_again():
     server = Server(workers=4)
-    server.leave_free(server.lowest_free() + 1)
-    time.sleep(0.5)  # in which each wait for a connection ends that had its descriptor before
+    server.leave_free(server.lowest_free())
+    # A worker that waits has its descriptor already, and finds none from the next connection on.
+    for _ in range(4):
+        server.connect().close()
+    time.sleep(0.5)
     held = [server.connect() for _ in range(4)]
-    expect(asked(held[0], "GET", "/state/a")[0], 404)
-    began = seconds_of(server)
-    time.sleep(0.5)  # in which the other three find no descriptor, more than once
-    expect(seconds_of(server) - began < 0.25, True, "they pause in between")
     requests = [request_text("POST", f"/state/n{number}", S1) for number in range(4)]
     for connection, request in zip(held, requests):
         connection.sendall(request[:-1])
+    began = seconds_of(server)
+    time.sleep(0.5)  # in which they find no descriptor, more than once
+    expect(seconds_of(server) - began < 0.25, True, "they pause in between")
     server.leave_free(256)
     # Each keeps a worker until its last byte, so that four have to go on.
     for connection, request in reversed(list(zip(held, requests))):
