@@ -1,5 +1,5 @@
 -- What an error of accepting a connection asks for (accept(2) and errno(3) of Linux).
-use Rattle.std.specs.Prelude.{◌≡◌, ℤ, pos, Option, Some, None, List, [], ◌∷◌, if◌then◌else◌}
+use Rattle.std.specs.Prelude.{◌≡◌, ◌⊎◌, ℤ, pos, Option, Some, None, List, [], ◌∷◌, if◌then◌else◌}
 use Rattle.std.specs.List.{list_any}
 use Rattle.std.specs.Ordering.{int_eq}
 use Rattle.std.specs.declared.io.ErrorKind.{ErrorKind}
@@ -42,3 +42,8 @@ error_of fault = fault.error
 -- The listener is of no use after such an error.
 abbrev pub IsFinal : AcceptError → Type 0
 IsFinal error = remedy_for error.kind error.number ≡ End
+
+-- The last error that a listener has told passes.
+abbrev pub HasPassed : Option AcceptError → Type 0
+HasPassed None = ⊥
+HasPassed (Some error) = (remedy_for error.kind error.number ≡ Again) ⊎ (remedy_for error.kind error.number ≡ Pause)

@@ -1,7 +1,7 @@
 //! Taking a connection from a listener, and what its errors ask for.
 
-ghost use Rattle.std.specs.Prelude.{◌≡◌, Some, IfErr};
-ghost use Rattle.tfs_connections.specs.Accepting.{IsFinal, error_of, remedy_for, remedy_by_number};
+ghost use Rattle.std.specs.Prelude.{◌≡◌, Some, None, IfOk, IfErr};
+ghost use Rattle.tfs_connections.specs.Accepting.{HasPassed, IsFinal, error_of, remedy_for, remedy_by_number};
 
 use crate::limits::LOOK_MILLISECONDS;
 use crate::load::Load;
@@ -171,6 +171,7 @@ pub fn taken<L: Listener, R: Wait + Clock>(
 ) -> Result<Option<L::Stream>, AcceptFault>
     ensures told { IfErr result (λ fault. L.told listener.new ≡ Some (error_of fault)) }
     ensures ends { IfErr result (λ fault. IsFinal (error_of fault)) }
+    ensures none { IfOk result (λ next. next ≡ None → HasPassed (L.told listener.new)) }
 {
     load.begin_wait();
     let next = accepted(rt, listener, ended);
@@ -186,19 +187,32 @@ fn accepted<L: Listener, R: Wait + Clock>(
 ) -> Result<Option<L::Stream>, AcceptFault>
     ensures told { IfErr result (λ fault. L.told listener.new ≡ Some (error_of fault)) }
     ensures ends { IfErr result (λ fault. IsFinal (error_of fault)) }
+    ensures none { IfOk result (λ next. next ≡ None → HasPassed (L.told listener.new)) }
 {
     for _ in rt.forever() {
         match listener.accept() {
             Ok(stream) => return Ok(Some(stream)),
-            Err(error) => match remedy_of(error.kind, error.number) {
-                Remedy::Again => {}
-                Remedy::Pause => thread::sleep(rt, Duration::from_millis(PAUSE_MILLISECONDS)),
-                Remedy::End => return Err(AcceptFault { error }),
-            },
+            Err(error) => wait_past(rt, error)?,
         }
         if ended.load(Ordering::SeqCst) {
             return Ok(None);
         }
     }
     unreachable!()
+}
+
+/// Waits until a listener can be asked again after an error that passes.
+fn wait_past<R: Wait + Clock>(rt: &R, error: AcceptError) -> Result<(), AcceptFault>
+    ensures ok { IfOk result (λ _. HasPassed (Some error)) }
+    ensures told { IfErr result (λ fault. error ≡ error_of fault) }
+    ensures ends { IfErr result (λ fault. IsFinal (error_of fault)) }
+{
+    match remedy_of(error.kind, error.number) {
+        Remedy::Again => Ok(()),
+        Remedy::Pause => {
+            thread::sleep(rt, Duration::from_millis(PAUSE_MILLISECONDS));
+            Ok(())
+        }
+        Remedy::End => Err(AcceptFault { error }),
+    }
 }

@@ -1,8 +1,10 @@
 //! The two ends of a connection, with limits of time.
 
-ghost use Rattle.std.specs.Prelude.{◌<◌, IfOk};
+ghost use Rattle.std.specs.Prelude.{◌≡◌, ◌<◌, IfOk};
 ghost use Rattle.std.specs.Io.{ReadsAtMost, WritesAtMost};
 ghost use Rattle.std.specs.Io.KnownBytes.{ReadConsumes, WriteAppends};
+ghost use Rattle.std.specs.IoError.{error_kind};
+ghost use Rattle.tfs_connections.specs.Waiting.{is_passing};
 
 use crate::limits::{LOOK_MILLISECONDS, MAX_LOOKS};
 use crate::timing::Timing;
@@ -150,7 +152,9 @@ fn write_in_time<R: Clock, S: Write>(
 }
 
 /// Whether a read or a write is tried again after this error: it has waited, or a signal came.
-fn passes(error: &io::Error) -> bool {
+fn passes(error: &io::Error) -> bool
+    ensures value { result ≡ is_passing (error_kind error.now) }
+{
     match error.kind() {
         ErrorKind::WouldBlock | ErrorKind::Interrupted => true,
         _ => false,

@@ -1,6 +1,6 @@
 //! The limits of time of a connection.
 
-ghost use Rattle.std.specs.Prelude.{◌≡◌, ◌+◌, ◌*◌, ◌-◌, ◌/◌, ◌<◌, ◌↔◌, IsTrue, max};
+ghost use Rattle.std.specs.Prelude.{◌≡◌, ◌+◌, ◌*◌, ◌-◌, ◌/◌, ◌<◌, ◌↔◌, if◌then◌else◌, IsTrue, max};
 ghost use Rattle.std.specs.Duration.{as_nanos};
 
 use std::time::Duration;
@@ -41,6 +41,17 @@ pub const LOOK_MILLISECONDS: u64 = 50;
 
 /// No wait looks up more often than this. A clock ends it before.
 pub(crate) const MAX_LOOKS: u64 = MAX_WAIT_SECONDS * 1_000 / LOOK_MILLISECONDS;
+
+/// How long the first byte of a request may be waited for, while no worker is free or else.
+pub(crate) fn idle_limit(is_crowded: bool) -> Duration
+    ensures value { as_nanos result ≡ (if is_crowded then 500_000_000 else 2_000_000_000) }
+{
+    if is_crowded {
+        Duration::from_millis(MAX_CROWDED_IDLE_MILLISECONDS)
+    } else {
+        Duration::from_secs(MAX_IDLE_SECONDS)
+    }
+}
 
 /// How long a reply of so many bytes may take.
 pub(crate) fn reply_limit(bytes: u64) -> Duration

@@ -1,8 +1,8 @@
 //! How long a connection has taken.
 
 use crate::limits::{
-    MAX_CROWDED_IDLE_MILLISECONDS, MAX_ENDING_SECONDS, MAX_IDLE_SECONDS, MAX_REQUEST_SECONDS,
-    MAX_WAIT_SECONDS, is_late, reply_limit, slow_limit,
+    MAX_ENDING_SECONDS, MAX_REQUEST_SECONDS, MAX_WAIT_SECONDS, idle_limit, is_late, reply_limit,
+    slow_limit,
 };
 use crate::load::Load;
 use std::cell::Cell;
@@ -84,7 +84,7 @@ impl<'r, 'e, R: Clock> Timing<'r, 'e, R> {
         match self.stage.get() {
             Stage::Request(_, _) => self.is_past(since, MAX_WAIT_SECONDS) || self.ends_reading(),
             Stage::Fresh | Stage::Replies(_, _) => {
-                is_late(since, self.now(), self.idle_limit()) || self.is_to_end()
+                is_late(since, self.now(), idle_limit(self.load.is_crowded())) || self.is_to_end()
             }
         }
     }
@@ -170,15 +170,6 @@ impl<'r, 'e, R: Clock> Timing<'r, 'e, R> {
         let is_left = self.load.leaves_slow();
         self.is_slow.set(!is_left);
         is_left
-    }
-
-    /// How long the first byte of a request may be waited for.
-    fn idle_limit(&self) -> Duration {
-        if self.load.is_crowded() {
-            Duration::from_millis(MAX_CROWDED_IDLE_MILLISECONDS)
-        } else {
-            Duration::from_secs(MAX_IDLE_SECONDS)
-        }
     }
 
     /// Whether more than so many seconds have gone by since then.
