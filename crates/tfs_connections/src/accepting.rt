@@ -3,12 +3,12 @@
 ghost use Rattle.std.specs.Prelude.{◌≡◌, Some, None, IfOk, IfErr};
 ghost use Rattle.tfs_connections.specs.Accepting.{HasPassed, IsFinal, error_of, remedy_for, remedy_by_number};
 
-use crate::limits::LOOK_MILLISECONDS;
+use crate::limits::{LOOK_MILLISECONDS, MAX_WAITING};
 use crate::load::Load;
 use std::fmt::Formatter;
 use std::io::ErrorKind;
 use std::net::{OpenListener, TcpListener, TcpStream};
-use std::os::fd::OwnedFd;
+use std::os::fd::{AsRawFd, OwnedFd};
 use std::sync::Wait;
 use std::sync::atomic::{AtomicBool, Ordering};
 use std::time::{Clock, Duration};
@@ -155,10 +155,17 @@ impl<'l, L: OpenListener> Listener for Listening<'l, L> {
 /// A listener whose waits look up now and then, so that a worker which waits sees that conversations are to end. With another one it sees
 /// that at the next connection.
 pub fn limit_waits(listener: TcpListener) -> io::Result<TcpListener> {
+    let_wait(&listener);
     // The option is the socket's; the type of a listener can't set it.
     let socket = TcpStream::from(OwnedFd::from(listener));
     socket.set_read_timeout(Some(Duration::from_millis(LOOK_MILLISECONDS)))?;
     Ok(TcpListener::from(OwnedFd::from(socket)))
+}
+
+/// Lets `MAX_WAITING` connections wait at a listener until they are taken. Where the system refuses that, as many wait as before.
+pub fn let_wait(listener: &TcpListener) {
+    // To listen once more changes the number alone.
+    let _ = libc::net::listen(listener.as_raw_fd(), MAX_WAITING);
 }
 
 /// The next connection, for which a worker is free until it has come. It waits until there is one, the listener has told an error after

@@ -8,13 +8,13 @@ mod load;
 mod timing;
 
 pub use accepting::{
-    AcceptError, AcceptFault, Listener, Listening, PAUSE_MILLISECONDS, Remedy, limit_waits,
-    remedy_of, taken,
+    AcceptError, AcceptFault, Listener, Listening, PAUSE_MILLISECONDS, Remedy, let_wait,
+    limit_waits, remedy_of, taken,
 };
 pub use connection::{Incoming, Outgoing, limit};
 pub use limits::{
     LOOK_MILLISECONDS, MAX_CROWDED_IDLE_MILLISECONDS, MAX_ENDING_SECONDS, MAX_IDLE_SECONDS,
-    MAX_REPLY_SECONDS, MAX_REQUEST_SECONDS, MAX_WAIT_SECONDS, REPLY_BYTES_A_SECOND,
+    MAX_REPLY_SECONDS, MAX_REQUEST_SECONDS, MAX_WAIT_SECONDS, MAX_WAITING, REPLY_BYTES_A_SECOND,
     SLOW_BYTES_A_SECOND, SLOW_SECONDS, WORKERS_FOR_A_SLOW_CLIENT,
 };
 pub use load::Load;

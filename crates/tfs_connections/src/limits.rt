@@ -36,6 +36,9 @@ pub const WORKERS_FOR_A_SLOW_CLIENT: u64 = 4;
 /// A request or a reply that is underway when conversations are to end has these seconds left.
 pub const MAX_ENDING_SECONDS: u64 = 5;
 
+/// So many connections wait at a listener until they are taken, where the system lets them.
+pub const MAX_WAITING: i32 = 1_024;
+
 /// What waits for a client looks up after so many milliseconds whether it is to wait on.
 pub const LOOK_MILLISECONDS: u64 = 50;
 

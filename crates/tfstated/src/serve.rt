@@ -15,7 +15,7 @@ use std::time::Clock;
 use tfs_conversation::RunFault;
 use tfs_ends::Fault;
 use tfs_records::FileSink;
-use tfs_serve::{Obstacle, Open, serve};
+use tfs_serve::{Obstacle, Open, let_wait, serve};
 use tfs_table::{OpenFault, Table};
 
 /// Reads the old journal, if there is one, makes the new file, goes on from the old journal in it, and has workers answer connections.
@@ -112,6 +112,7 @@ fn listen<R: Net<Stream = TcpStream, Listener = TcpListener> + Print>(
     let Ok(listener) = TcpListener::bind(rt, address) else {
         return Err(Fault::CannotBind);
     };
+    let_wait(&listener);
     match tell(rt, address) {
         Ok(()) => Ok(listener),
         Err(_) => Err(Fault::Write),
