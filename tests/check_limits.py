@@ -4,17 +4,21 @@ import concurrent.futures
 import contextlib
 import functools
 import os
+import resource
 import socket
 import sys
 import threading
 import time
+from pathlib import Path
 
 from checking import S1, SECONDS, checks_in, expect, run_checks
+from folder_program import Serving
+from folders import fresh, named
 from serve_program import LOOPBACK, Server, asked, calls_in, preloaded, reply_of, rest_of, send_all
 from stdio_program import request_text
 
 STARTING = threading.Lock()
-MAX_READS, MAX_WORKERS = 1048576, 16
+MAX_READS, MAX_WORKERS, MAX_WAITING = 1048576, 16, 1024
 LONG = S1.ljust(16 << 20)
 # Ten seconds in which nothing can be written, after those in which the system's buffers take something.
 WRITE_SECONDS = (9, 30)
@@ -25,6 +29,8 @@ SLOW_SECONDS = (1.9, 8)
 REQUEST_SECONDS = (59, 72)
 # A minute, and a second for each 1,000,000 of the bytes of a long reply; then a look, and what was written before.
 REPLY_SECONDS = (75, 90)
+# Five seconds where a term ends, which a server sees within a second.
+ENDING_SECONDS = (4.9, 30)
 SLOW = []
 
 
@@ -78,20 +84,36 @@ def check_a_client_that_reads_nothing_is_left_after_a_while():
             expect(reply_of(file), None, "the reply isn't whole")
 
 
+def read_in_pieces(server, size, pause):
+    """What comes of the long state to a client that reads so many bytes before each pause."""
+    text = b""
+    with small_connection(server) as connection, connection.makefile("rb", buffering=65536) as file, contextlib.suppress(ConnectionError):
+        connection.sendall(request_text("GET", "/state/a", more="Connection: close\r\n"))
+        while file.readline() not in (b"\r\n", b""):
+            pass
+        while piece := file.read(size):
+            text += piece
+            time.sleep(pause)
+    return text
+
+
 @slow
 def check_a_client_that_reads_slowly_gets_all():
-    server, found = started(1), 0
+    server = started(1)
     expect(server.ask("POST", "/state/a", LONG), (200, b""))
-    with small_connection(server) as connection:
-        connection.sendall(request_text("GET", "/state/a", more="Connection: close\r\n"))
-        with connection.makefile("rb", buffering=65536) as file:
-            while file.readline() not in (b"\r\n", b""):
-                pass
-            while piece := file.read(5 << 20):
-                expect(piece, LONG[found : found + len(piece)], f"after {found} bytes")
-                found += len(piece)
-                time.sleep(7)
-    expect(found, len(LONG))
+    expect(read_in_pieces(server, 5 << 20, 7), LONG)
+
+
+@slow
+def check_clients_that_read_3_mb_a_second_are_not_slow():
+    server = started(4)
+    expect(server.ask("POST", "/state/a", LONG), (200, b""))
+    with concurrent.futures.ThreadPoolExecutor(5) as pool:
+        texts = [pool.submit(read_in_pieces, server, 1_500_000, 0.5) for _ in range(4)]
+        time.sleep(1)  # in which each of them has a worker
+        waiting = pool.submit(server.ask, "GET", "/state/e")
+        expect([text.result() == LONG for text in texts], [True] * 4, "replies, while another client waits")
+        expect(waiting.result()[0], 404)
 
 
 @slow
@@ -235,6 +257,54 @@ def check_each_request_of_a_connection_has_its_own_minute():
                 time.sleep(4.6)
                 connection.sendall(text[place : place + 12])
             expect(reply_of(file), (200, b""), f"request {serial}, which took half a minute")
+
+
+def send_slowly(connection):
+    """Begins a push, and sends a byte of it twice a second, until the connection is closed."""
+    with contextlib.suppress(OSError):
+        connection.sendall(request_text("POST", "/state/b", S1.ljust(1000))[:80])
+        while True:
+            connection.sendall(b" ")
+            time.sleep(0.5)
+
+
+def ask_and_read_slowly(connection):
+    connection.sendall(request_text("GET", "/state/a"))
+    read_slowly(connection)
+
+
+@slow
+def check_what_is_underway_has_five_seconds_where_its_term_ends():
+    for work in (send_slowly, ask_and_read_slowly):
+        server = Serving(fresh(), "--first").listens()
+        server.address, second = f"{LOOPBACK}:{server.port}", server.folder / f"{named(2)}.tfj"
+        expect(server.ask("POST", "/state/a", LONG), (200, b""))
+        with small_connection(server) as connection:
+            threading.Thread(target=work, args=(connection,), daemon=True).start()
+            time.sleep(1)  # in which it has a worker
+            (server.folder / "compact").touch()
+            began = time.monotonic()
+            while not second.exists() and time.monotonic() - began < ENDING_SECONDS[1]:
+                time.sleep(0.05)
+            expect_between(time.monotonic() - began, ENDING_SECONDS, f"{work.__name__}: until the next term")
+            expect(server.ask("GET", "/state/b")[0], 404, "in the next term")
+
+
+def check_a_thousand_connections_wait_for_the_only_worker():
+    server, text = started(1), request_text("GET", "/state/a")
+    # The system may let fewer wait.
+    most = min(MAX_WAITING, int(Path("/proc/sys/net/core/somaxconn").read_text()))
+    now, limit = resource.getrlimit(resource.RLIMIT_NOFILE)
+    resource.setrlimit(resource.RLIMIT_NOFILE, (max(now, most + 100), limit))
+    with server.connect() as served, contextlib.ExitStack() as waiting:
+        served.sendall(text[:20])
+        for _ in range(most):
+            # None is taken meanwhile: the one that is served is left after ten seconds.
+            waiting.enter_context(socket.create_connection(served.getpeername(), timeout=5))
+        served.sendall(text[20:])
+        with served.makefile("rb") as file:
+            expect(reply_of(file), (404, b'{"error":"NoState"}'), "while others wait")
+    expect(server.ask("GET", "/state/b")[0], 404, "after them")
 
 
 def expect_at_once(connection, trace):
