@@ -141,9 +141,10 @@ def check_a_client_that_reads_too_slowly_is_left_at_the_limit_of_its_reply():
 @slow
 def check_the_17th_client_is_served_once_a_silent_one_is_left():
     server, silent = started(MAX_WORKERS), []
+    began = time.monotonic()
     for _ in range(MAX_WORKERS):
         silent.append(server.connect())
-    expect_next(server, time.monotonic(), CROWDED_SECONDS, "the client after sixteen that are silent")
+    expect_next(server, began, CROWDED_SECONDS, "the client after sixteen that are silent")
     for number, connection in enumerate(silent):
         with connection:
             expect(connection.recv(1), b"", f"silent client {number} is left")
@@ -151,10 +152,9 @@ def check_the_17th_client_is_served_once_a_silent_one_is_left():
 
 @slow
 def check_a_client_is_waited_for_two_seconds_while_a_worker_is_free():
-    server = started(3)
+    server, began = started(3), time.monotonic()
     with server.connect() as silent, server.connect() as idle:
         expect(asked(idle, "GET", "/state/a")[0], 404)
-        began = time.monotonic()
         for connection in (silent, idle):
             expect(connection.recv(1), b"", "it is left")
             expect_between(time.monotonic() - began, IDLE_SECONDS, "beside a free worker")
@@ -163,10 +163,11 @@ def check_a_client_is_waited_for_two_seconds_while_a_worker_is_free():
 @slow
 def check_a_quarter_of_the_workers_stays_with_slow_clients_while_others_wait():
     server, slow_ones = started(MAX_WORKERS), []
+    began = time.monotonic()
     for _ in range(MAX_WORKERS):
         slow_ones.append(server.connect())
         slow_ones[-1].sendall(request_text("GET", "/state/a")[:20])
-    expect_next(server, time.monotonic(), SLOW_SECONDS, "the client after sixteen that are slow")
+    expect_next(server, began, SLOW_SECONDS, "the client after sixteen that are slow")
     time.sleep(1)  # in which each worker has looked at its client
     left = sum(is_left(connection) for connection in slow_ones)
     expect(1 <= left <= MAX_WORKERS - MAX_WORKERS // 4, True, f"{left} are left")
