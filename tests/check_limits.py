@@ -174,6 +174,16 @@ def check_a_quarter_of_the_workers_stays_with_slow_clients_while_others_wait():
 
 
 @slow
+def check_slow_clients_stay_while_a_worker_is_free():
+    server, slow_ones = started(4), []
+    for _ in range(3):
+        slow_ones.append(server.connect())
+        slow_ones[-1].sendall(request_text("GET", "/state/a")[:20])
+    time.sleep(SLOW_SECONDS[0] + 2)
+    expect([is_left(connection) for connection in slow_ones], [False] * 3)
+
+
+@slow
 def check_slow_clients_that_are_gone_count_no_more():
     server, text = started(1), request_text("GET", "/state/a", more="Connection: close\r\n")
     for number in range(3):
