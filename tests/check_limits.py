@@ -1,9 +1,8 @@
-"""The limits of `tfstated serve`: how long a client may wait or make it wait, how many connections it serves at once, and how many reads
-one of them gets. The checks that wait for time to go by are run beside each other, each on a server of its own."""
+"""The limits of servers: how long a client may wait or make them wait, and how many connections they serve at once. The checks that wait for
+time to go by are run beside each other, each on a server of its own."""
 import concurrent.futures
 import contextlib
 import functools
-import os
 import resource
 import socket
 import sys
@@ -14,11 +13,11 @@ from pathlib import Path
 from checking import S1, SECONDS, checks_in, expect, run_checks
 from folder_program import Serving
 from folders import fresh, named
-from serve_program import LOOPBACK, Server, asked, calls_in, preloaded, reply_of, rest_of, send_all
+from serve_program import LOOPBACK, Server, asked, reply_of
 from stdio_program import request_text
 
 STARTING = threading.Lock()
-MAX_READS, MAX_WORKERS, MAX_WAITING = 1048576, 16, 1024
+MAX_WORKERS, MAX_WAITING = 16, 1024
 LONG = S1.ljust(16 << 20)
 # Ten seconds in which nothing can be written, after those in which the system's buffers take something.
 WRITE_SECONDS = (9, 30)
@@ -174,6 +173,17 @@ def check_a_quarter_of_the_workers_stays_with_slow_clients_while_others_wait():
 
 
 @slow
+def check_a_client_that_reads_nothing_is_slow():
+    server, readers = started(MAX_WORKERS), []
+    push_long(server)
+    began = time.monotonic()
+    for _ in range(MAX_WORKERS):
+        readers.append(small_connection(server))
+        readers[-1].sendall(request_text("GET", "/state/a"))
+    expect_next(server, began, SLOW_SECONDS, "the client after sixteen that read nothing")
+
+
+@slow
 def check_slow_clients_stay_while_a_worker_is_free():
     server, slow_ones = started(4), []
     for _ in range(3):
@@ -321,80 +331,6 @@ def check_a_thousand_connections_wait_for_the_only_worker():
         with served.makefile("rb") as file:
             expect(reply_of(file), (404, b'{"error":"NoState"}'), "while others wait")
     expect(server.ask("GET", "/state/b")[0], 404, "after them")
-
-
-def expect_at_once(connection, trace):
-    """Fails where a connection, the only one that came since the trace was read, isn't told before its first reply to send at once."""
-    expect(asked(connection, "GET", "/state/a")[0], 404)
-    (word, near), *calls = calls_in(trace)
-    expect((word, {descriptor for _, descriptor in calls}), ("nodelay", {near}), "before its first reply")
-    expect(asked(connection, "GET", "/state/a")[0], 404)
-    expect({descriptor for _, descriptor in calls_in(trace)}, {near}, "after it")
-
-
-def check_what_is_written_to_each_connection_is_sent_at_once():
-    reading, writing = os.pipe()
-    server = Server(workers=2, env={"LD_PRELOAD": preloaded("trace_calls.c"), "TRACE": str(writing)}, pass_fds=[writing])
-    expect("nodelay" in [name for name, _ in calls_in(reading)], False, "before the first connection")
-    with server.connect() as first:
-        expect_at_once(first, reading)
-        with server.connect() as second:
-            expect_at_once(second, reading)
-    with server.connect() as third:
-        expect_at_once(third, reading)
-    os.close(reading)
-    os.close(writing)
-
-
-def push_of(size):
-    """A push whose head and body have so many bytes together."""
-    head = request_text("POST", "/state/a", bytes(size - 80))
-    rest = size - (len(head) - (size - 80))
-    text = request_text("POST", "/state/a", S1.ljust(rest))
-    expect(len(text), size)
-    return text
-
-
-def check_a_body_gets_as_many_reads_as_a_connection_has():
-    server = Server(workers=1, env={"LD_PRELOAD": preloaded("short_reads.c")})
-    for size, wanted in ((MAX_READS, (200, b"")), (MAX_READS + 1, None)):
-        with server.connect() as connection, connection.makefile("rb") as file:
-            sender = threading.Thread(target=send_all, args=(connection, push_of(size)), daemon=True)
-            sender.start()
-            try:
-                reply = reply_of(file)
-            except ConnectionError:
-                reply = None
-            sender.join()
-        expect(reply, wanted, f"a request of {size} bytes, one in each read")
-    expect(server.ask("GET", "/state/b")[0], 404, "on another connection")
-
-
-def expect_ended(server, beginning, piece, most):
-    """Fails where a connection doesn't end before so many pieces are sent, or the only worker doesn't get to the next client."""
-    with server.connect() as connection:
-        connection.sendall(beginning)
-        ended = False
-        for _ in range(most):
-            try:
-                connection.sendall(piece)
-            except ConnectionError:
-                ended = True
-                break
-        expect(ended, True, f"it ends before {most} pieces")
-        with connection.makefile("rb") as file:
-            reply = rest_of(file)
-        expect(reply[:13] in (b"", b"HTTP/1.1 413 ", b"HTTP/1.1 400 "), True, reply[:100])
-    expect(server.ask("GET", "/state/b")[0], 404, "the next client")
-
-
-def check_a_body_without_end_ends_its_connection():
-    server = Server(workers=1)
-    chunked = request_text("POST", "/state/a", more="Transfer-Encoding: chunked\r\n")
-    long, short, line = b"10000\r\n" + bytes(1 << 16) + b"\r\n", b"1\r\n \r\n" * 1000, b" " * 500
-    for beginning, piece, most in ((b"", long, 1000), (b"", short, 10000), (b"1;", line, 100000), (b"0\r\n", b"X: y\r\n" * 100, 100000)):
-        expect_ended(server, chunked + beginning, piece, most)
-    expect(server.ask("GET", "/state/a")[0], 404, "none of them is a push")
 
 
 def told(run):
