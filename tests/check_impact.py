@@ -99,6 +99,19 @@ def check_states_without_blanks_are_asked():
     expect_answers(written(1, *ends), [(ask("all", "t.a", "t.b"), answer())])
 
 
+def check_keys_of_modules_are_taken_out():
+    def one(module):
+        return '{"module":"%s","mode":"managed","type":"t","name":"n","instances":[{}]}' % module
+
+    keyed = one(r'module.m[\"p.q]\"]')
+    expect_answers(written(1, keyed, one("module.m[0]"), depends("z", "module.m[7].t.n")), [
+        (request_text("GET", "/impact/a/any?of=module.m%5B0%5D.t.n"), answer("t.z")),
+        (request_text("GET", "/impact/a/any?of=module.m.t.n"), answer("t.z")), (request_text("GET", "/impact/a/any?of=t.z"), answer()),
+    ])
+    open_key = written(1, keyed, one("module.m[0"), depends("z", "module.m[7].t.n"))
+    expect(run(request_text("POST", "/state/a", open_key)), (refusal_text("BadState"), CLEAN, b""))
+
+
 def chain_of(count):
     """A state in which each instance but the first depends on the one before."""
     return written(1, *(depends(f"i{i}", *([f"t.i{i - 1}"] if i else [])) for i in range(count)))

@@ -99,8 +99,9 @@ def check_a_name_with_no_state_is_told():
 
 
 def check_pushes_are_judged_by_serial_and_bytes():
-    wanted = DONE + DONE + refusal_text("SerialReused") + REPLIES[38:]
-    expect(run(push(S1) + push(S1) + push(S1 + b" ") + GET), (wanted, CLEAN, b""))
+    wanted = DONE + DONE + refusal_text("SerialReused") + REPLIES[38:] + refusal_text("UnknownAddress")
+    query = b"GET /impact/a/any?of=t.a HTTP/1.1\r\nHost: h\r\n\r\n"
+    expect(run(push(S1) + push(S1) + push(S1 + b" ") + GET + query), (wanted, CLEAN, b""))
     wanted = DONE + DONE + refusal_text("SerialTooLow") + reply_text(200, S2)
     expect(run(push(S1) + push(S2) + push(S1) + GET), (wanted, CLEAN, b""))
 
