@@ -10,9 +10,10 @@ import re
 from repository import TOP
 
 PLACES = TOP / "tests" / "fault_places.txt"
+BEFORE = r"(?:\(|return |=> |\| |= )"
 FAULT = re.compile(
-    r"\b(?:(?!ErrorKind)\w+::(?:OutOfMemory|NoMemory|SinkFault|SyncFault|NoCopy|NoPlace|JournalFault|JournalStopped|AcceptFault|Lost|Unplaced)\b"
-    r"|(?:Err\(|return |=> )(?:AllocError|SinkFault|SyncFault|AcceptFault|LentFault)\b)"
+    r"\b(?!ErrorKind)\w+::(?:OutOfMemory|NoMemory|SinkFault|SyncFault|NoCopy|NoPlace|JournalFault|JournalStopped|AcceptFault|Lost|Unplaced)\b"
+    rf"|{BEFORE}(?:AllocError|SinkFault|SyncFault|AcceptFault|LentFault|OutOfMemory|NoMemory|NoCopy|NoPlace|JournalFault|JournalStopped)\b"
 )
 CALLS = re.compile(r"\bset_len\b|\bFile::create\(|\btry_clone\b|\b(?:with_capacity|reserve|reserve_exact|resize)\(.*(?:<<|\b\d\d|\b\d_)")
 FUNCTION = re.compile(r"^\s*(?:pub(?:\([a-z]+\))? )?(?:const )?(?:unsafe )?fn (\w+)")
@@ -49,7 +50,7 @@ def fault_places():
         name = path.relative_to(TOP / "crates").as_posix()
         for function, line in code_lines(path.read_text(encoding="utf-8")):
             for match in FAULT.finditer(line):
-                key = (name, function, re.sub(r"^(Err\(|return |=> )", "", match.group(0)))
+                key = (name, function, re.sub(f"^{BEFORE}", "", match.group(0)))
                 found[key] = found.get(key, 0) + 1
     return found
 
