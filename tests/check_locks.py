@@ -246,18 +246,18 @@ def check_a_name_that_had_an_accepted_act_counts():
     expect_talk([
         ("DELETE", "/state/z?ID=A", b"", LOCK_LOST),
         ("GET", "/state/z", b"", NO_STATE),
-        *[("LOCK", f"/state/n{number}", A, OK) for number in range(MAX_NAMES)],
+        *[("LOCK", f"/state/n{number}", B, OK) for number in range(MAX_NAMES)],
         ("LOCK", f"/state/n{MAX_NAMES}", B, TABLE_FULL),
         ("UNLOCK", "/state/z", b"", TABLE_FULL),
         ("DELETE", "/state/z", b"", TABLE_FULL),
         ("POST", "/state/z", S1, TABLE_FULL),
         ("POST", "/state/z", b"abc", BAD_STATE),
         ("POST", "/state/z?ID=A", S1, LOCK_LOST),
-        ("LOCK", "/state/n0", B, LOCKED_BY_A),
-        ("UNLOCK", "/state/n0", b"", OK),
+        ("LOCK", "/state/n0", A, locked_by(B)),
+        ("UNLOCK", "/state/n0", B, OK),
         ("LOCK", "/state/z", A, TABLE_FULL),
-        ("LOCK", "/state/n0", B, OK),
-        ("POST", "/state/n1023?ID=A", S1, OK),
+        ("LOCK", "/state/n0", A, OK),
+        ("POST", "/state/n1023?ID=B", S1, OK),
     ])
     for method in ("UNLOCK", "DELETE"):
         rows = [(method, f"/state/n{number}", b"", OK) for number in range(MAX_NAMES)]
