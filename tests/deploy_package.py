@@ -16,9 +16,9 @@ FOLDER = tempfile.TemporaryDirectory(prefix="tfstated-")
 ROOT = Path(FOLDER.name) / "root"
 UNITS = ["tfstated", "tfstated-copy", "tfstated-standby", "tfstated-stats"]
 WANTED = """usr/bin/tfstatectl usr/bin/tfstated usr/share/man/man8/tfstatectl.8.gz usr/share/man/man1/tfstated.1.gz
-lib/systemd/system/tfstated.service lib/systemd/system/tfstated-copy.service lib/systemd/system/tfstated-copy.timer
-lib/systemd/system/tfstated-standby.service lib/systemd/system/tfstated-standby.timer
-lib/systemd/system/tfstated-stats.service lib/systemd/system/tfstated-stats.timer
+usr/lib/systemd/system/tfstated.service usr/lib/systemd/system/tfstated-copy.service usr/lib/systemd/system/tfstated-copy.timer
+usr/lib/systemd/system/tfstated-standby.service usr/lib/systemd/system/tfstated-standby.timer
+usr/lib/systemd/system/tfstated-stats.service usr/lib/systemd/system/tfstated-stats.timer
 usr/share/doc/tfstated/README.md usr/share/doc/tfstated/IMPACT.md usr/share/doc/tfstated/FOLDER.md usr/share/doc/tfstated/VERSIONS.md usr/share/doc/tfstated/copyright
 usr/share/doc/tfstated/SHA256SUMS usr/share/tfstated/nginx.conf usr/share/tfstated/nginx-access.conf
 usr/share/tfstated/postinst usr/share/tfstated/impact_comment.py usr/share/tfstated/impact-gitlab.yml usr/share/tfstated/impact-github.yml"""
@@ -40,6 +40,7 @@ def check_both_archives_have_the_same_files():
     with tarfile.open(made(".tar.gz")) as archive:
         members = {member.name[2:]: member for member in archive.getmembers() if member.isfile()}
         expect(set(members), set(WANTED.split()))
+        expect({member.name.split("/")[1] for member in archive.getmembers()}, {"usr"}, "a folder `lib` would take the place of Debian's link of this name")
         for name, member in members.items():
             expect(archive.extractfile(member).read() == (ROOT / name).read_bytes(), True, name)
             expect((member.uid, member.mode), (0, 0o755 if "/bin/" in name or name.endswith("/postinst") else 0o644), name)
@@ -105,10 +106,10 @@ def check_systemd_reads_the_units():
         print("systemd-analyze isn't there: the units aren't read by it")
         return
     for target in ("sysinit", "basic", "shutdown", "multi-user", "timers", "network-online", "network", "local-fs"):
-        package.put(ROOT, f"lib/systemd/system/{target}.target", b"[Unit]\nDescription=a target\n")
+        package.put(ROOT, f"usr/lib/systemd/system/{target}.target", b"[Unit]\nDescription=a target\n")
     for name in ("usr/bin/rsync", "usr/bin/find", "bin/sh"):
         package.put(ROOT, name, b"", 0o755)
-    units = [ROOT / f"lib/systemd/system/{name}.service" for name in UNITS]
+    units = [ROOT / f"usr/lib/systemd/system/{name}.service" for name in UNITS]
     status, told = tool("systemd-analyze", "verify", "--man=no", f"--root={ROOT}", *units)
     expect((status, told), (0, ""))
 

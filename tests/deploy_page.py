@@ -10,7 +10,7 @@ import package
 import page_tools
 from checking import S2, SECONDS, checks_in, expect, run_checks
 from deploy_nginx import make_secrets, signed
-from folders import S1, free_port, fresh
+from folders import S1, free_port, fresh, goes_on_alone
 from metrics import read_metrics
 from page_blocks import blocks_of, titles
 from repository import TOP
@@ -18,6 +18,7 @@ from repository import TOP
 # The folders of the machine that the page is about, and of its standby.
 ROOM, STANDBY = fresh(), fresh()
 ROOT = ROOM / "root"
+JOURNAL = ROOT / "var/lib/tfstated/journal"
 DONE = []
 
 
@@ -94,7 +95,9 @@ def check_an_older_state_is_told_with_the_next_serial():
 def check_copies_and_what_to_watch():
     do("Copies")
     expect(len(list((ROOT / "var/backups/tfstated/journal").glob("*.tfj"))), 1)
+    before = goes_on_alone(JOURNAL)
     text = do("What to watch")
+    goes_on_alone(JOURNAL, before)
     expect(("a start goes on from" in text, "\tadmin\tPOST\tnetwork.prod\t200" in text), (True, True), text)
     found = read_metrics((ROOT / "var/lib/prometheus/node-exporter/tfstated.prom").read_text())
     expect((found["tfstated_workspaces"][0], found["tfstated_locks"][0], "tfstated_newest_copy_age_seconds" in found), (1, 0, True), found)
@@ -116,11 +119,16 @@ def check_users():
 
 def waits_for_status(user, password, wanted):
     """Whether a user gets a status before long, since nginx takes a moment for new files."""
-    return any(ask("GET", "/state/network.prod", headers=signed(user, password))[0] == wanted for _ in range(20))
+    end = time.monotonic() + SECONDS
+    while time.monotonic() < end:
+        if ask("GET", "/state/network.prod", headers=signed(user, password))[0] == wanted:
+            return True
+    return False
 
 
 def copies_go_by_age():
-    """Copies that were put away go after 90 days, and no other."""
+    """Copies that were put away go after 90 days, and no other. A copy makes all journals anew that the server hasn't put away yet, so it has to
+    have done that."""
     journal = ROOT / "var/backups/tfstated/journal"
     before, old = set(journal.rglob("*.tfj")), set(journal.glob("old/*.tfj"))
     expect((len(old) > 0, len(before - old)), (True, 1), "those before the newest were put away")
@@ -134,6 +142,7 @@ def copies_go_by_age():
 def check_an_upgrade_and_a_restore_keep_the_states():
     do("Upgrade")
     expect(ask("GET", "/state/network.prod", headers=signed("admin", PASSWORDS["admin"])), (200, S1))
+    goes_on_alone(JOURNAL)
     do("Copies")
     copies_go_by_age()
     do("Restore")
@@ -156,8 +165,9 @@ def check_a_standby_gets_the_journals_and_takes_over():
     run(first)
     line = (ROOT / "var/lib/tfstated/.ssh/authorized_keys").read_text()
     expect(line.startswith(f'restrict,command="rrsync -ro {ROOT}/var/lib/tfstated/journal" ssh-ed25519 '), True, line)
+    goes_on_alone(JOURNAL)
     run(again, STANDBY)
-    newest = sorted((ROOT / "var/lib/tfstated/journal").glob("*.tfj"))[-1]
+    newest = sorted(JOURNAL.glob("*.tfj"))[-1]
     copy = STANDBY / "root/var/lib/tfstated/journal" / newest.name
     expect(copy.read_bytes() == newest.read_bytes(), True, "the standby has the journal")
     page_tools.enter(ROOM)

@@ -15,7 +15,7 @@ import urllib.parse
 from checking import SECONDS, STARTED, checks_in, expect, run_checks
 from deploy_nginx import Nginx, PASSWORD, ROOM, USER, make_secrets, served, site
 from folder_program import Serving, run
-from folders import LOOPBACK, ask_over, free_port, fresh, journals
+from folders import LOOPBACK, ask_over, free_port, fresh, goes_on_alone
 from impact_model import impact, instances_of
 
 BACKEND = """terraform {{
@@ -189,12 +189,9 @@ def check_an_apply_goes_on_over_a_restart():
 
 def compacted(folder):
     """Asks for a shorter journal, and waits until the server goes on in it."""
-    numbers = set(journals(folder))
+    before = max(int(path.stem[8:]) for path in folder.glob("*.tfj"))
     (folder / "compact").touch()
-    end = time.monotonic() + SECONDS
-    while time.monotonic() < end and ((folder / "compact").exists() or set(journals(folder)) & numbers):
-        time.sleep(0.05)
-    expect(((folder / "compact").exists(), set(journals(folder)) & numbers), (False, set()), "the journals before are put away")
+    goes_on_alone(folder, before)
 
 
 def check_an_apply_goes_on_over_compactions():

@@ -3,9 +3,10 @@ import concurrent.futures
 import random
 import socket
 import tempfile
+import time
 from pathlib import Path
 
-from checking import S1, S2
+from checking import S1, S2, SECONDS
 from journal_reader import base_text, push_content, record_text
 
 FOLDER = tempfile.TemporaryDirectory(prefix="tfstated-")
@@ -36,6 +37,18 @@ def named(number):
 def journals(folder):
     """What the journals of a folder hold, by their numbers."""
     return {int(path.stem[8:]): path.read_bytes() for path in folder.glob("*.tfj")}
+
+
+def goes_on_alone(folder, after=0):
+    """Waits until a server's journal is the only one of its folder, with a number above another one, and nothing asks for a shorter one: the
+    number. A server looks at its folder once a second: then it takes `compact` away, and puts the journals before its own into `old/`."""
+    end = time.monotonic() + SECONDS
+    while time.monotonic() < end:
+        numbers = [int(path.stem[8:]) for path in folder.glob("*.tfj")]
+        if len(numbers) == 1 and numbers[0] > after and not (folder / "compact").exists():
+            return numbers[0]
+        time.sleep(0.05)
+    raise AssertionError(f"above {after}: {sorted(path.name for path in folder.iterdir())}")
 
 
 def all_of(folder):

@@ -19,7 +19,7 @@ from repository import TOP
 DIST, DEPLOY = TOP / "dist", TOP / "deploy"
 VERSION = (TOP / "VERSION").read_text().splitlines()[0]
 NAME = f"tfstated_{VERSION}_amd64"
-UNITS = "lib/systemd/system"
+UNITS = "usr/lib/systemd/system"
 TEXTS = {
     "usr/share/doc/tfstated": ["deploy/README.md", "deploy/IMPACT.md", "docs/FOLDER.md", "docs/VERSIONS.md", "LICENSE"],
     "usr/share/tfstated": ["deploy/nginx.conf", "deploy/nginx-access.conf", "deploy/impact_comment.py", "deploy/impact-gitlab.yml", "deploy/impact-github.yml"],

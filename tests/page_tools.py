@@ -18,7 +18,7 @@ from folders import LOOPBACK
 
 ROOM = Path(os.environ.get("ROOM", "."))
 ROOT, HOST = ROOM / "root", "tfstated.example.com"
-OWN = ("/var/lib/", "/var/backups", "/var/log/nginx", "/etc/nginx", "/etc/systemd", "/lib/systemd", "/usr/share/tfstated", "/usr/bin/tfstatectl")
+OWN = ("/var/lib/", "/var/backups", "/var/log/nginx", "/etc/nginx", "/etc/systemd", "/usr/lib/systemd", "/usr/share/tfstated", "/usr/bin/tfstatectl")
 AROUND = """user root;
 daemon on;
 pid {room}/nginx.pid;
@@ -107,7 +107,7 @@ def nginx(words):
 
 def commands_of(unit):
     """The words of each command of a service, with those of its drop-ins: an empty one takes away those before it."""
-    folders = [ROOT / "etc/systemd/system", ROOT / "lib/systemd/system"]
+    folders = [ROOT / "etc/systemd/system", ROOT / "usr/lib/systemd/system"]
     files = [next(folder / unit for folder in folders if (folder / unit).exists()), *sorted((folders[0] / f"{unit}.d").glob("*.conf"))]
     found = []
     for command in re.findall(r"^ExecStart=(.*)$", "\n".join(file.read_text() for file in files), re.M):

@@ -17,7 +17,7 @@ from page_blocks import blocks_of, titles
 from repository import TOP
 
 SUITE, KEPT = "bookworm", TOP / "out" / "package-test"
-INSTALLED = "systemd,systemd-sysv,nginx-light,openssl,curl,ca-certificates,jq,rsync,openssh-server,python3"
+INSTALLED = "systemd,systemd-sysv,nginx-light,openssl,curl,ca-certificates,jq,rsync,openssh-server,python3,prometheus-node-exporter"
 NEXT = package.VERSION + "+next"
 MACHINE = "tfstated-test"
 CONFIGURATION = """terraform {
@@ -39,14 +39,14 @@ def tool(*words, **how):
 
 def base_tree():
     """A fresh Debian tree with systemd and nginx, which later runs copy."""
-    base = KEPT / SUITE
-    if not (base / "done").exists():
+    base, done = KEPT / SUITE, KEPT / f"{SUITE}.done"
+    if not done.exists() or done.read_text() != INSTALLED:
         shutil.rmtree(base, ignore_errors=True)
         base.parent.mkdir(parents=True, exist_ok=True)
         mirror = [os.environ["MIRROR"]] if "MIRROR" in os.environ else []
         with open(KEPT / "debootstrap.log", "wb") as log:
             tool("debootstrap", "--variant=minbase", f"--include={INSTALLED}", SUITE, base, *mirror, stdout=log, stderr=log)
-        (base / "done").touch()
+        done.write_text(INSTALLED)
     return base
 
 
@@ -143,6 +143,12 @@ def check_the_first_day_of_the_page():
     expect(BOX.do("curl -fs https://tfstated.example.com/healthz"), "it answers\n")
 
 
+def check_what_may_not_be_entered_is_told_apart_from_what_is_not_there():
+    for folder, fault in (("/root/journal", "NotAllowed"), ("/var/lib/tfstated/none", "NoFolder")):
+        status, text = BOX.run(f"runuser -u tfstated -- tfstatectl serve {folder} --listen 127.0.0.1:8099")
+        expect((status, f"{folder}: {fault}: " in text), (8, True), text)
+
+
 def terraform(*words):
     """What Terraform writes in the container, which is to end well."""
     return BOX.do(f"cd /root/project && TF_HTTP_PASSWORD='{PASSWORDS['admin']}' CHECKPOINT_DISABLE=1 terraform {' '.join(words)} -no-color 2>&1")
@@ -198,6 +204,7 @@ def check_a_damaged_journal_ends_the_start_for_good_and_a_copy_restores_it():
 
 def check_what_to_watch_and_users():
     expect("a start goes on from" in do("What to watch"), True)
+    waits_for("curl -fs http://127.0.0.1:9100/metrics", "\ntfstated_changes_total ")
     add, remove, allow = blocks_of("Users")
     password = BOX.do(f"cd /root\n{add}").split()[-1]
     ask = f"curl -s -o /dev/null -w '%{{http_code}}' -u 'ann:{password}' https://tfstated.example.com/state/network.prod"
@@ -284,6 +291,14 @@ def check_a_removal_leaves_the_journals():
     expect(state()["version"], 4, "and an installation goes on from them")
 
 
+def check_the_archive_does_without_dpkg():
+    before = BOX.do("readlink /lib"), state()
+    BOX.do("dpkg -P tfstated && tar -xzf /root/tfstated_*_amd64.tar.gz -C / && /usr/share/tfstated/postinst configure && systemctl start tfstated")
+    waits_for("curl -fs https://tfstated.example.com/healthz")
+    expect((BOX.do("readlink /lib"), state()), before, "Debian's link stays, and the journals do")
+    expect(BOX.do("tfstatectl --version").split()[1], package.VERSION)
+
+
 def check_each_command_of_the_page_was_run():
     expect(sorted(set(titles()) - set(DONE)), [])
 
@@ -310,7 +325,8 @@ def main():
     with tempfile.TemporaryDirectory(prefix="package-", dir=KEPT) as folder:
         tree = Path(folder) / "tree"
         tool("cp", "-a", base, tree)
-        shutil.copy(package.DIST / f"{package.NAME}.deb", tree / "root")
+        for ending in ("deb", "tar.gz"):
+            shutil.copy(package.DIST / f"{package.NAME}.{ending}", tree / "root")
         shutil.copy(next_deb(Path(folder) / "next"), tree / "root" / "next.deb")
         BOX = Container(tree)
         try:
