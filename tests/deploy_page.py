@@ -103,6 +103,10 @@ def check_copies_and_what_to_watch():
     expect((found["tfstated_workspaces"][0], found["tfstated_locks"][0], "tfstated_newest_copy_age_seconds" in found), (1, 0, True), found)
 
 
+def check_who_holds_a_lock_is_asked():
+    expect(do("A run died holding the lock").strip(), '{"error":"LockLost"}', "nobody does")
+
+
 def check_users():
     blocks = blocks_of("Users")
     password = told_passwords(run(blocks[0]))["ann"]
@@ -151,10 +155,16 @@ def check_an_upgrade_and_a_restore_keep_the_states():
     expect((len(folders), folders[0]), (2, "journal"), "the copies begin anew")
 
 
-def check_a_least_position():
+def check_a_least_position_counts_what_was_accepted():
+    """Reads, refusals, copies, starts, shorter journals and a restore are no changes."""
     do("The loss of a machine")
-    expect(ask("POST", "/state/network.prod", S2, headers=signed("admin", PASSWORDS["admin"])), (200, b""))
-    expect(int((ROOT / "var/lib/tfstated-least/position").read_text()), 4, "a push, a lock, an unlock, a push")
+    admin, least = signed("admin", PASSWORDS["admin"]), ROOT / "var/lib/tfstated-least/position"
+    expect(int(least.read_text()), 3, "a push, and a lock and an unlock by the run")
+    expect(ask("POST", "/state/network.prod", S2, headers=admin), (200, b""))
+    expect(int(least.read_text()), 4)
+    for status, holder in ((200, "watch"), (423, "other"), (423, "other")):
+        expect(ask("LOCK", "/state/watch", f'{{"ID":"{holder}"}}'.encode(), headers=admin)[0], status, holder)
+    expect(int(least.read_text()), 5, "to ask whether changes are taken costs no entry")
 
 
 def check_a_standby_gets_the_journals_and_takes_over():

@@ -30,7 +30,7 @@ Architecture: amd64
 Maintainer: {maintainer}
 Installed-Size: {size}
 Depends: libc6 (>= {libc}), passwd
-Suggests: nginx, rsync
+Suggests: nginx, openssl, curl, jq, rsync
 Section: admin
 Priority: optional
 Description: server for Terraform's http state backend

@@ -1,4 +1,4 @@
-"""Gets the commands of deploy/README.md: its blocks of the language `bash`, which tests run as they stand there."""
+"""Gets the commands of deploy/README.md: its blocks of the languages `bash` and `sh`, which tests run as they stand there."""
 import re
 
 from repository import TOP
@@ -8,13 +8,13 @@ PAGE = (TOP / "deploy" / "README.md").read_text()
 
 def sections():
     """The text under each heading of the page, up to the next heading."""
-    parts = re.split(r"^#+ (.*)$", re.sub(r"^```bash\n(.*?)^```$", lambda block: block[0].replace("\n#", "\n\0#"), PAGE, flags=re.M | re.S), flags=re.M)
+    parts = re.split(r"^#+ (.*)$", re.sub(r"^```(?:ba)?sh\n(.*?)^```$", lambda block: block[0].replace("\n#", "\n\0#"), PAGE, flags=re.M | re.S), flags=re.M)
     return {title: text.replace("\0", "") for title, text in zip(parts[1::2], parts[2::2])}
 
 
 def blocks_of(title):
     """The blocks under a heading, in order."""
-    return re.findall(r"^```bash\n(.*?)^```$", sections()[title], re.M | re.S)
+    return re.findall(r"^```(?:ba)?sh\n(.*?)^```$", sections()[title], re.M | re.S)
 
 
 def titles():

@@ -74,9 +74,11 @@ def install(words):
 
 
 def runuser(words):
+    """Runs a command; a start that has the default address gets the one of the room, since somebody else may listen at 8080."""
     if words[:3] != ["-u", "tfstated", "--"]:
         return 2
-    return run(*words[3:])
+    serves = "serve" in words and "--listen" not in words
+    return run(*words[3:], *(["--listen", moved("127.0.0.1:8080")] if serves else []))
 
 
 def curl(words):

@@ -202,6 +202,10 @@ def check_a_damaged_journal_ends_the_start_for_good_and_a_copy_restores_it():
     expect(state(), before)
 
 
+def check_who_holds_a_lock_is_asked():
+    expect(do("A run died holding the lock").strip(), '{"error":"LockLost"}', "nobody does")
+
+
 def check_what_to_watch_and_users():
     expect("a start goes on from" in do("What to watch"), True)
     waits_for("curl -fs http://127.0.0.1:9100/metrics", "\ntfstated_changes_total ")
