@@ -10,7 +10,7 @@ import package
 import page_tools
 from checking import S2, SECONDS, checks_in, expect, run_checks
 from deploy_nginx import make_secrets, signed
-from folders import S1, free_port, fresh, goes_on_alone
+from folders import LOOPBACK, NEWEST, PUSH2, REBASED, S1, SHORT, free_port, fresh, goes_on_alone, named
 from metrics import read_metrics
 from page_blocks import blocks_of, titles
 from repository import TOP
@@ -186,6 +186,22 @@ def check_a_standby_gets_the_journals_and_takes_over():
     port = (STANDBY / "ports").read_text().split()[1]
     expect(run(f"curl -fs http://127.0.0.1:{port}/state/network.prod", STANDBY).encode(), S2)
     DONE.append("A warm standby")
+
+
+def check_a_damaged_journal_is_cut_or_passed_over():
+    """The commands in the lines of 'A damaged journal', over a newest journal whose last record is damaged, and over an older one."""
+    listen = f"--listen {LOOPBACK}:{free_port()}"
+    newest, older = fresh(n2=NEWEST[:-1] + b"x"), fresh(n1=NEWEST[:-1] + b"x", n2=REBASED)
+    file, past = newest / f"{named(2)}.tfj", older / f"{named(1)}.tfj"
+    told = run(f"tfstatectl serve {newest} {listen} || [ $? = 4 ]")
+    at = len(SHORT + PUSH2)
+    expect(f"{file}: Damaged: it goes wrong at byte {at}." in told, True, told)
+    expect(run(f"tfstated check {file} || [ $? = 4 ]"), f"base 1 1\n1 push a\ndamaged {at}\n", "the good records before it")
+    run(f"head -c {at} {file} >{newest}/whole && mv {newest}/whole {file}")
+    expect("a start goes on from" in run(f"tfstatectl check {newest}"), True)
+    expect(f"{past}: Damaged" in run(f"tfstatectl serve {older} {listen} || [ $? = 4 ]"), True)
+    told = run(f"timeout 3 tfstatectl serve {older} {listen} --accept-past {past} || [ $? = 124 ]")
+    expect(f"{past} is passed over" in told and "listening" in told, True, told)
 
 
 def check_each_command_of_the_page_was_run():
