@@ -1,7 +1,6 @@
 """Runs the setup of deploy/ with a real nginx: TLS, passwords, who may do what, the log, locks, bodies of 16 MiB and in chunks, clients that
 are slow or many, and a name with a server of its own. Where nginx or openssl isn't installed it says so in one line and fails."""
 import base64
-import concurrent.futures
 import contextlib
 import hashlib
 import http.client
