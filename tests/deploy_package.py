@@ -19,7 +19,8 @@ WANTED = """usr/bin/tfstatectl usr/bin/tfstated usr/share/man/man8/tfstatectl.8.
 usr/lib/systemd/system/tfstated.service usr/lib/systemd/system/tfstated-copy.service usr/lib/systemd/system/tfstated-copy.timer
 usr/lib/systemd/system/tfstated-standby.service usr/lib/systemd/system/tfstated-standby.timer
 usr/lib/systemd/system/tfstated-stats.service usr/lib/systemd/system/tfstated-stats.timer
-usr/share/doc/tfstated/README.md usr/share/doc/tfstated/IMPACT.md usr/share/doc/tfstated/FOLDER.md usr/share/doc/tfstated/VERSIONS.md usr/share/doc/tfstated/copyright
+usr/share/doc/tfstated/README.md usr/share/doc/tfstated/IMPACT.md usr/share/doc/tfstated/FOLDER.md usr/share/doc/tfstated/VERSIONS.md
+usr/share/doc/tfstated/PERFORMANCE.md usr/share/doc/tfstated/copyright
 usr/share/doc/tfstated/SHA256SUMS usr/share/tfstated/nginx.conf usr/share/tfstated/nginx-access.conf
 usr/share/tfstated/postinst usr/share/tfstated/impact_comment.py usr/share/tfstated/impact-gitlab.yml usr/share/tfstated/impact-github.yml"""
 
@@ -40,10 +41,17 @@ def check_both_archives_have_the_same_files():
     with tarfile.open(made(".tar.gz")) as archive:
         members = {member.name[2:]: member for member in archive.getmembers() if member.isfile()}
         expect(set(members), set(WANTED.split()))
-        expect({member.name.split("/")[1] for member in archive.getmembers()}, {"usr"}, "a folder `lib` would take the place of Debian's link of this name")
+        tops = {member.name.split("/")[1] for member in archive.getmembers()}
+        expect(tops, {"usr"}, "a folder `lib` would take the place of Debian's link of this name")
         for name, member in members.items():
             expect(archive.extractfile(member).read() == (ROOT / name).read_bytes(), True, name)
             expect((member.uid, member.mode), (0, 0o755 if "/bin/" in name or name.endswith("/postinst") else 0o644), name)
+
+
+def check_each_link_of_the_pages_leads_to_a_file_of_the_package():
+    pages = sorted((ROOT / "usr/share/doc/tfstated").glob("*.md"))
+    links = [(page.parent / path).resolve() for page in pages for path in re.findall(r"\]\(([^)#:]+)\)", page.read_text())]
+    expect((len(links) > 4, [path for path in links if not path.is_file()]), (True, []))
 
 
 def check_the_sums_are_those_of_the_files():

@@ -20,8 +20,9 @@ DIST, DEPLOY = TOP / "dist", TOP / "deploy"
 VERSION = (TOP / "VERSION").read_text().splitlines()[0]
 NAME = f"tfstated_{VERSION}_amd64"
 UNITS = "usr/lib/systemd/system"
+PAGES = ["deploy/README.md", "deploy/IMPACT.md", "docs/FOLDER.md", "docs/VERSIONS.md", "docs/PERFORMANCE.md"]
 TEXTS = {
-    "usr/share/doc/tfstated": ["deploy/README.md", "deploy/IMPACT.md", "docs/FOLDER.md", "docs/VERSIONS.md", "LICENSE"],
+    "usr/share/doc/tfstated": [*PAGES, "LICENSE"],
     "usr/share/tfstated": ["deploy/nginx.conf", "deploy/nginx-access.conf", "deploy/impact_comment.py", "deploy/impact-gitlab.yml", "deploy/impact-github.yml"],
 }
 CONTROL = """Package: tfstated
@@ -85,7 +86,8 @@ def fill(root, programs, when):
         put(root, f"usr/bin/{name}", Path(path).read_bytes(), 0o755)
     for folder, texts in TEXTS.items():
         for text in texts:
-            put(root, f"{folder}/{Path(text).name}", (TOP / text).read_bytes())
+            # The pages lie in one folder there.
+            put(root, f"{folder}/{Path(text).name}", (TOP / text).read_bytes().replace(b"](../docs/", b"]("))
     (root / "usr/share/doc/tfstated/LICENSE").rename(root / "usr/share/doc/tfstated/copyright")
     put(root, "usr/share/tfstated/postinst", script_text(DEPLOY / "package" / "postinst"), 0o755)
     for unit in [*DEPLOY.glob("*.service"), *DEPLOY.glob("*.timer")]:
