@@ -7,4 +7,4 @@ use Rattle.std.specs.declared.io.ErrorKind.TheVariants as kind
 abbrev pub is_passing : ErrorKind → Bool
 is_passing kind.WouldBlock = true
 is_passing kind.Interrupted = true
-is_passing other = false
+is_passing _ = false
