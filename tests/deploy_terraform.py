@@ -332,8 +332,7 @@ def check_4000_instances_are_pushed_listed_and_asked_for():
         listed = project.do("state", "list").splitlines()
         instances = instances_of(json.loads(server.ask("GET", "/state/large")[1]))
         expect((len(listed), len(instances)), (4000, 4000))
-        some = listed[::97]
-        expect(impacts(server.port, "large", some), {address: impact("any", [address], instances) for address in some})
+        expect(impacts(server.port, "large", listed), {address: impact("any", [address], instances) for address in listed})
         low = 'module.part["part 3"].terraform_data.low["7"]'
         expect(len(impacts(server.port, "large", [low])[low]), 2000, "each `high`, since dependencies have no keys")
         project.do("state", "rm", low)
