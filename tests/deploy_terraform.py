@@ -1,5 +1,5 @@
 """Runs Terraform itself over the setup of deploy/, with nginx, TLS and a password: a local state is moved in, applied, locked
-against others, and moved between two addresses; two applies at once, an apply while the server restarts and while it shortens its
+against others, and moved between two addresses and two servers; two applies at once, an apply while the server restarts and while it shortens its
 journal, pushes that are refused, 4,000 instances, and odd keys. The resource `terraform_data` is in Terraform, so nothing is downloaded."""
 import contextlib
 import http.client
@@ -13,7 +13,7 @@ import time
 import urllib.parse
 
 from checking import SECONDS, STARTED, checks_in, expect, run_checks
-from deploy_nginx import Nginx, PASSWORD, ROOM, USER, make_secrets, served, site
+from deploy_nginx import Nginx, PASSWORD, ROOM, USER, make_secrets, served, site, spread_site
 from folder_program import Serving, run
 from folders import LOOPBACK, ask_over, free_port, fresh, goes_on_alone
 from impact_model import impact, instances_of
@@ -145,6 +145,25 @@ def check_terraform_moves_applies_and_locks():
         project.do("init", "-migrate-state", "-force-copy")
         expect("No changes" in project.do("plan"), True, "the state was moved from one address to another")
         expect(server.ask("LOCK", "/state/second.prod", b'{"ID":"after"}')[0], 200, "no lock is left")
+
+
+def check_a_name_moves_to_a_server_of_its_own():
+    port, name, lock = free_port(), "/state/billing.prod", b'{"ID":"move"}'
+    first, second = servers = [Serving(fresh(n1=b"TFJ1\n")).listens() for _ in range(2)]
+    project = Project().name_backend(port, "billing.prod")
+    with Nginx(site(first.port, port), port) as proxy:
+        project.do("init")
+        project.do("apply", "-auto-approve")
+        expect(proxy.ask("LOCK", name, lock), (200, b""))
+        (project.folder / "moved.json").write_text(project.do("state", "pull"))
+    with Nginx(spread_site([server.port for server in servers], port), port):
+        project.do("state", "push", "moved.json")
+        expect((first.ask("UNLOCK", name, lock)[0], first.ask("DELETE", name)[0]), (200, 200), "at the old server")
+        expect("No changes" in project.do("plan"), True, "at the new one")
+    expect([resource["name"] for resource in json.loads(second.ask("GET", name)[1])["resources"]], ["a", "b"])
+    expect(first.ask("GET", name)[0], 404)
+    for server in servers:
+        server.kill()
 
 
 def check_the_second_of_two_applies_waits():
