@@ -5,15 +5,19 @@ import os
 import random
 import shutil
 import sys
+from pathlib import Path
 
 from check_commands import some_journal, some_record
 from checking import S1, S2, checks_in, expect, run_checks
 from folder_model import Fault, chosen, number_of, started
 from folder_program import Serving, ended, run, served
 from folders import (A, B, LOCK, LOOPBACK, NEWEST, PUSH1, PUSH2, PUSH3, REBASED, SHORT, all_of, at_once, fresh, journals, named)
+from journal_reader import base_text, push_content, record_text
 from repository import TOP
 
 EMPTY = b"TFJ1\n"
+# Of a start whose journals have 100 KB that live.
+MOST_MEMORY = 24_000_000
 STATUSES = {"TornBase": 3, "Damaged": 4, "Unlawful": 5, "NoJournal": 6, "NotFirst": 6, "Parted": 6, "TooFar": 6, "TwoOfName": 6,
             "NotAtLeast": 7, "NoFolder": 8, "Locked": 1, "CannotWrite": 1, "CannotBind": 1, "CannotRead": 1}
 
@@ -114,6 +118,27 @@ def check_journals_that_went_before_are_put_away():
         expect(journals(folder), {5: REBASED})
 
 
+def large_state(serial):
+    """A state of 100 KB."""
+    return S1.replace(b"1 ", b"%d " % serial) + b" " * 100_000
+
+
+def large_pushes(first, last):
+    """Records of pushes of such states."""
+    return b"".join(record_text(3, b"a", push_content(b"", large_state(serial))) for serial in range(first, last + 1))
+
+
+def check_journals_beside_one_another_are_started_from_in_little_memory():
+    """Two journals of 40 MB, of which 100 KB live, and one that was left behind them."""
+    base, next_base = (b"TFJ2\n" + base_text(last, [(b"a", b"", large_state(last))]) for last in (400, 800))
+    files = {"n3": EMPTY + large_pushes(1, 400), "n4": base + large_pushes(401, 800)}
+    for more in ({}, {"n5": next_base[:-1]}):
+        server = Serving(fresh(**files, **more)).listens()
+        expect(server.ask("GET", "/state/a"), (200, large_state(800)))
+        expect(server.most_memory() < MOST_MEMORY, True, f"{server.most_memory():,} bytes at most")
+        server.kill()
+
+
 def check_names_of_others_are_left_alone():
     folder = fresh(n3=NEWEST)
     others = ("journal-1.tfj", "copy.tfj", "journal-0000000004 (1).tfj", "journal-0000000009.tfj.part", "Journal-0000000009.tfj",
@@ -141,6 +166,16 @@ def check_what_cant_be_gone_on_with_stops_the_start():
              ("part of a base", NEWEST[:50], "TornBase"), ("no bytes", b"", "TornBase"), ("part of a header", b"TF", "TornBase")]
     others = [{}, {"n5": REBASED}, {"n5": REBASED, "n6": REBASED}]
     at_once(start_refused, [(about, {**other, "n4": data}, fault) for about, data, fault in table for other in others])
+
+
+def check_a_journal_that_cant_be_read_stops_the_start():
+    """Number 4 is a folder, which can be opened, or leads nowhere."""
+    for files in ({}, {"n3": NEWEST}, {"n5": REBASED}, {"n3": NEWEST, "n5": REBASED}):
+        for make in (Path.mkdir, lambda path: path.symlink_to("nowhere")):
+            folder = fresh(**files)
+            make(folder / f"{named(4)}.tfj")
+            errors = refused(folder, "CannotRead", f"beside {sorted(files)}")
+            expect(named(4) in errors, True, errors)
 
 
 def check_histories_that_parted_stop_the_start():

@@ -26,10 +26,11 @@ def position_in(path):
 
 
 def check_an_older_past_is_refused():
-    folder = fresh(n3=NEWEST)
-    errors = refused(folder, "NotAtLeast", "--at-least", "4")
-    expect("its position is 3, and the least one is 4" in errors and named(3) in errors, True, errors)
-    expect(served(folder, "--at-least", "3")[0], (200, S2))
+    for beside in ({}, {"n2": SHORT}, {"n4": REBASED[:-1]}):
+        folder = fresh(n3=NEWEST, **beside)
+        errors = refused(folder, "NotAtLeast", "--at-least", "4")
+        expect("its position is 3, and the least one is 4" in errors and named(3) in errors, True, errors)
+        expect(served(folder, "--at-least", "3")[0], (200, S2))
 
 
 def check_a_file_has_the_least_position():
@@ -119,7 +120,8 @@ def check_what_is_passed_over_is_named():
     refused(fresh(**files), "Parted")
     for name in (f"{named(3)}.tfj", f"./{named(3)}.tfj", f"/elsewhere/{named(3)}.tfj"):
         refused(fresh(**files, n5=base_of(2, b"", S1)), "Parted", "--accept-past", name)
-        expect(passed_over(fresh(n3=NEWEST, n4=SHORT), name)[0], (200, S1))
+        for folder in (fresh(n3=NEWEST, n4=SHORT), fresh(**files)):
+            expect(passed_over(folder, name)[0], (200, S1))
     for name in (f"{named(4)}.tfj", f"{named(1)}.tfj", named(3), "", "old", f"{named(3)}.tfj/"):
         errors = refused(fresh(**files), "NotPast", "--accept-past", name)
         expect(name in errors, True, errors)

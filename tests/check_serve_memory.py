@@ -2,8 +2,11 @@
 texts that are long or meant to take much."""
 import contextlib
 import io
+import itertools
 import os
+import re
 import select
+import statistics
 import sys
 import threading
 import time
@@ -15,7 +18,7 @@ from refused_requests import FOREVER, SHIM, build_shim, run_refused
 from sample_states import chain
 from serve_program import LOOPBACK, Server, asked, entries_of, free_port, fresh, hostile, limited, preloaded, push_large, reply_of, state
 from stdio_model import Request, Table
-from stdio_program import PROGRAM, USAGE
+from stdio_program import PROGRAM, USAGE, request_text
 
 A, B = b'{"ID":"A" ,"Who":""}', b'{"ID":"B"}'
 WHOLE = b"TFJ2\n" + base_text(0, []) + record_text(3, b"a", push_content(b"", S1)) + record_text(1, b"a", B)
@@ -27,6 +30,8 @@ TALK = [("POST", "/state/a", S1), ("GET", "/state/a", b""), ("LOCK", "/state/a",
 SMALL_SECONDS, SMALL_ANSWERS = 5, 120
 # A state of 8 MB and what comes of it take a few times its bytes: of the body, its document, the index and the journal's record.
 TIMES_ITS_BYTES = 8
+# What an answer takes, however long it is, and how much the middle one of 200 times may differ from run to run.
+ANSWER_BYTES, SPREAD_SECONDS = 10_000_000, 0.001
 # Long blocks of four pushes: of each its body, its record and its index, and what is freed of them.
 LONG_BLOCKS = 16
 
@@ -140,12 +145,29 @@ def most_memory(server):
     return next(int(line.split()[1]) * 1024 for line in lines if line.startswith("VmHWM:"))
 
 
-def long_module_path():
-    """A state of 4,096 instances, of which 4,095 have a module path of 8 MiB and depend on the other one."""
-    module = "module." + "m" * (8 << 20)
+def long_module_path(length):
+    """A state of 4,096 instances, of which 4,095 have a module path of so many bytes and depend on the other one."""
     instances = ",".join('{"index_key":%d,"dependencies":["t.a"]}' % number for number in range(4095))
-    own = '{"module":"%s","mode":"managed","type":"t","name":"n","instances":[%s]}' % (module, instances)
+    own = '{"module":"module.%s","mode":"managed","type":"t","name":"n","instances":[%s]}' % ("m" * length, instances)
     return state(1, ("a",))[:-2] + b", " + own.encode() + b"]}"
+
+
+def answer_texts(length, position):
+    """The texts that are, one behind another, the body of the answer that tells these 4,095 instances."""
+    yield b'{"instances":['
+    for number in range(4095):
+        yield b'%s"module.%s.t.n[%d]"' % (b"," * (number > 0), b"m" * length, number)
+    yield b'],"position":%d,"serial":1}' % position
+
+
+def answer_length(length, position):
+    """How many bytes they have."""
+    return sum(map(len, answer_texts(0, position))) + 4095 * length
+
+
+def length_of_answer(file):
+    """The stated length of the body of an answer, whose head is read."""
+    return int(re.search(rb"Content-Length: ([0-9]+)", b"".join(iter(file.readline, b"\r\n")))[1])
 
 
 @contextlib.contextmanager
@@ -168,18 +190,63 @@ def asking(connection):
 
 
 def check_a_long_module_path_takes_a_few_times_its_bytes():
-    server, text = Server(workers=2, preexec_fn=limited(6 * 10**9)), long_module_path()
+    length = 8 << 20
+    server, text = Server(workers=2, preexec_fn=limited(6 * 10**9)), long_module_path(length)
     with server.connect() as other:
         expect(asked(other, "POST", "/state/b", S1), (200, b""))
         before = most_memory(server)
         with asking(other):
             expect(server.ask("POST", "/state/a", text), (200, b""))
+            with server.connect() as connection, connection.makefile("rb") as file:
+                connection.sendall(request_text("GET", "/impact/a/any?of=t.a"))
+                expect(length_of_answer(file), answer_length(length, 2), "the length of an answer of 34 GB")
+                for told in itertools.islice(answer_texts(length, 2), 9):
+                    expect(file.read(len(told)) == told, True, "its first 64 MiB, behind which its client leaves it")
             times = (most_memory(server) - before) / len(text)
             expect(times < TIMES_ITS_BYTES, True, f"it took {times:.1f} times its bytes")
-            expect(server.ask("GET", "/impact/a/any?of=t.a"), None, "an answer of 34 GB ends its conversation")
         expect(asked(other, "GET", "/state/b"), (200, S1), "on a connection that was there before")
         expect(asked(other, "GET", "/impact/b/any?of=t.a"), (404, b'{"error":"UnknownAddress"}'))
     expect(server.ask("GET", "/state/a"), (200, text))
+
+
+def check_an_answer_of_410_mb_takes_at_most_10_mb():
+    server = Server(workers=1)
+    with server.connect() as connection, connection.makefile("rb") as file:
+        expect(asked(connection, "POST", "/state/a", long_module_path(100_000)), (200, b""))
+        before = most_memory(server)
+        connection.sendall(request_text("GET", "/impact/a/any?of=t.a"))
+        expect(length_of_answer(file), answer_length(100_000, 1))
+        for told in answer_texts(100_000, 1):
+            expect(file.read(len(told)) == told, True, "the body")
+        grown = most_memory(server) - before
+        expect(grown < ANSWER_BYTES, True, f"it took {grown} bytes")
+        expect(asked(connection, "GET", "/state/b")[0], 404, "the conversation goes on")
+
+
+def small_seconds(server):
+    """How long small requests take, the middle one of 200, on a connection."""
+    with server.connect() as connection:
+        times = []
+        for _ in range(200):
+            began = time.monotonic()
+            expect(asked(connection, "GET", "/state/b"), (200, S1))
+            times.append(time.monotonic() - began)
+        return statistics.median(times)
+
+
+def check_twelve_clients_that_leave_long_answers_unread_leave_others_served():
+    server = Server(workers=16)
+    expect(server.ask("POST", "/state/a", long_module_path(100_000)), (200, b""))
+    expect(server.ask("POST", "/state/b", S1), (200, b""))
+    alone = small_seconds(server)
+    with contextlib.ExitStack() as stack:
+        clients = [stack.enter_context(server.connect()) for _ in range(12)]
+        for client in clients:
+            client.sendall(request_text("GET", "/impact/a/any?of=t.a"))
+        for client in clients:
+            expect(select.select([client], [], [], SMALL_SECONDS)[0], [client], "each answer is begun")
+        beside = small_seconds(server)
+    expect(beside < 2 * alone + SPREAD_SECONDS, True, f"{beside * 1000:.2f} ms beside, {alone * 1000:.2f} ms alone")
 
 
 def in_chunks(text, size):

@@ -7,6 +7,7 @@ import shutil
 import subprocess
 import sys
 import threading
+from resource import RLIMIT_AS, setrlimit
 
 from check_folder import broken, some_folder
 from checking import S1, S2, SECONDS, checks_in, expect, run_checks
@@ -25,6 +26,7 @@ HARD = ['a"b', "c\\d", "e\nf", "é"]
 STATUSES = {"NoJournal": 6, "NoFolder": 8, "NotAllowed": 8, "TornBase": 3, "Damaged": 4, "Unlawful": 5, "Changing": 1, "Write": 1, "NoName": 11,
             "NoState": 12, "BeforeOldest": 13, "BehindNewest": 13, "NotKept": 13, "LineageDiffers": 14, "SerialAtLimit": 15, "TooLong": 15, "UnknownAddress": 16, "TooManyAddresses": 16}
 WHO = {"ID": "x", "Operation": "OperationTypeApply", "Who": "ann@build", "Created": "2026-02-03T04:05:06Z", "Info": "", "Path": ""}
+MEMORY = 40 << 20
 TURNS = int(os.environ.get("VERSION_TURNS", "100"))
 
 
@@ -77,6 +79,18 @@ def check_a_history_has_each_act_once_in_order():
     lines = bytes_of("history", some_past(), "a").decode().splitlines()
     expect([line.split()[:3] for line in lines], [["position", "act", "serial"], ["1", "push", "1"], ["2", "push", "2"], ["3", "lock", "-"]])
     expect("ann@build" in lines[3], True, lines)
+
+
+def limit_memory():
+    """Limits the address space of a program in front of it."""
+    setrlimit(RLIMIT_AS, (MEMORY, MEMORY))
+
+
+def check_a_long_history_takes_little_memory():
+    folder = fresh(n1=b"TFJ1\n" + b"".join(record_text(3, b"a", push_content(b"", state(serial) + b" " * 16384)) for serial in range(1, 4097)))
+    ran = subprocess.run([FOLDER_PROGRAM, "history", folder, "a", "--json"], capture_output=True, timeout=SECONDS, check=False, preexec_fn=limit_memory)
+    expect((ran.returncode, ran.stderr), (0, b""), "in less memory than the journal has bytes")
+    expect([row["serial"] for row in json.loads(ran.stdout)], [*range(1, 4097)])
 
 
 def check_a_list_has_each_name_with_its_holder():

@@ -1,4 +1,4 @@
-"""Runs the tests of deploy/: those of its pages and of the package, of nginx, which has to be installed, of each command of its page, and of
+"""Runs the tests of deploy/: those of its pages and of the package, of nginx, which has to be installed, of each command of its pages, and of
 Terraform, where it is. The last line is `N passed, M failed`."""
 import shutil
 import sys
@@ -7,7 +7,7 @@ from gate import Screen, run, script
 from repository import TOP
 
 TESTS = ["deploy_pages.py", "deploy_package.py", "deploy_nginx.py", "deploy_page.py"]
-OF_TERRAFORM = ["deploy_terraform.py", "deploy_impact.py"]
+OF_TERRAFORM = ["deploy_terraform.py", "deploy_commands.py", "deploy_impact.py"]
 
 
 def main():
@@ -18,7 +18,7 @@ def main():
     if shutil.which("terraform"):
         tests += OF_TERRAFORM
     else:
-        screen.show(f"terraform isn't installed: {' and '.join(OF_TERRAFORM)} are left out")
+        screen.show(f"terraform isn't installed: {', '.join(OF_TERRAFORM)} are left out")
     passed, failed = map(sum, zip(*(run(script(TOP / "tests" / name), screen)[0] for name in tests)))
     print(f"{passed} passed, {failed} failed", flush=True)
     return 1 if failed else 0

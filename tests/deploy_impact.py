@@ -1,15 +1,15 @@
 """Runs deploy/impact_comment.py over plans that Terraform makes: what they reach beyond themselves, against a search over the state."""
 import json
-import os
 import shutil
 import subprocess
 import sys
 
 from checking import SECONDS, checks_in, expect, run_checks
-from deploy_nginx import PASSWORD, ROOM, USER, make_secrets, served
-from deploy_terraform import Project
+from deploy_nginx import PASSWORD, USER, make_secrets, served
+from deploy_terraform import Project, ended
 from folders import LOOPBACK
 from impact_model import impact, instances_of
+from page_blocks import IMPACT, blocks_in, commands_in
 from repository import TOP
 
 SCRIPT = TOP / "deploy" / "impact_comment.py"
@@ -30,13 +30,16 @@ resource "terraform_data" "last" { depends_on = [terraform_data.part] }
 
 
 def comment(project, backend, password=PASSWORD):
-    """The status of the script over the plan of a project, what it prints, and what it says on standard error."""
-    project.do("plan", "-out=plan.bin")
-    plan = project.do("show", "-json", "plan.bin")
-    variables = {"TF_HTTP_USERNAME": USER, "TF_HTTP_PASSWORD": password, "SSL_CERT_FILE": str(ROOM / "certificate.pem"), "PATH": os.environ["PATH"]}
-    words = [sys.executable, str(SCRIPT), backend]
-    ran = subprocess.run(words, input=plan, env=variables, capture_output=True, text=True, timeout=SECONDS, check=False)
-    return ran.returncode, ran.stdout, ran.stderr
+    """The status of the page's commands over the plan of a project, what the script prints, and what it says on standard error."""
+    shutil.copy(SCRIPT, project.folder)
+    plan, show = blocks_in(IMPACT)[0].replace("https://tfstated.example.com/state/network.prod", backend).splitlines()
+    good, text = ended(project.popen("bash", "-c", plan))
+    expect(good, True, text)
+    project.variables = {"TF_HTTP_USERNAME": USER, "TF_HTTP_PASSWORD": password}
+    ran = project.popen("bash", "-c", show, stderr=subprocess.PIPE)
+    text, errors = ran.communicate(timeout=SECONDS)
+    project.variables = {}
+    return ran.returncode, text, errors
 
 
 def listed_in(text, title):
@@ -102,6 +105,10 @@ def check_what_goes_wrong_is_told():
         server.ask("DELETE", "/state/net")
         ran = subprocess.run([sys.executable, str(SCRIPT)], capture_output=True, check=False)
         expect(ran.returncode, 2)
+
+
+def check_the_page_has_no_other_commands():
+    expect((len(blocks_in(IMPACT)), commands_in(IMPACT)), (1, set()))
 
 
 def check_the_files_to_copy_run_the_script_as_its_page_does():

@@ -10,6 +10,7 @@ from pathlib import Path
 
 import package
 from checking import SECONDS, checks_in, expect, run_checks
+from page_blocks import PAGE
 from repository import TOP
 
 FOLDER = tempfile.TemporaryDirectory(prefix="tfstated-")
@@ -117,6 +118,9 @@ def check_systemd_reads_the_units():
         package.put(ROOT, f"usr/lib/systemd/system/{target}.target", b"[Unit]\nDescription=a target\n")
     for name in ("usr/bin/rsync", "usr/bin/find", "bin/sh"):
         package.put(ROOT, name, b"", 0o755)
+    for path, text in re.findall(r"^cat >(\S+) <<'END'\n(.*?)^END$", PAGE, re.M | re.S):
+        package.put(ROOT, path[1:], text.encode())
+    expect(len(list((ROOT / "etc/systemd/system/tfstated.service.d").iterdir())), 2, "what the page adds to the units")
     units = [ROOT / f"usr/lib/systemd/system/{name}.service" for name in UNITS]
     status, told = tool("systemd-analyze", "verify", "--man=no", f"--root={ROOT}", *units)
     expect((status, told), (0, ""))

@@ -1,6 +1,9 @@
 """Runs each command of deploy/README.md, in the order of its days, in a folder of its own: with the package, a real nginx, openssl and curl, and with
-stand-ins for what changes a whole system. tests/try_package.py runs the same ones under a real systemd."""
+stand-ins for what changes a whole system. tests/deploy_commands.py runs those of Terraform, and tests/try_package.py blocks, and what asks systemd,
+under a real one."""
+import json
 import os
+import re
 import shutil
 import subprocess
 import sys
@@ -10,16 +13,15 @@ import package
 import page_tools
 from checking import S2, SECONDS, checks_in, expect, run_checks
 from deploy_nginx import make_secrets, signed
-from folders import LOOPBACK, NEWEST, PUSH2, REBASED, S1, SHORT, free_port, fresh, goes_on_alone, named
+from folders import LOOPBACK, NEWEST, PUSH2, PUSH3, REBASED, S1, SHORT, free_port, fresh, goes_on_alone, named
 from metrics import read_metrics
-from page_blocks import blocks_of, titles
+from page_blocks import PAGE, TERRAFORM, command, commands_in, commands_of, left_out, places, take, take_all
 from repository import TOP
 
 # The folders of the machine that the page is about, and of its standby.
 ROOM, STANDBY = fresh(), fresh()
 ROOT = ROOM / "root"
 JOURNAL = ROOT / "var/lib/tfstated/journal"
-DONE = []
 
 
 def prepare(room):
@@ -52,8 +54,7 @@ def run(block, room=ROOM):
 
 def do(title):
     """What the blocks under a heading write."""
-    DONE.append(title)
-    return "".join(run(block) for block in blocks_of(title))
+    return "".join(run(block) for block in take_all(title))
 
 
 def ask(method, target, body=None, **how):
@@ -98,27 +99,60 @@ def check_copies_and_what_to_watch():
     before = goes_on_alone(JOURNAL)
     text = do("What to watch")
     goes_on_alone(JOURNAL, before)
-    expect(("a start goes on from" in text, "\tadmin\tPOST\tnetwork.prod\t200" in text), (True, True), text)
+    expect(("\n423\n" in f"\n{text}", "a start goes on from" in text, "\tadmin\tPOST\tnetwork.prod\t200" in text), (True, True, True), text)
     found = read_metrics((ROOT / "var/lib/prometheus/node-exporter/tfstated.prom").read_text())
-    expect((found["tfstated_workspaces"][0], found["tfstated_locks"][0], "tfstated_newest_copy_age_seconds" in found), (1, 0, True), found)
+    expect((found["tfstated_workspaces"][0], found["tfstated_locks"][0], "tfstated_newest_copy_age_seconds" in found), (2, 1, True), found)
 
 
 def check_who_holds_a_lock_is_asked():
-    expect(do("A run died holding the lock").strip(), '{"error":"LockLost"}', "nobody does")
+    asks = take("A run died holding the lock", 0)
+    expect(run(asks).strip(), '{"error":"LockLost"}', "nobody does")
+    expect(run(asks.replace("/prod?", "/watch?")).strip(), '{"ID":"for ever"}')
+    asks = asks.replace("curl -s", f"curl -s -u 'admin:{PASSWORDS['admin']}'").replace("http://127.0.0.1:8080", "https://tfstated.example.com")
+    expect(run(asks).strip(), '{"error":"LockLost"}', "the same through nginx")
+
+
+def check_the_manual_and_the_limits_are_told():
+    expect("--at-least-file" in run(command("man tfstatectl")), True)
+    for limit in "sf":
+        expect(re.fullmatch("[0-9]+|unlimited", run(command(f"ulimit -{limit}")).strip()) is not None, True)
+
+
+def check_the_script_of_the_archive():
+    script = ROOT / "usr/share/tfstated/postinst"
+    page_tools.enter(ROOM)
+    script.write_text(page_tools.moved(script.read_text()))
+    text = run(command("/usr/share/tfstated/postinst configure"))
+    expect("nothing is started" in text, True, text)
+
+
+def check_a_start_that_fails_is_told():
+    newest = JOURNAL / f"{named(goes_on_alone(JOURNAL))}.tfj"
+    page_tools.enter(ROOM)
+    page_tools.stop("server")
+    whole = newest.read_bytes()
+    newest.write_bytes(whole[:60] + bytes([whole[60] ^ 1]) + whole[61:])
+    run("systemctl start tfstated tfstated-copy tfstated-stats || true")
+    for unit in ("tfstated", "tfstated-copy", "tfstated-stats"):
+        expect(run(command(f"systemctl is-failed {unit}")), "failed\n", unit)
+    for text in (run(command("journalctl -u tfstated")), run(f"{command('systemctl status tfstated')} || [ $? = 3 ]")):
+        expect(f"{newest}: Damaged" in text, True, text)
+    newest.write_bytes(whole)
+    run(command("systemctl start tfstated"))
+    expect(run("systemctl is-failed tfstated || [ $? = 1 ]"), "active\n")
 
 
 def check_users():
-    blocks = blocks_of("Users")
-    password = told_passwords(run(blocks[0]))["ann"]
+    add, remove, allow = take_all("Users")
+    password = told_passwords(run(add))["ann"]
     expect(ask("GET", "/state/network.prod", headers=signed("ann", password))[0], 403, "she has no line")
     before = (ROOT / "etc/nginx/tfstated/passwords").read_text()
-    run(blocks[1])
+    run(remove)
     expect(ask("GET", "/state/network.prod", headers=signed("ann", password))[0], 401, "she is gone")
     (ROOT / "etc/nginx/tfstated/passwords").write_text(before)
-    run(blocks[2])
+    run(allow)
     expect(waits_for_status("ann", password, 200), True)
     expect(ask("GET", "/state/network.prod", headers=signed("admin", PASSWORDS["admin"])), (200, S1))
-    DONE.append("Users")
 
 
 def waits_for_status(user, password, wanted):
@@ -159,17 +193,24 @@ def check_a_least_position_counts_what_was_accepted():
     """Reads, refusals, copies, starts, shorter journals and a restore are no changes."""
     do("The loss of a machine")
     admin, least = signed("admin", PASSWORDS["admin"]), ROOT / "var/lib/tfstated-least/position"
-    expect(int(least.read_text()), 3, "a push, and a lock and an unlock by the run")
+    expect(int(least.read_text()), 4, "a push, a lock and an unlock by the run, and the lock that is watched")
     expect(ask("POST", "/state/network.prod", S2, headers=admin), (200, b""))
-    expect(int(least.read_text()), 4)
-    for status, holder in ((200, "watch"), (423, "other"), (423, "other")):
-        expect(ask("LOCK", "/state/watch", f'{{"ID":"{holder}"}}'.encode(), headers=admin)[0], status, holder)
+    expect(int(least.read_text()), 5)
+    expect(ask("LOCK", "/state/watch", b'{"ID":"other"}', headers=admin)[0], 423)
     expect(int(least.read_text()), 5, "to ask whether changes are taken costs no entry")
 
 
+def check_an_address_with_a_key_is_asked_for():
+    resource = {"mode": "managed", "type": "t", "name": "a", "instances": [{"index_key": "k"}]}
+    body = json.dumps({"version": 4, "serial": 1, "lineage": "L", "resources": [resource]}).encode()
+    expect(ask("POST", "/state/keys", body, headers=signed("admin", PASSWORDS["admin"])), (200, b""))
+    text = run(command("""curl -G URL --data-urlencode 'of=t.a["k"]'""", URL="http://127.0.0.1:8080/impact/keys/any"))
+    expect('{"instances":[],' in text, True, text)
+
+
 def check_a_standby_gets_the_journals_and_takes_over():
-    standby, first, again, take_over = blocks_of("A warm standby")
-    run(blocks_of("First day")[0], STANDBY)
+    standby, first, again, take_over = take_all("A warm standby")
+    run(take("First day", 0), STANDBY)
     run(standby, STANDBY)
     shutil.copy(STANDBY / "root/var/lib/tfstated/.ssh/id_ed25519.pub", ROOM / "standby.pub")
     run(first)
@@ -182,30 +223,48 @@ def check_a_standby_gets_the_journals_and_takes_over():
     expect(copy.read_bytes() == newest.read_bytes(), True, "the standby has the journal")
     page_tools.enter(ROOM)
     page_tools.stop("server")
+    start = command("tfstatectl serve FOLDER --at-least POSITION", FOLDER="/var/lib/tfstated/journal", POSITION=1000)
+    expect("NotAtLeast" in run(f"{start} || [ $? = 7 ]", STANDBY), True, "a position that the standby lacks")
     run(take_over, STANDBY)
     port = (STANDBY / "ports").read_text().split()[1]
     expect(run(f"curl -fs http://127.0.0.1:{port}/state/network.prod", STANDBY).encode(), S2)
-    DONE.append("A warm standby")
 
 
 def check_a_damaged_journal_is_cut_or_passed_over():
-    """The commands in the lines of 'A damaged journal', over a newest journal whose last record is damaged, and over an older one."""
+    """Over a newest journal whose last record is damaged, and over an older one."""
     listen = f"--listen {LOOPBACK}:{free_port()}"
     newest, older = fresh(n2=NEWEST[:-1] + b"x"), fresh(n1=NEWEST[:-1] + b"x", n2=REBASED)
     file, past = newest / f"{named(2)}.tfj", older / f"{named(1)}.tfj"
     told = run(f"tfstatectl serve {newest} {listen} || [ $? = 4 ]")
     at = len(SHORT + PUSH2)
     expect(f"{file}: Damaged: it goes wrong at byte {at}." in told, True, told)
-    expect(run(f"tfstated check {file} || [ $? = 4 ]"), f"base 1 1\n1 push a\ndamaged {at}\n", "the good records before it")
-    run(f"head -c {at} {file} >{newest}/whole && mv {newest}/whole {file}")
+    text = run(f"{command('tfstated check FILE', FILE=file)} || [ $? = 4 ]")
+    expect(text, f"base 1 1\n1 push a\ndamaged {at}\n", "the good records before it")
+    run(command("truncate -s AT FILE", AT=at, FILE=file))
     expect("a start goes on from" in run(f"tfstatectl check {newest}"), True)
     expect(f"{past}: Damaged" in run(f"tfstatectl serve {older} {listen} || [ $? = 4 ]"), True)
-    told = run(f"timeout 3 tfstatectl serve {older} {listen} --accept-past {past} || [ $? = 124 ]")
+    start = command("runuser -u tfstated -- tfstatectl serve /var/lib/tfstated/journal --accept-past FILE", FILE=past)
+    told = run(start.replace("tfstatectl", "timeout 3 tfstatectl").replace("/var/lib/tfstated/journal", str(older)) + " || [ $? = 124 ]")
     expect(f"{past} is passed over" in told and "listening" in told, True, told)
+    expect("listening" in run(f"timeout 3 tfstatectl serve {older} {listen} || [ $? = 124 ]"), True, "the unit starts again")
+
+
+def check_histories_of_two_servers_are_told_apart():
+    listen = f"--listen {LOOPBACK}:{free_port()}"
+    both = fresh(n1=SHORT + PUSH3, n2=REBASED)
+    told = run(f"tfstatectl serve {both} {listen} || [ $? = 6 ]")
+    expect("Parted" in told, True, told)
+    for folder in (fresh(n1=SHORT + PUSH3), fresh(n2=REBASED)):
+        text = run(command("tfstatectl check FOLDER", FOLDER=folder))
+        expect("a start goes on from" in text, True, text)
+    run(command("tfstatectl show FOLDER NAME >FILE", FOLDER=folder, NAME="a", FILE="missing.json"))
+    expect((ROOM / "missing.json").read_bytes(), S2, "what is pushed to the other one")
+    told = run(f"timeout 3 tfstatectl serve {both} {listen} --accept-past {both}/{named(1)}.tfj || [ $? = 124 ]")
+    expect("lost" in told and "listening" in told, True, told)
 
 
 def check_each_command_of_the_page_was_run():
-    expect(sorted(set(titles()) - set(DONE)), [])
+    expect(left_out({*places(), *commands_in(PAGE)} - commands_of(*TERRAFORM)), [])
 
 
 def end():
@@ -219,7 +278,7 @@ if __name__ == "__main__":
     missing = [name for name in ("nginx", "openssl", "dpkg-deb", "jq", "curl", "rsync", "ssh-keygen") if not shutil.which(name)]
     if missing:
         sys.exit(f"not installed: {', '.join(missing)}")
-    package.main()
+    subprocess.run(command("make package").split(), cwd=TOP, stdout=subprocess.DEVNULL, check=True)
     make_secrets()
     prepare(ROOM)
     prepare(STANDBY)

@@ -1,5 +1,5 @@
 """Checks the picture of a state and of the answer to an impact query, by the example of docs/PROTOCOL.md and by odd addresses, and
-that deploy/README.md has a line for each refusal and each fault."""
+that deploy/README.md has a line for each refusal and each fault, and no block whose commands no test finds."""
 import re
 import shutil
 import subprocess
@@ -8,10 +8,11 @@ import tempfile
 from pathlib import Path
 
 from checking import checks_in, expect, run_checks
+from page_blocks import IMPACT, PAGE, other_blocks
 from picture import picture
 from stdio_program import TOP, run
 
-PROTOCOL, DEPLOY = ((TOP / path).read_text() for path in ("docs/PROTOCOL.md", "deploy/README.md"))
+PROTOCOL = (TOP / "docs" / "PROTOCOL.md").read_text()
 DRAWN = """digraph impact {
   rankdir=LR;
   node [shape=box, style=filled, fillcolor=white, fontname="sans-serif"];
@@ -59,12 +60,17 @@ def check_each_refusal_and_each_fault_has_a_line():
     section = PROTOCOL.split("\n## Refusals\n")[1].split("\n## ")[0]
     refusals = set(re.findall(r"^\| [0-9]+ \| (\w+) \| ([0-9]{3}) \|", section, re.M))
     expect(len(refusals), 29, "refusals of docs/PROTOCOL.md")
-    expect(set(re.findall(r"^\| (\w+) \| ([0-9]{3}) \|", DEPLOY, re.M)), refusals)
+    expect(set(re.findall(r"^\| (\w+) \| ([0-9]{3}) \|", PAGE, re.M)), refusals)
     rows = re.findall(r"^\| `(?:rebase|serve)` \| (Cannot.*) \|$", PROTOCOL, re.M)
     faults = set(re.findall(r"[A-Z]\w+", " ".join(rows)))
     expect(len(faults) > 10, True, faults)
-    told = set(re.findall(r"\w+", " ".join(re.findall(r"^\| ([A-Z]\w+(?:, \w+)*) \|", DEPLOY, re.M))))
+    told = set(re.findall(r"\w+", " ".join(re.findall(r"^\| ([A-Z]\w+(?:, \w+)*) \|", PAGE, re.M))))
     expect(faults - told, set(), "faults without a line")
+
+
+def check_no_block_has_commands_that_nothing_finds():
+    for page in (PAGE, IMPACT):
+        expect(other_blocks(page), [])
 
 
 def check_odd_addresses_are_drawn():

@@ -1,6 +1,6 @@
-"""Runs Terraform itself over the setup of deploy/, with nginx, TLS and a password: a local state is moved in, applied, locked
-against others, and moved between two addresses and two servers; two applies at once, an apply while the server restarts and while it shortens its
-journal, pushes that are refused, 4,000 instances, and odd keys. The resource `terraform_data` is in Terraform, so nothing is downloaded."""
+"""Runs Terraform itself over the setup of deploy/, with nginx, TLS and a password: a configuration is applied, and locked against others; two
+applies at once, an apply while the server restarts and while it shortens its journal, pushes that are refused, 4,000 instances, and odd keys. The
+resource `terraform_data` is in Terraform, so nothing is downloaded. tests/deploy_commands.py has the commands of the page."""
 import contextlib
 import http.client
 import json
@@ -13,21 +13,12 @@ import time
 import urllib.parse
 
 from checking import SECONDS, STARTED, checks_in, expect, run_checks
-from deploy_nginx import Nginx, PASSWORD, ROOM, USER, make_secrets, served, site, spread_site
-from folder_program import Serving, run
+from deploy_nginx import Nginx, PASSWORD, ROOM, USER, make_secrets, replaced, served, site
+from folder_program import Serving
 from folders import LOOPBACK, ask_over, free_port, fresh, goes_on_alone
 from impact_model import impact, instances_of
+from page_blocks import configuration
 
-BACKEND = """terraform {{
-  backend "http" {{
-    address        = "https://{host}:{port}/state/{name}"
-    lock_address   = "https://{host}:{port}/state/{name}"
-    unlock_address = "https://{host}:{port}/state/{name}"
-    username       = "{user}"
-    retry_max      = {tries}
-  }}
-}}
-"""
 RESOURCES = """resource "terraform_data" "a" { input = "1" }
 resource "terraform_data" "b" { input = terraform_data.a.output }
 """
@@ -74,24 +65,31 @@ class Project:
     """A folder with a configuration."""
 
     def __init__(self, text=RESOURCES, **modules):
-        self.folder = fresh()
+        self.folder, self.variables = fresh(), {}
         (self.folder / "main.tf").write_text(text)
         for name, content in modules.items():
             (self.folder / name).mkdir()
             (self.folder / name / "main.tf").write_text(content)
 
-    def name_backend(self, port, name, tries=0):
-        (self.folder / "backend.tf").write_text(BACKEND.format(host=LOOPBACK, port=port, name=name, user=USER, tries=tries))
+    def name_backend(self, port, name, tries=0, user=USER):
+        """Gives it the page's block, with another address and user."""
+        block = replaced(configuration(), 'username       = "network-ci"', f'username = "{user}"\n    retry_max = {tries}')
+        block = block.replace("tfstated.example.com/state/network.prod", f"{LOOPBACK}:{port}/state/{name}")
+        (self.folder / "backend.tf").write_text(block)
         return self
+
+    def popen(self, *words, **how):
+        """A command in its folder, which goes on by itself."""
+        variables = {"TF_HTTP_PASSWORD": PASSWORD, "SSL_CERT_FILE": str(ROOM / "certificate.pem"), "CHECKPOINT_DISABLE": "1",
+                     "TF_IN_AUTOMATION": "1", "HOME": str(self.folder), "TF_CLI_CONFIG_FILE": "/dev/null", **self.variables}
+        how = {"stdin": subprocess.DEVNULL, "stderr": subprocess.STDOUT, **how}
+        started = subprocess.Popen(words, cwd=self.folder, env={**os.environ, **variables}, stdout=subprocess.PIPE, text=True, **how)
+        STARTED.append(started)
+        return started
 
     def start(self, *words):
         """Terraform, which goes on by itself."""
-        variables = {"TF_HTTP_PASSWORD": PASSWORD, "SSL_CERT_FILE": str(ROOM / "certificate.pem"), "CHECKPOINT_DISABLE": "1",
-                     "TF_IN_AUTOMATION": "1", "HOME": str(self.folder), "TF_CLI_CONFIG_FILE": "/dev/null"}
-        how = {"cwd": self.folder, "env": {**os.environ, **variables}, "stdin": subprocess.DEVNULL, "stdout": subprocess.PIPE}
-        started = subprocess.Popen(["terraform", *words, "-no-color"], stderr=subprocess.STDOUT, text=True, **how)
-        STARTED.append(started)
-        return started
+        return self.popen("terraform", *words, "-no-color")
 
     def run(self, *words):
         """Whether Terraform ends well, and what it writes."""
@@ -121,15 +119,13 @@ def ended(process):
     return process.returncode == 0, text
 
 
-def check_terraform_moves_applies_and_locks():
+def check_terraform_applies_and_locks():
     with served() as (server, proxy):
-        project = Project()
+        project = Project().name_backend(proxy.port, "first")
         project.do("init")
         project.do("apply", "-auto-approve")
-        project.name_backend(proxy.port, "first")
-        project.do("init", "-migrate-state", "-force-copy")
         state = json.loads(server.ask("GET", "/state/first")[1])
-        expect([resource["name"] for resource in state["resources"]], ["a", "b"], "the local state was moved in")
+        expect([resource["name"] for resource in state["resources"]], ["a", "b"])
         expect("No changes" in project.do("plan"), True)
         (project.folder / "main.tf").write_text(RESOURCES.replace('"1"', '"2"'))
         project.do("apply", "-auto-approve")
@@ -141,29 +137,7 @@ def check_terraform_moves_applies_and_locks():
         expect((good, "already locked: ID=somebody" in text), (False, True), text)
         project.do("force-unlock", "-force", "somebody")
         expect("No changes" in project.do("plan"), True, "the lock was cleared")
-        project.name_backend(proxy.port, "second.prod")
-        project.do("init", "-migrate-state", "-force-copy")
-        expect("No changes" in project.do("plan"), True, "the state was moved from one address to another")
-        expect(server.ask("LOCK", "/state/second.prod", b'{"ID":"after"}')[0], 200, "no lock is left")
-
-
-def check_a_name_moves_to_a_server_of_its_own():
-    port, name, lock = free_port(), "/state/billing.prod", b'{"ID":"move"}'
-    first, second = servers = [Serving(fresh(n1=b"TFJ1\n")).listens() for _ in range(2)]
-    project = Project().name_backend(port, "billing.prod")
-    with Nginx(site(first.port, port), port) as proxy:
-        project.do("init")
-        project.do("apply", "-auto-approve")
-        expect(proxy.ask("LOCK", name, lock), (200, b""))
-        (project.folder / "moved.json").write_text(project.do("state", "pull"))
-    with Nginx(spread_site([server.port for server in servers], port), port):
-        project.do("state", "push", "moved.json")
-        expect((first.ask("UNLOCK", name, lock)[0], first.ask("DELETE", name)[0]), (200, 200), "at the old server")
-        expect("No changes" in project.do("plan"), True, "at the new one")
-    expect([resource["name"] for resource in json.loads(second.ask("GET", name)[1])["resources"]], ["a", "b"])
-    expect(first.ask("GET", name)[0], 404)
-    for server in servers:
-        server.kill()
+        expect(server.ask("LOCK", "/state/first", b'{"ID":"after"}')[0], 200, "no lock is left")
 
 
 def check_the_second_of_two_applies_waits():
@@ -232,49 +206,6 @@ def check_an_apply_goes_on_over_compactions():
     server.kill()
 
 
-def check_what_a_server_that_is_away_leaves_behind_is_pushed_later():
-    folder, port = fresh(n1=b"TFJ1\n"), free_port()
-    server = Serving(folder).listens()
-    with Nginx(site(server.port, port), port):
-        project = Project().name_backend(port, "one")
-        project.do("init")
-        project.do("apply", "-auto-approve")
-        (project.folder / "main.tf").write_text(SLOW + RESOURCES)
-        applying = project.start("apply", "-auto-approve")
-        project.begun()
-        server.kill()
-        project.go()
-        good, text = ended(applying)
-        expect((good, (project.folder / "errored.tfstate").exists()), (False, True), text)
-        server = Serving(folder, port=server.port).listens()
-        good, text = project.run("state", "push", "errored.tfstate")
-        expect((good, "already locked" in text), (False, True), "the run's lock is still held")
-        project.do("force-unlock", "-force", holder(server, "one"))
-        project.do("state", "push", "errored.tfstate")
-        expect("No changes" in project.do("plan"), True)
-        good, text = project.run("state", "push", "errored.tfstate")
-        expect((good, "over newer state" in text), (False, True), text)
-    server.kill()
-
-
-def check_a_state_that_was_stored_after_all_can_be_pushed():
-    with served() as (server, proxy):
-        project = Project().name_backend(proxy.port, "one")
-        project.do("init")
-        project.do("apply", "-auto-approve")
-        kept = server.ask("GET", "/state/one")
-        (project.folder / "errored.tfstate").write_bytes(kept[1])
-        project.do("state", "push", "errored.tfstate")
-        expect(server.ask("GET", "/state/one"), kept)
-
-
-def holder(server, name):
-    """Who holds the lock of a name, asked as deploy/README.md says."""
-    status, body = server.ask("POST", f"/state/{name}?ID=who", b'{"version":4,"serial":0,"lineage":"who"}')
-    expect(status, 423, body)
-    return json.loads(body)["ID"]
-
-
 def check_older_and_other_states_are_refused_also_where_terraform_is_forced():
     with served() as (server, proxy):
         project = Project().name_backend(proxy.port, "one")
@@ -302,24 +233,6 @@ def check_older_and_other_states_are_refused_also_where_terraform_is_forced():
 def asked(address):
     """An address as it is asked for. Terraform prints `${` and `%{` of a key doubled, and the address of the server has the key as it is."""
     return re.sub(r'\["(?:[^"\\]|\\.)*"\]$', lambda key: key[0].replace("$${", "${").replace("%%{", "%{"), address)
-
-
-def check_an_older_state_comes_back():
-    with served() as (server, proxy):
-        project = Project().name_backend(proxy.port, "one")
-        project.do("init")
-        project.do("apply", "-auto-approve")
-        old = json.loads(server.ask("GET", "/state/one")[1])
-        (project.folder / "main.tf").write_text(RESOURCES.replace('"1"', '"2"'))
-        project.do("apply", "-auto-approve")
-        newest = json.loads(server.ask("GET", "/state/one")[1])
-        status, text, errors = run("restore", server.folder, "one", "--position", "2")
-        expect((status, errors), (0, ""), errors)
-        (project.folder / "back.json").write_text(text)
-        project.do("state", "push", "back.json")
-        back = json.loads(server.ask("GET", "/state/one")[1])
-        expect((back["serial"] > newest["serial"], back["resources"]), (True, old["resources"]))
-        expect("0 to add, 2 to change" in project.do("plan"), True, "the plan leads forward again")
 
 
 def impacts(port, name, addresses):

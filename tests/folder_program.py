@@ -1,6 +1,7 @@
 """Gets the built program `tfstatectl` for the checks, and serves folders of journals with it."""
 import http.client
 import subprocess
+from pathlib import Path
 
 from built import program
 from checking import SECONDS, STARTED, expect
@@ -44,6 +45,11 @@ class Serving:
             return ask_over(connection, method, target, body)
         finally:
             connection.close()
+
+    def most_memory(self):
+        """The most bytes of memory that it has had at once."""
+        lines = Path(f"/proc/{self.process.pid}/status").read_text().splitlines()
+        return next(int(line.split()[1]) * 1024 for line in lines if line.startswith("VmHWM:"))
 
     def end(self):
         """Waits until it has ended: its status, and what it wrote on standard error."""

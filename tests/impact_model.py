@@ -39,7 +39,7 @@ def instances_of(top):
 
 def named_by(text, instances):
     """The numbers of the instances that a text names."""
-    return [i for i, instance in enumerate(instances) if text in (instance.address, instance.configuration)]
+    return [i for i, instance in enumerate(instances) if text == instance.address or text == instance.configuration]
 
 
 def reached_by(starts, instances):
@@ -47,7 +47,7 @@ def reached_by(starts, instances):
     reached, last = set(), set(starts)
     while last:
         names = {instances[i].configuration for i in last}
-        last = {i for i, instance in enumerate(instances) if instance.dependencies & names} - reached
+        last = {i for i, instance in enumerate(instances) if not instance.dependencies.isdisjoint(names)} - reached
         reached |= last
     return reached
 

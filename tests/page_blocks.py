@@ -1,22 +1,94 @@
-"""Gets the commands of deploy/README.md: its blocks of the languages `bash` and `sh`, which tests run as they stand there."""
+"""Gets the commands of deploy/'s pages, which tests run as they stand there: blocks of the languages `bash` and `sh`, and the commands in sentences
+and tables. What a test takes to run it is noted, so that it can tell at its end what it left out.
+
+    python3 tests/page_blocks.py    lists them, each with the tests that run it"""
 import re
 
+from checking import expect
 from repository import TOP
 
-PAGE = (TOP / "deploy" / "README.md").read_text()
+PAGE, IMPACT = ((TOP / "deploy" / name).read_text() for name in ("README.md", "IMPACT.md"))
+FENCED = re.compile(r"^```(\w*)\n(.*?)^```$", re.M | re.S)
+# Text in backquotes that begins like a command and is none. So are lines of nginx's configuration, which end in `;`.
+NO_COMMANDS = {"it answers"}
+# The program whose commands in sentences tests/deploy_commands.py runs, and those whose commands tests/try_package.py runs under a real systemd.
+TERRAFORM, SYSTEMD = ("terraform",), ("systemctl", "journalctl", "/usr/share/tfstated/postinst")
+TAKEN = set()
 
 
 def sections():
     """The text under each heading of the page, up to the next heading."""
-    parts = re.split(r"^#+ (.*)$", re.sub(r"^```(?:ba)?sh\n(.*?)^```$", lambda block: block[0].replace("\n#", "\n\0#"), PAGE, flags=re.M | re.S), flags=re.M)
+    parts = re.split(r"^#+ (.*)$", FENCED.sub(lambda place: place[0].replace("\n#", "\n\0#"), PAGE), flags=re.M)
     return {title: text.replace("\0", "") for title, text in zip(parts[1::2], parts[2::2])}
 
 
-def blocks_of(title):
-    """The blocks under a heading, in order."""
-    return re.findall(r"^```(?:ba)?sh\n(.*?)^```$", sections()[title], re.M | re.S)
+def blocks_in(text, *languages):
+    """The blocks of a text, in order."""
+    return [block for language, block in FENCED.findall(text) if language in (languages or ("bash", "sh"))]
 
 
-def titles():
-    """The headings that have blocks, in order."""
-    return [title for title in sections() if blocks_of(title)]
+def other_blocks(page):
+    """Blocks that could have commands which nothing finds: those of other languages, and indented ones."""
+    others = [block for language, block in FENCED.findall(page) if language not in ("bash", "sh", "hcl", "json")]
+    return others + re.findall(r"^ {4}.*$", FENCED.sub("", page), re.M)
+
+
+def places():
+    """Where the blocks of the page stand: each with its heading and its number there."""
+    return [(title, number) for title, text in sections().items() for number in range(len(blocks_in(text)))]
+
+
+def take(title, number):
+    """A block of the page, for a test that runs it."""
+    TAKEN.add((title, number))
+    return blocks_in(sections()[title])[number]
+
+
+def take_all(title):
+    """All blocks under a heading, for a test that runs them."""
+    return [take(*place) for place in places() if place[0] == title]
+
+
+def configuration():
+    """The page's block of Terraform's language, which names the backend."""
+    return blocks_in(PAGE, "hcl")[0]
+
+
+def commands_in(page):
+    """The commands in sentences and tables: text in backquotes of more than one word that begins with a program's name or path."""
+    texts = {" ".join(text.split()) for text in re.findall(r"`([^`]+)`", FENCED.sub("", page))}
+    return {text for text in texts - NO_COMMANDS if re.match(r"(?:\w+=\S* )*[a-z./~][\w./-]* ", text) and not text.endswith(";")}
+
+
+def commands_of(*programs):
+    """Those of the page that run one of these programs."""
+    return {text for text in commands_in(PAGE) if text.split()[0] in programs}
+
+
+def command(text, **values):
+    """A command of a sentence or table, for a test that runs it, with values in the place of its words in capitals."""
+    expect(text in commands_in(PAGE), True, f"the page has the command {text}")
+    TAKEN.add(text)
+    for name, value in values.items():
+        expect(len(re.findall(rf"\b{name}\b", text)), 1, f"{name} in {text}")
+        text = re.sub(rf"\b{name}\b", lambda place: str(value), text)
+    return text
+
+
+def left_out(wanted):
+    """Those of the places and commands that nothing has taken."""
+    return sorted(map(str, set(wanted) - TAKEN))
+
+
+def main():
+    for title, number in places():
+        print(f"block {number + 1} of '{title}': deploy_page.py, try_package.py")
+    for text in sorted(commands_in(PAGE)):
+        run = "deploy_commands.py" if text in commands_of(*TERRAFORM) else "deploy_page.py"
+        print(f"{text}: {run}{', try_package.py' if text in commands_of(*SYSTEMD) else ''}")
+    for block in blocks_in(IMPACT):
+        print(f"{block}of IMPACT.md: deploy_impact.py")
+
+
+if __name__ == "__main__":
+    main()

@@ -1,5 +1,6 @@
 """Stand-ins for the commands of deploy/README.md that change a whole system, so that the page can be run in a folder: dpkg, install, runuser, systemctl,
-nginx, curl, usermod, ssh-keyscan, and rsync, which takes files from another folder in place of a machine. They know of one folder, which is the root of the page's paths, and of units what systemd does with their commands.
+journalctl, nginx, curl, man, useradd, usermod, ssh-keyscan, and rsync, which takes files from another folder in place of a machine. They know of one
+folder, which is the root of the page's paths, and of units what systemd does with their commands.
 
     python3 tests/page_tools.py TOOL ARGUMENT ..
 
@@ -95,8 +96,22 @@ def rsync(words):
 
 
 def nothing(words):
-    """What has no meaning in a folder: a login shell, the keys of another machine."""
+    """What has no meaning in a folder: a user, a login shell, the keys of another machine."""
     return 0
+
+
+def man(words):
+    """Shows a page of the room's manual."""
+    if real("man"):
+        return run("env", "MANPAGER=cat", real("man"), "-M", ROOT / "usr/share/man", *words)
+    return run(real("mandoc"), *(page for word in words for page in (ROOT / "usr/share/man").glob(f"*/{word}.*")))
+
+
+def journalctl(words):
+    """Tells what the server has written since its last start."""
+    if words != ["-u", "tfstated"]:
+        return 2
+    return run("cat", ROOM / "server.log")
 
 
 def nginx(words):
@@ -118,13 +133,18 @@ def commands_of(unit):
 
 
 def start(unit):
-    """Starts the server and waits until it listens, or does what another unit does once."""
-    if unit != "tfstated.service":
-        return max((run(*command) for command in commands_of(unit)), default=0)
+    """Starts the server and waits until it listens, or does what another unit does once; notes whether it failed."""
+    status = start_server() if unit == "tfstated.service" else max((run(*command) for command in commands_of(unit)), default=0)
+    (ROOM / f"{unit}.failed").write_text("failed" if status else "")
+    return status
+
+
+def start_server():
+    """Starts the server and waits until it listens; a status."""
     if alive():
         return 0
     with open(ROOM / "server.log", "wb") as log:
-        process = subprocess.Popen(commands_of(unit)[0], stdin=subprocess.DEVNULL, stdout=log, stderr=log, start_new_session=True)
+        process = subprocess.Popen(commands_of("tfstated.service")[0], stdin=subprocess.DEVNULL, stdout=log, stderr=log, start_new_session=True)
     (ROOM / "server.pid").write_text(str(process.pid))
     end = time.monotonic() + 20
     while b"listening" not in (ROOM / "server.log").read_bytes() and time.monotonic() < end and process.poll() is None:
@@ -166,14 +186,27 @@ def act(verb, unit):
     return start(unit) if verb in ("start", "restart", "enable") else 0
 
 
+def tell(verb, unit):
+    """Prints what became of a unit: with `is-failed` status 0 where it failed, with `status` 3 where it doesn't run."""
+    path, runs = ROOM / f"{unit}.service.failed", unit == "tfstated" and alive()
+    failed = not runs and path.exists() and path.read_text() == "failed"
+    print("failed" if failed else "active" if runs else "inactive", flush=True)
+    if verb == "is-failed":
+        return 0 if failed else 1
+    journalctl(["-u", unit])
+    return 0 if runs else 3
+
+
 def systemctl(words):
     verb, *units = [word for word in words if word != "--now"]
+    if verb in ("is-failed", "status"):
+        return tell(verb, *units)
     known = ("enable", "disable", "start", "stop", "restart", "reload", "reset-failed", "daemon-reload")
     return max((act(verb, unit) for unit in units), default=0) if verb in known else 2
 
 
-TOOLS = {"dpkg": dpkg, "install": install, "runuser": runuser, "curl": curl, "nginx": nginx, "systemctl": systemctl, "rsync": rsync}
-TOOLS.update({"usermod": nothing, "ssh-keyscan": nothing})
+TOOLS = {"dpkg": dpkg, "install": install, "runuser": runuser, "curl": curl, "nginx": nginx, "systemctl": systemctl, "rsync": rsync, "man": man}
+TOOLS.update({"journalctl": journalctl, "useradd": nothing, "usermod": nothing, "ssh-keyscan": nothing})
 
 
 if __name__ == "__main__":

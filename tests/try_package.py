@@ -1,6 +1,7 @@
-"""Installs the package into a fresh Debian tree and runs it under a systemd of its own, in a container without a network: each command of
-deploy/README.md, Terraform's cycle with TLS and a user, a kill, a damaged journal, a standby over ssh, and a removal that leaves the journals. It needs
-root, debootstrap, systemd-nspawn, Terraform and a Debian mirror, which MIRROR may name. The last line is `N passed, M failed`."""
+"""Installs the package into a fresh Debian tree and runs it under a systemd of its own, in a container without a network: each block of
+deploy/README.md, each command in its sentences that asks systemd, Terraform's cycle with TLS and a user, a kill, a damaged journal, a standby over ssh,
+and a removal that leaves the journals. It needs root, debootstrap, systemd-nspawn, Terraform and a Debian mirror, which MIRROR may name. The last line
+is `N passed, M failed`."""
 import json
 import os
 import re
@@ -13,22 +14,14 @@ from pathlib import Path
 
 import package
 from checking import SECONDS, STARTED, checks_in, expect, run_checks
-from page_blocks import blocks_of, titles
+from page_blocks import SYSTEMD, command, commands_of, configuration, left_out, places, take_all
 from repository import TOP
 
 SUITE, KEPT = "bookworm", TOP / "out" / "package-test"
 INSTALLED = "systemd,systemd-sysv,nginx-light,openssl,curl,ca-certificates,jq,rsync,openssh-server,python3,prometheus-node-exporter"
 NEXT = package.VERSION + "+next"
 MACHINE = "tfstated-test"
-CONFIGURATION = """terraform {
-  backend "http" {
-    address        = "https://tfstated.example.com/state/network.prod"
-    lock_address   = "https://tfstated.example.com/state/network.prod"
-    unlock_address = "https://tfstated.example.com/state/network.prod"
-    username       = "admin"
-  }
-}
-resource "terraform_data" "a" { input = "1" }
+RESOURCES = """resource "terraform_data" "a" { input = "1" }
 resource "terraform_data" "b" { input = terraform_data.a.output }
 """
 
@@ -99,13 +92,12 @@ class Container:
         self.log.close()
 
 
-BOX, PASSWORDS, DONE = None, {}, []
+BOX, PASSWORDS = None, {}
 
 
 def do(title):
     """What the commands under a heading of the page write, which are to end well."""
-    DONE.append(title)
-    return "".join(BOX.do(f"cd /root\n{block}") for block in blocks_of(title))
+    return "".join(BOX.do(f"cd /root\n{block}") for block in take_all(title))
 
 
 def waits_for(script, text=""):
@@ -141,6 +133,9 @@ def check_the_first_day_of_the_page():
     expect(set(PASSWORDS), {"admin", "auditor", "network-ci"}, text)
     expect(BOX.do("systemctl is-active tfstated nginx").split(), ["active", "active"])
     expect(BOX.do("curl -fs https://tfstated.example.com/healthz"), "it answers\n")
+    expect(BOX.do("systemctl show -P LimitAS tfstated; systemctl show -P MemoryMax tfstated").split(), [str(3 << 30), str(3500 << 20)], "on a smaller machine")
+    BOX.do("rm /etc/systemd/system/tfstated.service.d/memory.conf && systemctl daemon-reload && systemctl restart tfstated")
+    waits_for("curl -fs https://tfstated.example.com/healthz")
 
 
 def check_what_may_not_be_entered_is_told_apart_from_what_is_not_there():
@@ -151,7 +146,7 @@ def check_what_may_not_be_entered_is_told_apart_from_what_is_not_there():
 
 def terraform(*words):
     """What Terraform writes in the container, which is to end well."""
-    return BOX.do(f"cd /root/project && TF_HTTP_PASSWORD='{PASSWORDS['admin']}' CHECKPOINT_DISABLE=1 terraform {' '.join(words)} -no-color 2>&1")
+    return BOX.do(f"cd /root/project && TF_HTTP_PASSWORD='{PASSWORDS['network-ci']}' CHECKPOINT_DISABLE=1 terraform {' '.join(words)} -no-color 2>&1")
 
 
 def state():
@@ -160,7 +155,7 @@ def state():
 
 def check_terraform_applies_with_tls_and_a_user():
     (BOX.tree / "root" / "project").mkdir()
-    (BOX.tree / "root" / "project" / "main.tf").write_text(CONFIGURATION)
+    (BOX.tree / "root" / "project" / "main.tf").write_text(configuration() + RESOURCES)
     terraform("init")
     expect("2 added" in terraform("apply", "-auto-approve"), True)
     expect([resource["name"] for resource in state()["resources"]], ["a", "b"])
@@ -188,28 +183,15 @@ def check_the_timer_copies_as_the_user_of_the_service():
     expect(BOX.do("systemctl show -P Result tfstated-copy.service").strip(), "success")
 
 
-def check_a_damaged_journal_ends_the_start_for_good_and_a_copy_restores_it():
-    before = state()
-    BOX.do("systemctl start tfstated-copy.service && systemctl stop tfstated-copy.timer tfstated")
-    newest = BOX.do("ls /var/lib/tfstated/journal/*.tfj | tail -1").strip()
-    BOX.do(f"printf x | dd of={newest} bs=1 seek=60 conv=notrunc 2>&1")
-    BOX.run("systemctl start tfstated")
-    waits_for("systemctl is-failed tfstated", "failed")
-    expect(BOX.do("systemctl show -P ExecMainStatus tfstated; systemctl show -P NRestarts tfstated").split(), ["4", "0"])
-    expect("Damaged" in BOX.do("journalctl -u tfstated --no-pager -n 5"), True)
-    do("Restore")
-    waits_for("curl -fs https://tfstated.example.com/healthz")
-    expect(state(), before)
-
-
 def check_who_holds_a_lock_is_asked():
     expect(do("A run died holding the lock").strip(), '{"error":"LockLost"}', "nobody does")
 
 
 def check_what_to_watch_and_users():
-    expect("a start goes on from" in do("What to watch"), True)
+    text = do("What to watch")
+    expect(("\n423\n" in f"\n{text}", "a start goes on from" in text), (True, True), text)
     waits_for("curl -fs http://127.0.0.1:9100/metrics", "\ntfstated_changes_total ")
-    add, remove, allow = blocks_of("Users")
+    add, remove, allow = take_all("Users")
     password = BOX.do(f"cd /root\n{add}").split()[-1]
     ask = f"curl -s -o /dev/null -w '%{{http_code}}' -u 'ann:{password}' https://tfstated.example.com/state/network.prod"
     expect(BOX.do(ask), "403")
@@ -217,7 +199,22 @@ def check_what_to_watch_and_users():
     waits_for(ask, "200")
     BOX.do(remove)
     expect(BOX.do(ask), "401")
-    DONE.append("Users")
+
+
+def check_a_damaged_journal_ends_the_start_for_good_and_a_copy_restores_it():
+    before = state()
+    BOX.do("systemctl start tfstated-copy.service && systemctl stop tfstated-copy.timer tfstated")
+    newest = BOX.do("ls /var/lib/tfstated/journal/*.tfj | tail -1").strip()
+    BOX.do(f"printf x | dd of={newest} bs=1 seek=60 conv=notrunc 2>&1")
+    for unit in ("tfstated", "tfstated-copy", "tfstated-stats"):
+        BOX.run(f"systemctl start {unit}")
+        waits_for(command(f"systemctl is-failed {unit}"), "failed")
+    expect(BOX.do("systemctl show -P ExecMainStatus tfstated; systemctl show -P NRestarts tfstated").split(), ["4", "0"])
+    for text in (BOX.do(command("journalctl -u tfstated")), BOX.run(command("systemctl status tfstated"))[1]):
+        expect(f"{newest}: Damaged" in text, True, text)
+    do("Restore")
+    waits_for("curl -fs https://tfstated.example.com/healthz")
+    expect(state(), before)
 
 
 def check_a_full_disk_ends_the_server_until_there_is_room():
@@ -247,13 +244,13 @@ def check_a_least_position_that_the_server_raises():
     BOX.do(f"echo {position + 1} >/var/lib/tfstated-least/position && systemctl restart tfstated || true")
     waits_for("systemctl is-failed tfstated", "failed")
     expect(BOX.do("systemctl show -P ExecMainStatus tfstated").strip(), "7")
-    BOX.do(f"echo {position} >/var/lib/tfstated-least/position && systemctl start tfstated")
+    BOX.do(f"echo {position} >/var/lib/tfstated-least/position && {command('systemctl start tfstated')}")
     waits_for("curl -fs https://tfstated.example.com/healthz")
 
 
 def check_a_standby_over_ssh_with_a_key_that_reads_the_journals_alone():
     """Both machines are this one, so the standby gets other folders."""
-    standby, first, again, take_over = blocks_of("A warm standby")
+    standby, first, again, take_over = take_all("A warm standby")
     BOX.do("echo 127.0.0.1 primary.example.com >>/etc/hosts && systemctl start ssh")
     BOX.do(f"cd /root\n{standby}\ncp /var/lib/tfstated/.ssh/id_ed25519.pub standby.pub\n{first}\n{again}")
     expect("ConditionPathExists" in BOX.do("systemctl status tfstated-standby.service || true"), True, "a server's folder takes no copies")
@@ -266,18 +263,16 @@ def check_a_standby_over_ssh_with_a_key_that_reads_the_journals_alone():
     BOX.do("rm /etc/systemd/system/tfstated-standby.service && systemctl daemon-reload")
     BOX.do(take_over)
     expect(BOX.run("systemctl is-enabled tfstated-standby.timer")[1].strip(), "disabled")
-    DONE.append("A warm standby")
 
 
 def check_an_upgrade_says_from_which_version_and_leaves_the_server():
     before = BOX.do("systemctl show -P MainPID tfstated"), state()
     BOX.do("cd /root && rm tfstated_*_amd64.deb && mv next.deb tfstated_next_amd64.deb")
-    install, *others = blocks_of("Upgrade")[0].splitlines()
+    install, restart = take_all("Upgrade")
     text = BOX.do(f"cd /root && {install}")
     expect(f"upgraded from {package.VERSION} to {NEXT}" in text, True, text)
     expect((BOX.do("systemctl show -P MainPID tfstated"), state()), before, "the server goes on")
-    BOX.do("\n".join(others))
-    DONE.append("Upgrade")
+    BOX.do(restart)
     waits_for("curl -fs https://tfstated.example.com/healthz")
     expect(state(), before[1])
 
@@ -297,14 +292,14 @@ def check_a_removal_leaves_the_journals():
 
 def check_the_archive_does_without_dpkg():
     before = BOX.do("readlink /lib"), state()
-    BOX.do("dpkg -P tfstated && tar -xzf /root/tfstated_*_amd64.tar.gz -C / && /usr/share/tfstated/postinst configure && systemctl start tfstated")
+    BOX.do(f"dpkg -P tfstated && tar -xzf /root/tfstated_*_amd64.tar.gz -C / && {command('/usr/share/tfstated/postinst configure')} && systemctl start tfstated")
     waits_for("curl -fs https://tfstated.example.com/healthz")
     expect((BOX.do("readlink /lib"), state()), before, "Debian's link stays, and the journals do")
     expect(BOX.do("tfstatectl --version").split()[1], package.VERSION)
 
 
-def check_each_command_of_the_page_was_run():
-    expect(sorted(set(titles()) - set(DONE)), [])
+def check_each_block_and_each_command_of_systemd_was_run():
+    expect(left_out({*places(), *commands_of(*SYSTEMD)}), [])
 
 
 def next_deb(folder):

@@ -1,8 +1,13 @@
 -- Laws of the bytes that readers have left and writers hold, over several reads and writes.
-use Rattle.std.proofs.Common.{◌≡◌, ◌≢◌, ℕ, List, [], ◌∷◌, ◌++◌, Option, Some, None, Result, Ok, Err, IfErr, take, drop, refl, sym, ◌∙◌, ap, inr, arith}
+use Rattle.std.proofs.Common.{◌≡◌, ◌≢◌, ◌<◌, ◌+◌, ℕ, List, length, [], ◌∷◌, ◌++◌, Option, Some, None, Result, Ok, Err, IfErr, take, drop, refl, sym, ◌∙◌, ap, subst, inl, inr, arith, Bool, true, false, if◌then◌else◌}
+use Rattle.std.specs.Result.{OnOk}
 use Rattle.std.proofs.Common.{append_assoc, append-nil}
 use Rattle.std.proofs.Common.{length-append, take-append-drop}
 use Rattle.std.specs.Io.KnownBytes.{Appends, Consumes}
+use Rattle.tfs_calls.specs.Reply.{impact}
+use Rattle.tfs_framing.specs.declared.form.Form.{Form}
+use Rattle.tfs_http.specs.ReplyText.{head_text, impact_body, reply_text}
+use Rattle.tfs_state.specs.Document.{Document}
 use Rattle.tfs_conversation.specs.Check.{WritesFront}
 use Rattle.tfs_conversation.specs.Conversation.{ComesInReads}
 use Rattle.tfs_conversation.specs.Turns.{WritesPart}
@@ -77,6 +82,81 @@ then_front a b c text more (Err fault) p q =
     let w = q.1 in
     (q.0, (text ++ w.0, w.1, w.2, ap (λ t. text ++ t) w.3 ∙ sym (append_assoc text w.0 w.1), appends_more a b c text w.0 p w.4))
 
+-- A writer that got the text and then all of the other has both.
+pub then_all : {A : Type 0} (r : Result A ServeFault) (a b c : Option (List ℕ)) (text more : List ℕ) → Appends a b text
+    → OnOk r (Appends b c more) → OnOk r (Appends a c (text ++ more))
+then_all (Ok u) a b c text more p q = appends_more a b c text more p q
+then_all (Err fault) a b c text more p q = tt
+
 -- Where there was no memory for a text, none of it was written.
 pub none_written : (a : Option (List ℕ)) (text : List ℕ) → WritesPart a a text NoMemory
 none_written a text = record { part = []; rest = text; split = refl; appended = appends_nothing a; one_of = inr (refl, refl) }
+
+-- One more piece of a text was written.
+pub pieces_more : (a b c : Option (List ℕ)) (whole sent now left piece rest : List ℕ) → whole ≡ sent ++ (now ++ left) → piece ++ rest ≡ now ++ left
+    → Appends a b sent → Appends b c piece → (x : List ℕ) × (whole ≡ x ++ ([] ++ rest)) × Appends a c x
+pieces_more a b c whole sent now left piece rest is e p q =
+    (sent ++ piece, is ∙ ap (λ t. sent ++ t) (sym e) ∙ sym (append_assoc sent piece rest), appends_more a b c sent piece p q)
+
+-- The last piece of a text was written.
+pub last_piece : (a b c : Option (List ℕ)) (whole sent now left piece rest : List ℕ) → whole ≡ sent ++ (now ++ left) → piece ++ rest ≡ now ++ left
+    → rest ≡ [] → Appends a b sent → Appends b c piece → Appends a c whole
+last_piece a b c whole sent now left piece rest is e none p q =
+    subst (Appends a c) (sym (is ∙ ap (λ t. sent ++ t) (sym e ∙ ap (λ t. piece ++ t) none ∙ append-nil piece))) (appends_more a b c sent piece p q)
+
+-- A piece of a text was written in part.
+pub broken_piece : (a b c : Option (List ℕ)) (whole sent now left piece rest : List ℕ) → whole ≡ sent ++ (now ++ left) → piece ++ rest ≡ now ++ left
+    → Appends a b sent → WritesFront b c piece → WritesFront a c whole
+broken_piece a b c whole sent now left piece rest is e p q =
+    let w = front_of_both b c piece rest q in
+    (sent ++ w.0, w.1, w.2, is ∙ ap (λ t. sent ++ t) (sym e ∙ w.3) ∙ sym (append_assoc sent w.0 w.1), appends_more a b c sent w.0 p w.4)
+
+-- Less is left of a text after a piece of it.
+pub fewer_left : (piece rest now left cleared : List ℕ) (limit : ℕ) → piece ++ rest ≡ now ++ left → length piece ≡ limit → 0 < limit → cleared ≡ []
+    → length cleared + length rest < length now + length left
+fewer_left piece rest now left cleared limit e full some none =
+    let before : length (now ++ left) ≡ length now + length left = length-append now left in
+    let after : length (now ++ left) ≡ length piece + length rest = ap length (sym e) ∙ length-append piece rest in
+    let empty : length cleared ≡ 0 = ap length none in
+    omega (arith, before, after, full, some, empty)
+
+-- What is written of a text is written of the same text by another name.
+pub written_as : {A : Type 0} (r : Result A ServeFault) (a b : Option (List ℕ)) (text whole : List ℕ) → text ≡ whole → OnOk r (Appends a b text)
+    → OnOk r (Appends a b whole)
+written_as (Ok u) a b text whole e p = subst (Appends a b) e p
+written_as (Err fault) a b text whole e p = tt
+
+-- A writer that got a part of the text of a reply has a part of the reply.
+pub part_written : {A : Type 0} (r : Result A ServeFault) (a b : Option (List ℕ)) (text whole : List ℕ) → text ≡ whole
+    → IfErr r (λ fault. (fault ≡ Write) × WritesFront a b text) → IfErr r (λ fault. WritesPart a b whole fault)
+part_written (Ok u) a b text whole e p = tt
+part_written (Err fault) a b text whole e p =
+    let w = p.1 in
+    record { part = w.0; rest = w.1; split = sym e ∙ w.3; appended = w.4; one_of = inl (p.0, w.2) }
+
+-- A part of a text is a part of the same text by another name.
+pub part_as : {A : Type 0} (r : Result A ServeFault) (a b : Option (List ℕ)) (text whole : List ℕ) → text ≡ whole → IfErr r (WritesPart a b text)
+    → IfErr r (WritesPart a b whole)
+part_as (Ok u) a b text whole e p = tt
+part_as (Err fault) a b text whole e p = subst (λ (t : List ℕ). WritesPart a b t fault) e p
+
+-- A head, with a text behind it that is all of a body.
+pub all_told : (head text items left : List ℕ) → items ≡ text → left ≡ [] → head ++ items ≡ head ++ (text ++ left)
+all_told head text items left is none =
+    ap (λ (t : List ℕ). head ++ t) (is ∙ sym (append-nil text) ∙ ap (λ (t : List ℕ). text ++ t) (sym none))
+
+-- Where the form is bare, the head of an answer's reply is its text.
+pub bare_text : (d : Document) (chosen : List ℕ) (position : ℕ) (form : Form) (head told : List ℕ) → form.bare ≡ true
+    → told ≡ impact_body d chosen position → head ≡ head_text 200 [] form told → head ≡ reply_text (impact d chosen position) form
+bare_text d chosen position form head told bare is e =
+    let body = impact_body d chosen position in
+    e ∙ ap (head_text 200 [] form) is ∙ sym (append-nil (head_text 200 [] form body))
+    ∙ ap (λ (x : Bool). head_text 200 [] form body ++ (if x then [] else body)) (sym bare)
+
+-- Where it isn't, the head and the body behind it are.
+pub full_text : (d : Document) (chosen : List ℕ) (position : ℕ) (form : Form) (head told : List ℕ) → form.bare ≡ false
+    → told ≡ impact_body d chosen position → head ≡ head_text 200 [] form told → head ++ told ≡ reply_text (impact d chosen position) form
+full_text d chosen position form head told whole is e =
+    let body = impact_body d chosen position in
+    ap (λ (t : List ℕ). t ++ told) e ∙ ap (λ (t : List ℕ). head_text 200 [] form t ++ t) is
+    ∙ ap (λ (x : Bool). head_text 200 [] form body ++ (if x then [] else body)) (sym whole)

@@ -14,6 +14,7 @@ use crate::arrived::{Arrived, arrive};
 use crate::desk::Desk;
 use crate::ended::Ended;
 use crate::fault::ServeFault;
+use crate::impact_reply::send_impact;
 use crate::input::Input;
 use crate::lent::{Outlet, Source};
 use crate::output::{JOINED_BYTES, write_joined};
@@ -201,6 +202,24 @@ fn answer<D: Desk>(alloc: Global, routes: &Routes, desk: &mut D, request: Reques
 
 /// Writes the text of a reply, by way of a vector whose bytes go; after a fault a part of it is written.
 fn send<W: Outlet>(
+    alloc: Global,
+    text: &mut Vec<u8>,
+    writer: &mut W,
+    reply: &Reply,
+    form: Form,
+) -> Result<(), ServeFault>
+    ensures ok { OnOk result (Appends (W.contents writer.old) (W.contents writer.new) (reply_text (reply_value reply.now) form)) }
+    ensures err { IfErr result (λ fault. WritesPart (W.contents writer.old) (W.contents writer.new) (reply_text (reply_value reply.now) form) fault) }
+    ensures writer { TellsWriter result (W.failed writer.old) (W.failed writer.new) }
+{
+    if let Reply::Impact(answer) = reply {
+        return send_impact(alloc, text, writer, answer, form);
+    }
+    send_whole(alloc, text, writer, reply, form)
+}
+
+/// The same, with the whole body at once.
+fn send_whole<W: Outlet>(
     alloc: Global,
     text: &mut Vec<u8>,
     writer: &mut W,

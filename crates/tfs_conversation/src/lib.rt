@@ -10,6 +10,7 @@ mod conversation;
 mod desk;
 mod ended;
 mod fault;
+mod impact_reply;
 mod input;
 mod laws;
 mod lent;

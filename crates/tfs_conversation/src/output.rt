@@ -6,12 +6,17 @@ ghost use Rattle.tfs_conversation.specs.Check.{WritesFront};
 ghost use Rattle.tfs_conversation.specs.Turns.{WritesPart};
 ghost use Rattle.tfs_conversation.specs.declared.fault.ServeFault.TheVariants.{Write as WriteFault, NoMemory};
 ghost use Rattle.tfs_conversation.specs.Lent.{TellsWriter};
+ghost use Rattle.tfs_escapes.specs.Room.{HasRoom};
 
 use crate::fault::ServeFault;
 use crate::lent::Outlet;
+use tfs_http::ImpactBody;
 
 /// The most bytes of two texts that are put together before they are written.
 pub(crate) const JOINED_BYTES: usize = 16_384;
+
+/// The most bytes of a body that are put together before they are written.
+pub(crate) const PIECE_BYTES: usize = 65_536;
 
 /// Writes two texts. Where they have at most 16,384 bytes together, the second is added to the first, so that one write can take
 /// both; else it isn't copied.
@@ -64,4 +69,49 @@ pub(crate) fn write_out<W: Outlet>(writer: &mut W, text: &[u8]) -> Result<(), Se
         }
     }
     Ok(())
+}
+
+/// Writes a head, and behind it a body in pieces of at most 65,536 bytes. The first piece is in the text already, and the others are put
+/// together there.
+pub(crate) fn write_in_pieces<W: Outlet>(
+    writer: &mut W,
+    head: &[u8],
+    text: &mut Vec<u8>,
+    left: ImpactBody<'_>,
+) -> Result<(), ServeFault>
+    requires { HasRoom text.old 65536 }
+    ensures ok { OnOk result (Appends (W.contents writer.old) (W.contents writer.new) (head.now ++ (text.old.items ++ left.entry))) }
+    ensures err { IfErr result (λ fault. (fault ≡ WriteFault)
+        × WritesFront (W.contents writer.old) (W.contents writer.new) (head.now ++ (text.old.items ++ left.entry))) }
+    ensures writer { TellsWriter result (W.failed writer.old) (W.failed writer.new) }
+{
+    if let Err(fault) = write_out(writer, head) {
+        return Err(fault);
+    }
+    write_pieces(writer, text, left)
+}
+
+/// Writes a text, and what is left of a body, in such pieces.
+fn write_pieces<W: Outlet>(
+    writer: &mut W,
+    text: &mut Vec<u8>,
+    body: ImpactBody<'_>,
+) -> Result<(), ServeFault>
+    requires { HasRoom text.old 65536 }
+    ensures ok { OnOk result (Appends (W.contents writer.old) (W.contents writer.new) (text.old.items ++ body.entry)) }
+    ensures err { IfErr result (λ fault. (fault ≡ WriteFault)
+        × WritesFront (W.contents writer.old) (W.contents writer.new) (text.old.items ++ body.entry)) }
+    ensures writer { TellsWriter result (W.failed writer.old) (W.failed writer.new) }
+{
+    let mut left = body;
+    'pieces: loop {
+        let is_last = left.fill(PIECE_BYTES, text);
+        if let Err(fault) = write_out(writer, text.as_slice()) {
+            return Err(fault);
+        }
+        if is_last {
+            return Ok(());
+        }
+        text.clear();
+    }
 }

@@ -4,6 +4,7 @@
 mod copies;
 mod fault;
 mod folder;
+mod late;
 mod next;
 mod past;
 mod position_file;

@@ -8,3 +8,5 @@ pub mod EachPath
 pub mod EachRequest
 pub mod QueryLemmas
 pub mod CallLemmas
+pub mod PieceLemmas
+pub mod EscapedLemmas

@@ -1,4 +1,5 @@
 pub mod Query
 pub mod Routing
 pub mod Rows
+pub mod Pieces
 pub mod ReplyText

@@ -1,12 +1,15 @@
 //! Laws of routing and replies, which hold of all requests and all replies.
 
-ghost use Rattle.std.specs.Prelude.{◌≡◌, ◌≢◌, [], Result};
+ghost use Rattle.std.specs.Prelude.{◌≡◌, ◌≢◌, ℕ, List, [], Result};
+ghost use Rattle.std.specs.List.{concat};
+ghost use Rattle.tfs_state.specs.Document.{Document};
 ghost use Rattle.tfs_calls.specs.declared.call.Call.{Call};
 ghost use Rattle.tfs_calls.specs.declared.refusal.Refusal.{Refusal};
 ghost use Rattle.tfs_framing.specs.Request.{RequestValue};
 ghost use Rattle.tfs_http.specs.Routing.{RoutesTo};
-ghost use Rattle.tfs_http.specs.ReplyText.{phrase_of, status_of};
-ghost use Rattle.tfs_calls.specs.Reply.{ReplyValue};
+ghost use Rattle.tfs_http.specs.Pieces.{IsToldIn};
+ghost use Rattle.tfs_http.specs.ReplyText.{body_of, impact_body, phrase_of, status_of};
+ghost use Rattle.tfs_calls.specs.Reply.{ReplyValue, impact};
 
 /// A request has a call or a refusal, one of them, and not both.
 pub fn what_becomes_of_a_request_is_one_thing()
@@ -17,4 +20,10 @@ pub fn what_becomes_of_a_request_is_one_thing()
 /// The status of each reply has a phrase.
 pub fn each_status_has_its_phrase()
     ensures phrase { (reply : ReplyValue) → phrase_of (status_of reply) ≢ [] }
+{}
+
+/// The pieces in which the body of an impact's answer is told are, joined, the body of its reply.
+pub fn pieces_of_an_answer_are_its_body()
+    ensures joined { (d : Document) (chosen : List ℕ) (position : ℕ) (pieces : List (List ℕ))
+        → IsToldIn (impact_body d chosen position) pieces → concat pieces ≡ body_of (impact d chosen position) }
 {}

@@ -1,12 +1,13 @@
 //! The texts of replies (RFC 9112, section 4).
 
-ghost use Rattle.std.specs.Prelude.{◌≡◌, ◌++◌, take, vec_len, OnOk, OnErr, IfOk};
+ghost use Rattle.std.specs.Prelude.{◌≡◌, ℕ, List, [], ◌++◌, length, take, vec_len, OnOk, OnErr, IfOk};
 ghost use Rattle.std.specs.Cow.{cow_slice_items};
 ghost use Rattle.tfs_calls.specs.Refusal.{refusal_value};
 ghost use Rattle.tfs_calls.specs.Reply.{reply_value};
 ghost use Rattle.tfs_http.specs.ReplyText.{phrase_of, status_of, status_line, allow_line, close_line, type_line, head_text, body_of, refusal_body, name_body, reply_text, IsNamed, IsPrinted};
 
 use crate::answer::impact_body;
+use crate::impact_body::ImpactBody;
 use itoa::Buffer;
 use std::alloc::{AllocError, Global};
 use std::borrow::CowSlice;
@@ -90,26 +91,64 @@ pub fn write_head(
     ensures err { OnErr result (out.new.items ≡ out.old.items) }
 {
     let len = out.len();
-    let added = push_head(reply, form, body, out);
+    let added = push_head(
+        status_of(reply),
+        allow_line(reply),
+        form,
+        body.len() as u128,
+        out,
+    );
     if added.is_err() {
         out.truncate(len);
     }
     added
 }
 
-/// Adds the lines of a head in turn; where memory is refused, some bytes of them.
-fn push_head(reply: &Reply, form: Form, body: &[u8], out: &mut Vec<u8>) -> Result<(), AllocError>
-    ensures ok { OnOk result (let value = reply_value reply.now in
-        out.new.items ≡ out.old.items ++ head_text (status_of value) (allow_line value) form body.now) }
+/// Adds the head of an impact's reply in a form, of whose body these bytes were told, and these are left; or nothing.
+pub fn write_impact_head(
+    told: &[u8],
+    left: &ImpactBody<'_>,
+    form: Form,
+    out: &mut Vec<u8>,
+) -> Result<(), AllocError>
+    ensures ok { OnOk result (out.new.items ≡ out.old.items ++ head_text 200 [] form (told.now ++ left.now)) }
+    ensures err { OnErr result (out.new.items ≡ out.old.items) }
+{
+    let len = out.len();
+    let added = push_head(OK, "", form, body_len(told, left), out);
+    if added.is_err() {
+        out.truncate(len);
+    }
+    added
+}
+
+/// How many bytes a body has, of which these were told, and these are left.
+fn body_len(told: &[u8], left: &ImpactBody<'_>) -> u128
+    ensures { result ≡ length (told.now ++ left.now) }
+{
+    told.len() as u128 + left.len()
+}
+
+/// Adds the lines of a head in turn, of a status, a line of methods, a form and the length of a body; where memory is refused, some
+/// bytes of them.
+fn push_head(
+    status: u16,
+    allow: &str,
+    form: Form,
+    len: u128,
+    out: &mut Vec<u8>,
+) -> Result<(), AllocError>
+    ensures ok { OnOk result ((body : List ℕ) → length body ≡ len
+        → out.new.items ≡ out.old.items ++ head_text status allow.now form body) }
     ensures err { OnErr result (take (vec_len out.old) out.new.items ≡ out.old.items) }
 {
     let mut digits = Buffer::new();
-    push_status_line(status_of(reply), out)?;
-    out.extend_from_slice(allow_line(reply).as_bytes())?;
+    push_status_line(status, out)?;
+    out.extend_from_slice(allow.as_bytes())?;
     out.extend_from_slice(close_line(form).as_bytes())?;
-    out.extend_from_slice(type_line(body).as_bytes())?;
+    out.extend_from_slice(type_line(len).as_bytes())?;
     out.extend_from_slice(b"Content-Length: ")?;
-    out.extend_from_slice(digits.format(body.len()).as_bytes())?;
+    out.extend_from_slice(digits.format(len).as_bytes())?;
     out.extend_from_slice(b"\r\n\r\n")?;
     Ok(())
 }
@@ -182,11 +221,11 @@ fn close_line(form: Form) -> &'static str
     }
 }
 
-/// The line that tells what a body is, where there is one.
-fn type_line(body: &[u8]) -> &'static str
-    ensures { result.now ≡ type_line body.now }
+/// The line that tells what a body of so many bytes is, where there is one.
+fn type_line(len: u128) -> &'static str
+    ensures { (body : List ℕ) → length body ≡ len → result.now ≡ type_line body }
 {
-    if body.is_empty() {
+    if len == 0 {
         ""
     } else {
         "Content-Type: application/json\r\n"

@@ -5,3 +5,4 @@ pub mod IndexLemmas
 pub mod LawLemmas
 pub mod LinkLemmas
 pub mod ReachLemmas
+pub mod ListingLemmas

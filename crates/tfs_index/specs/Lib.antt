@@ -3,3 +3,4 @@ pub mod Impact
 pub mod Index
 pub mod Links
 pub mod Reach
+pub mod Listing

@@ -8,6 +8,7 @@ mod impact;
 mod index;
 mod laws;
 mod links;
+mod listing;
 mod names;
 mod version;
 

@@ -6,6 +6,7 @@ ghost use Rattle.tfs_reports.specs.Status.{status_of};
 use std::alloc::AllocError;
 use std::io;
 use std::process::ExitCode;
+use tfs_stream::ReadFault;
 use tfs_versions::RestoreFault;
 use thiserror::Error;
 
@@ -110,6 +111,16 @@ impl End {
             _ => tfs_files::Fault::CannotRead,
         };
         End::of_files(place, fault)
+    }
+
+    /// The end because a journal isn't read to its end.
+    pub(crate) fn unread(place: Place, why: ReadFault) -> End {
+        match why {
+            ReadFault::NoMemory => End::from(AllocError),
+            ReadFault::Source | ReadFault::TooLong => {
+                End::of_files(place, tfs_files::Fault::CannotRead)
+            }
+        }
     }
 
     /// The end because the output couldn't be written.

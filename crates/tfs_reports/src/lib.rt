@@ -11,6 +11,7 @@ mod monitor;
 mod output;
 mod reach;
 mod report;
+mod rows;
 mod texts;
 mod versions;
 

@@ -1,16 +1,23 @@
 //! The names of a folder: what each has, and who holds its lock.
 
+ghost use Rattle.std.specs.Prelude.{◌≡◌, List, ℕ, length, option_and_then, option_map, IfOk};
+ghost use Rattle.serde_json.specs.View.{view};
+ghost use Rattle.tfs_json.specs.Json.{text_at};
+ghost use Rattle.tfs_rules.specs.History.{state_of, holder_of};
+ghost use Rattle.tfs_records.specs.Journal.{acts_of};
+ghost use Rattle.tfs_versions.specs.Holding.{word_at};
+ghost use Rattle.tfs_reports.specs.Rows.{name_row, whole_or_null};
+
 use crate::fault::End;
 use crate::files::newest_journal;
 use crate::report::Report;
-use crate::texts::{member, members_of, text};
+use crate::texts::{member, text};
 use serde_json::{Value, json};
 use std::alloc::{AllocError, Global};
-use std::sync::Arc;
-use tfs_lock::LockInfo;
 use tfs_records::Discard;
 use tfs_rules::Name;
 use tfs_table::Table;
+use tfs_versions::words_of;
 
 const COLUMNS: &[&str] = &[
     "name",
@@ -26,32 +33,26 @@ const COLUMNS: &[&str] = &[
 /// Prints what each name of the newest journal of a folder has.
 pub fn list(rt: &HostRuntime, folder: &str, json: bool) -> Result<(), End> {
     let newest = newest_journal(rt, folder)?;
-    let rows = rows_of(rt.alloc(), &newest.table)?;
-    let report = Report {
-        columns: COLUMNS,
-        rows,
-    };
-    report.print(rt, json)
+    report_of(rt.alloc(), &newest.table, json)?.print(rt)
 }
 
 /// A row for each name, in the order in which they came.
-fn rows_of(alloc: Global, table: &Table<Discard>) -> Result<Vec<Value>, AllocError> {
-    let mut rows = Vec::new(alloc);
+fn report_of(alloc: Global, table: &Table<Discard>, json: bool) -> Result<Report, AllocError> {
+    let mut report = Report::new(alloc, COLUMNS, json)?;
     for number in 0..table.names() {
         if let Some(name) = table.name(number) {
-            rows.push(row_of(alloc, table, name)?)?;
+            report.add(alloc, &row_of(alloc, table, name)?)?;
         }
     }
-    Ok(rows)
+    Ok(report)
 }
 
 /// What a name has.
-fn row_of(alloc: Global, table: &Table<Discard>, name: &Name) -> Result<Value, AllocError> {
+fn row_of(alloc: Global, table: &Table<Discard>, name: &Name) -> Result<Value, AllocError>
+    ensures { IfOk result (λ row. view row ≡ name_row table.now.journal name.now) }
+{
     let (serial, instances, bytes) = numbers_of(table, name);
-    let held = match table.holder(name) {
-        Some(info) => held_by(alloc, info)?,
-        None => Value::Null,
-    };
+    let held = words_at(alloc, table, name)?;
     let own = text(alloc, name.text())?;
     let holder = member(alloc, &held, "ID")?;
     let who = member(alloc, &held, "Who")?;
@@ -61,13 +62,23 @@ fn row_of(alloc: Global, table: &Table<Discard>, name: &Name) -> Result<Value, A
         "holder": holder, "who": who, "operation": operation, "created": created})
 }
 
-/// What the holder says of itself.
-fn held_by(alloc: Global, info: &Arc<LockInfo>) -> Result<Value, AllocError> {
-    members_of(alloc, info)
+/// What the holder of a name says of itself; null for none.
+fn words_at(alloc: Global, table: &Table<Discard>, name: &Name) -> Result<Value, AllocError>
+    ensures { IfOk result (λ words. (at : List ℕ) → text_at at (view words)
+        ≡ option_and_then (word_at at) (holder_of (acts_of name.now table.now.journal))) }
+{
+    match table.holder(name) {
+        Some(info) => words_of(alloc, info),
+        None => Ok(Value::Null),
+    }
 }
 
 /// The serial, the instances and the bytes of a name's state; nulls for none.
-fn numbers_of(table: &Table<Discard>, name: &Name) -> (Value, Value, Value) {
+fn numbers_of(table: &Table<Discard>, name: &Name) -> (Value, Value, Value)
+    ensures serial { view result.0 ≡ whole_or_null (option_map (λ d. d.serial) (state_of (acts_of name.now table.now.journal))) }
+    ensures instances { view result.1 ≡ whole_or_null (option_map (λ d. length d.instances) (state_of (acts_of name.now table.now.journal))) }
+    ensures bytes { view result.2 ≡ whole_or_null (option_map (λ d. length d.bytes) (state_of (acts_of name.now table.now.journal))) }
+{
     match table.version(name) {
         Some(version) => {
             let doc = version.doc();

@@ -2,13 +2,14 @@
 
 use crate::fault::{End, Fault, Place};
 use crate::files::TRIES;
-use crate::measures::{Measures, measures_of};
+use crate::measures::measures_of;
 use crate::output::write;
 use jiff::Timestamp;
 use std::alloc::{AllocError, Global};
 use std::time::SystemTime;
 use std::{fs, io};
 use tfs_files::numbers_in;
+use tfs_versions::Measures;
 
 /// A number with its name, its kind and what it means.
 #[derive(Clone, Copy)]

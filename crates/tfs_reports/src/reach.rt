@@ -83,11 +83,7 @@ fn tell(rt: &HostRuntime, answer: &Impact, form: Form) -> Result<(), End> {
     let chosen = answer.chosen.as_slice();
     match form {
         Form::Table | Form::Json => {
-            let report = Report {
-                columns: COLUMNS,
-                rows: rows_of(rt.alloc(), doc, chosen)?,
-            };
-            report.print(rt, form == Form::Json)
+            report_of(rt.alloc(), doc, chosen, form == Form::Json)?.print(rt)
         }
         Form::Picture => {
             let all = all_numbers_of(rt.alloc(), doc)?;
@@ -101,14 +97,14 @@ fn tell(rt: &HostRuntime, answer: &Impact, form: Form) -> Result<(), End> {
 }
 
 /// A row for each instance that was chosen.
-fn rows_of(alloc: Global, doc: &Doc, chosen: &[usize]) -> Result<Vec<Value>, AllocError> {
-    let mut rows = Vec::with_capacity(alloc, chosen.len())?;
+fn report_of(alloc: Global, doc: &Doc, chosen: &[usize], json: bool) -> Result<Report, AllocError> {
+    let mut report = Report::new(alloc, COLUMNS, json)?;
     for number in chosen {
         if *number < doc.len() {
-            rows.push(row_of(alloc, doc, *number)?)?;
+            report.add(alloc, &row_of(alloc, doc, *number)?)?;
         }
     }
-    Ok(rows)
+    Ok(report)
 }
 
 /// The row of an instance.

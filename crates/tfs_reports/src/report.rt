@@ -1,4 +1,4 @@
-//! A report: rows with named members, as a table for people or as JSON for programs.
+//! A report: rows with named members, as a table for people or as JSON for programs. Of a row only its text is kept.
 
 use crate::fault::End;
 use crate::output::write;
@@ -6,102 +6,134 @@ use crate::texts::cell;
 use serde_json::Value;
 use std::alloc::{AllocError, Global};
 
-/// Rows, and the members that a table shows of each.
+/// The rows so far: as JSON in one line; or as lines of cells, each with a tab behind it, below the names of the columns.
 #[derive(Drop)]
 pub(crate) struct Report {
-    pub(crate) columns: &'static [&'static str],
-    pub(crate) rows: Vec<Value>,
+    columns: &'static [&'static str],
+    is_json: bool,
+    widths: Vec<usize>,
+    text: String,
 }
 
 impl Report {
-    /// Prints the report.
-    pub(crate) fn print(self, rt: &HostRuntime, json: bool) -> Result<(), End> {
-        let text = if json {
-            json_text(rt.alloc(), self.rows)?
+    /// A report without rows. A table shows these members of each.
+    pub(crate) fn new(
+        alloc: Global,
+        columns: &'static [&'static str],
+        is_json: bool,
+    ) -> Result<Report, AllocError> {
+        let mut widths = Vec::with_capacity(alloc, columns.len())?;
+        let mut text = String::new(alloc);
+        if is_json {
+            text.push('[')?;
         } else {
-            table_text(rt.alloc(), self.columns, self.rows.as_slice())?
-        };
-        write(rt, text.as_bytes())
+            add_names(&mut text, &mut widths, columns)?;
+        }
+        Ok(Report {
+            columns,
+            is_json,
+            widths,
+            text,
+        })
+    }
+
+    /// Adds a row.
+    pub(crate) fn add(&mut self, alloc: Global, row: &Value) -> Result<(), AllocError> {
+        if self.is_json {
+            add_json(alloc, &mut self.text, row)
+        } else {
+            let widths = self.widths.as_mut_slice();
+            add_cells(alloc, &mut self.text, widths, self.columns, row)
+        }
+    }
+
+    /// Prints the report.
+    pub(crate) fn print(self, rt: &HostRuntime) -> Result<(), End> {
+        let mut text = self.text;
+        if self.is_json {
+            text.push_str("]\n")?;
+            return write(rt, text.as_bytes());
+        }
+        let table = table_text(rt.alloc(), text.as_str(), self.widths.as_slice())?;
+        write(rt, table.as_bytes())
     }
 }
 
-/// The rows as JSON in one line.
-fn json_text(alloc: Global, rows: Vec<Value>) -> Result<String, AllocError> {
-    let mut text = Value::Array(rows).to_string(alloc)?;
-    text.push('\n')?;
-    Ok(text)
-}
-
-/// The rows as lines, below the names of the columns.
-fn table_text(alloc: Global, columns: &[&str], rows: &[Value]) -> Result<String, AllocError> {
-    let widths = widths_of(alloc, columns, rows)?;
-    let mut text = String::new(alloc);
-    push_names(alloc, &mut text, columns, widths.as_slice())?;
-    for row in rows {
-        push_row(alloc, &mut text, columns, widths.as_slice(), row)?;
+/// Adds the text of a row, behind a comma where it isn't the first one.
+fn add_json(alloc: Global, text: &mut String, row: &Value) -> Result<(), AllocError> {
+    if text.len() > "[".len() {
+        text.push(',')?;
     }
-    Ok(text)
+    text.push_str(row.to_string(alloc)?.as_str())
 }
 
-/// How wide each column is.
-fn widths_of(alloc: Global, columns: &[&str], rows: &[Value]) -> Result<Vec<usize>, AllocError> {
-    let mut widths = Vec::with_capacity(alloc, columns.len())?;
-    for column in columns {
-        widths.push(width_of(alloc, column, rows)?)?;
-    }
-    Ok(widths)
-}
-
-/// How wide a column is: as its widest cell or its name.
-fn width_of(alloc: Global, column: &str, rows: &[Value]) -> Result<usize, AllocError> {
-    let mut width = column.len();
-    for row in rows {
-        width = width.max(cell(alloc, row, column)?.as_str().chars().count());
-    }
-    Ok(width)
-}
-
-/// Adds the line of the columns' names.
-fn push_names(
-    alloc: Global,
+/// Adds the line of the columns' names, which are the first cells.
+fn add_names(
     text: &mut String,
+    widths: &mut Vec<usize>,
     columns: &[&str],
-    widths: &[usize],
 ) -> Result<(), AllocError> {
-    let mut line = String::new(alloc);
-    for (column, width) in columns.iter().zip(widths.iter()) {
-        push_cell(&mut line, column, *width)?;
+    for column in columns {
+        widths.push(column.len())?;
+        text.push_str(column)?;
+        text.push('\t')?;
     }
-    push_line(text, line.as_str())
+    text.push('\n')
 }
 
-/// Adds the line of a row.
-fn push_row(
+/// Adds the line of a row's cells. No cell has a tab or an end of a line: they would be escaped.
+fn add_cells(
     alloc: Global,
     text: &mut String,
+    widths: &mut [usize],
     columns: &[&str],
-    widths: &[usize],
     row: &Value,
 ) -> Result<(), AllocError> {
-    let mut line = String::new(alloc);
-    for (column, width) in columns.iter().zip(widths.iter()) {
+    for (at, column) in columns.iter().enumerate() {
         let own = cell(alloc, row, column)?;
-        push_cell(&mut line, own.as_str(), *width)?;
+        widen(widths, at, own.as_str().chars().count());
+        text.push_str(own.as_str())?;
+        text.push('\t')?;
     }
-    push_line(text, line.as_str())
+    text.push('\n')
+}
+
+/// Makes a column at least this wide.
+fn widen(widths: &mut [usize], at: usize, width: usize) {
+    if let Some(own) = widths.get_mut(at) {
+        *own = width.max(*own);
+    }
+}
+
+/// The lines of cells, with blanks for the tabs.
+fn table_text(alloc: Global, text: &str, widths: &[usize]) -> Result<String, AllocError> {
+    let mut table = String::with_capacity(alloc, text.len())?;
+    for line in text.lines() {
+        push_line(alloc, &mut table, line, widths)?;
+    }
+    Ok(table)
+}
+
+/// Adds the line of these cells up to its last letter.
+fn push_line(
+    alloc: Global,
+    table: &mut String,
+    cells: &str,
+    widths: &[usize],
+) -> Result<(), AllocError> {
+    let mut line = String::new(alloc);
+    for (own, width) in cells.split('\t').zip(widths.iter()) {
+        push_cell(&mut line, own, *width)?;
+    }
+    table.push_str(line.as_str().trim_end_matches(' '))?;
+    table.push('\n')
 }
 
 /// Adds a cell, blanks up to its column's width, and two more.
-fn push_cell(text: &mut String, own: &str, width: usize) -> Result<(), AllocError> {
-    text.push_str(own)?;
+fn push_cell(line: &mut String, own: &str, width: usize) -> Result<(), AllocError> {
+    line.push_str(own)?;
     for _ in own.chars().count()..width {
-        text.push(' ')?;
+        line.push(' ')?;
     }
-    text.push_str("  ")
-}
-
-/// Adds a line up to its last letter.
-fn push_line(text: &mut String, line: &str) -> Result<(), AllocError> {
-    text.push_str(line.trim_end_matches(' '))?;
-    text.push('\n')
+    line.push_str("  ")
 }

@@ -1,41 +1,36 @@
 //! Texts of other people as JSON values and as cells of a table.
 
+ghost use Rattle.std.specs.Prelude.{◌≡◌, IfOk};
+ghost use Rattle.serde_json.specs.Data.{string};
+ghost use Rattle.serde_json.specs.View.{view};
+ghost use Rattle.tfs_json.specs.Json.{text_at};
+ghost use Rattle.tfs_reports.specs.Rows.{text_or_null};
+
 use serde_json::Value;
 use std::alloc::{AllocError, Global};
-use tfs_lock::{Id, LockInfo};
+use tfs_lock::Id;
 
 /// A text as JSON.
-pub(crate) fn text(alloc: Global, text: &str) -> Result<Value, AllocError> {
+pub(crate) fn text(alloc: Global, text: &str) -> Result<Value, AllocError>
+    ensures { IfOk result (λ value. view value ≡ string text.now) }
+{
     Ok(Value::String(String::from_str(alloc, text)?))
 }
 
 /// An identifier as JSON; null for none.
-pub(crate) fn id_text(alloc: Global, id: &Option<Id>) -> Result<Value, AllocError> {
+pub(crate) fn id_text(alloc: Global, id: &Option<Id>) -> Result<Value, AllocError>
+    ensures { IfOk result (λ value. view value ≡ text_or_null id.now) }
+{
     match id {
         Some(id) => text(alloc, id.text()),
         None => Ok(Value::Null),
     }
 }
 
-/// What lock information says of itself: its members as JSON, or null where its text isn't read.
-pub(crate) fn members_of(alloc: Global, info: &LockInfo) -> Result<Value, AllocError> {
-    let Ok(read) = str::from_utf8(info.bytes()) else {
-        return Ok(Value::Null);
-    };
-    match Value::from_str(alloc, read) {
-        Ok(value) => Ok(value),
-        Err(error) => {
-            if error.is_memory() {
-                Err(AllocError)
-            } else {
-                Ok(Value::Null)
-            }
-        }
-    }
-}
-
 /// The text of a member; null where it is absent or no text.
-pub(crate) fn member(alloc: Global, members: &Value, name: &str) -> Result<Value, AllocError> {
+pub(crate) fn member(alloc: Global, members: &Value, name: &str) -> Result<Value, AllocError>
+    ensures { IfOk result (λ value. view value ≡ text_or_null (text_at name.now (view members.now))) }
+{
     match members.get(name).and_then(Value::as_str) {
         Some(found) => text(alloc, found),
         None => Ok(Value::Null),

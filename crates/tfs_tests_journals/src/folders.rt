@@ -3,10 +3,14 @@
 
 use crate::helpers::split;
 use crate::journals::{front, journal_bytes};
+use crate::pieces::Pieces;
 use std::alloc::Global;
 use std::process::Abort;
 use std::test::Fail;
-use tfs_folder::{Chosen, FolderFile, Unchosen, choose, name_of, number_of};
+use tfs_folder::{
+    Chosen, FolderFile, JournalReader, NoChoice, Unchosen, choose, choose_beside, name_of,
+    number_of,
+};
 use tfs_records::MemorySink;
 use tfs_table::OpenFault;
 
@@ -61,14 +65,57 @@ fn choice_of(
     }
 }
 
-/// Checks a line: the least position, the files, and the choice.
+/// Readers of the journals among files, in pieces of at most so many bytes. That of one number fails behind them.
+fn readers_of<'f>(
+    rt: &impl Alloc<A = Global>,
+    files: &'f [FolderFile],
+    most: usize,
+    failing: u64,
+) -> Result<Vec<JournalReader<Pieces<'f>>>, Fail> {
+    let mut readers = Vec::new(rt.alloc());
+    for file in files {
+        if let Some(number) = number_of(file.name()) {
+            let reader = Pieces {
+                rest: file.bytes(),
+                most,
+                fails: number == failing,
+            };
+            readers.push(JournalReader { number, reader })?;
+        }
+    }
+    Ok(readers)
+}
+
+/// The choice among these readers, in words.
+fn choice_beside(
+    rt: &impl Alloc<A = Global>,
+    readers: Vec<JournalReader<Pieces<'_>>>,
+    least: u64,
+) -> Result<String, Fail> {
+    match choose_beside(rt.alloc(), readers, least) {
+        Ok(chosen) => chosen_words(rt, &chosen),
+        Err(NoChoice::Unchosen(unchosen)) => unchosen_words(rt, unchosen),
+        Err(NoChoice::Unread(number, fault)) => {
+            Ok(format!(in rt.alloc(); "{number} unread {fault:?}")?)
+        }
+    }
+}
+
+/// Checks a line: the least position, the files, and the choice, of whole files and of pieces.
 fn is_chosen(rt: &(impl Alloc<A = Global> + Abort), line: &str) -> Result<(), Fail> {
     let (asked, wanted) = line.split_once(" = ").expect(rt, "a line has a choice");
     let (least, words) = split(asked);
     let least = least.parse::<u64>().ok().expect(rt, "a position");
     assert!(rt; choice_of(rt, words, least)?.as_str() == wanted, "{line}");
+    let files = files_of(rt, words)?;
+    let readers = readers_of(rt, files.as_slice(), 1 + line.len() % 97, NONE)?;
+    let found = choice_beside(rt, readers, least)?;
+    assert!(rt; found.as_str() == wanted, "{line}: {found} in pieces");
     Ok(())
 }
+
+/// The number of no file.
+const NONE: u64 = u64::MAX;
 
 /// Folders, and what is chosen of them.
 const CHOICES: &str = "0 1:104:104 = 1 at 2
@@ -88,6 +135,9 @@ const CHOICES: &str = "0 1:104:104 = 1 at 2
 0 1:104:104 2:130:130 3:92:92 = 2 Parted
 0 1:104:104 2:130:20 = 2 TornBase
 0 1:104:104 2:92:91 3:92:92 = 2 TornBase
+0 1:137:137 2:92:92 = 1 Unlawful(2)
+0 1:104:104 2:137:137 = 2 Unlawful(2)
+0 1:104:104 2:changed:104 = 2 Damaged(5)
 0 1:92:91 = 1 TornBase
 0 1:92:3 = 1 TornBase
 0 1:92:0 = 1 TornBase
@@ -100,6 +150,36 @@ const CHOICES: &str = "0 1:104:104 = 1 at 2
 fn the_newest_journal_that_follows_is_chosen(rt: HostRuntime) -> Result<(), Fail> {
     for line in CHOICES.lines() {
         is_chosen(&rt, line)?;
+    }
+    Ok(())
+}
+
+/// Checks a line: the number of the journal whose reader fails, the files, and the choice.
+fn is_told(rt: &(impl Alloc<A = Global> + Abort), line: &str) -> Result<(), Fail> {
+    let (asked, wanted) = line.split_once(" = ").expect(rt, "a line has a choice");
+    let (failing, words) = split(asked);
+    let failing = failing.parse::<u64>().ok().expect(rt, "a number");
+    let files = files_of(rt, words)?;
+    let found = choice_beside(rt, readers_of(rt, files.as_slice(), 50, failing)?, 0)?;
+    assert!(rt; found.as_str() == wanted, "{line}: {found}");
+    Ok(())
+}
+
+/// Journals beside one another, of which the reader of one fails.
+const FAILING: &str = "1 1:104:104 2:92:92 = 1 unread Source
+1 1:104:0 2:92:92 = 1 unread Source
+2 1:104:104 2:92:92 = 2 unread Source
+2 1:104:104 2:92:91 = 2 unread Source
+2 1:104:104 2:92:0 = 2 unread Source
+2 1:104:104 2:130:130 = 2 unread Source
+2 1:104:104 2:92:92 3:92:92 = 2 unread Source
+3 1:104:104 2:92:92 3:92:92 = 3 unread Source
+3 1:104:104 2:130:130 3:92:92 = 2 Parted";
+
+#[test]
+fn a_reader_that_fails_ends_the_choice(rt: HostRuntime) -> Result<(), Fail> {
+    for line in FAILING.lines() {
+        is_told(&rt, line)?;
     }
     Ok(())
 }

@@ -15,10 +15,10 @@ use tfs_table::{OpenFault, Table};
 
 /// Gives its bytes in reads of at most so many, and then fails, or ends.
 #[derive(Drop)]
-struct Pieces<'b> {
-    rest: &'b [u8],
-    most: usize,
-    fails: bool,
+pub(crate) struct Pieces<'b> {
+    pub(crate) rest: &'b [u8],
+    pub(crate) most: usize,
+    pub(crate) fails: bool,
 }
 
 impl<'b> io::Read for Pieces<'b> {

@@ -1,2 +1,5 @@
 mod CountLemmas
 mod EventLemmas
+mod HoldingLemmas
+mod ToldLemmas
+mod WholeLemmas

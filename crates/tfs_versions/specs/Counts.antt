@@ -1,9 +1,11 @@
 -- The numbers of a journal that a monitor watches.
-use Rattle.std.specs.Prelude.{ℕ, List, length, is_some, if◌then◌else◌}
+use Rattle.std.specs.Prelude.{◌≡◌, ℕ, List, length, is_some, if◌then◌else◌}
 use Rattle.std.specs.List.{sum_by}
 use Rattle.std.specs.Option.{option_map_or}
 use Rattle.tfs_rules.specs.History.{state_of, holder_of}
-use Rattle.tfs_records.specs.Journal.{Journal, acts_of, names_of}
+use Rattle.tfs_records.specs.Journal.{Journal, acts_of, names_of, position_of}
+use Rattle.tfs_versions.specs.Holding.{IsEarliest, lock_times}
+use Rattle.tfs_versions.specs.declared.counts.Measures.{Measures}
 
 -- How many instances the state of a name has; 0 without a state.
 abbrev pub instances_at : Journal → List ℕ → ℕ
@@ -20,3 +22,13 @@ instances_of j = sum_by (instances_at j) (names_of j)
 -- The locks of all names that are held.
 abbrev pub locks_of : Journal → ℕ
 locks_of j = sum_by (lock_at j) (names_of j)
+
+-- The numbers are those of a journal whose file has so many bytes.
+pub record IsMeasured (bytes : ℕ) (j : Journal) (m : Measures) : Type 0 where
+  pub bytes_are : m.bytes ≡ bytes
+  pub entries : m.entries ≡ length j.entries
+  pub position : m.position ≡ position_of j
+  pub names : m.names ≡ length (names_of j)
+  pub instances : m.instances ≡ instances_of j
+  pub locks : m.locks ≡ locks_of j
+  pub oldest_lock : IsEarliest (lock_times j) m.oldest_lock

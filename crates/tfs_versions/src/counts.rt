@@ -1,16 +1,51 @@
 //! Numbers of a journal that a monitor watches.
 
-ghost use Rattle.std.specs.Prelude.{◌≡◌, ◌≤◌, slice_get};
+ghost use Rattle.std.specs.Prelude.{◌≡◌, ◌≤◌, slice_get, IfOk};
 ghost use Rattle.std.specs.Option.{option_map_or};
 ghost use Rattle.tfs_records.specs.Journal.{names_of};
-ghost use Rattle.tfs_versions.specs.Counts.{instances_at, lock_at, instances_of, locks_of};
+ghost use Rattle.tfs_versions.specs.Counts.{instances_at, lock_at, instances_of, locks_of, IsMeasured};
 
+use crate::holding::oldest_lock;
+use std::alloc::{AllocError, Global};
 use tfs_records::Sink;
 use tfs_rules::Name;
 use tfs_table::Table;
 
+/// The numbers of a journal.
+#[derive(Drop)]
+pub struct Measures {
+    /// The bytes of its file.
+    pub bytes: usize,
+    pub entries: usize,
+    pub position: u64,
+    pub names: usize,
+    pub instances: usize,
+    pub locks: usize,
+    /// When the lock was taken that is held longest, in seconds since 1970, as far as lock information tells that.
+    pub oldest_lock: Option<i64>,
+}
+
+/// The numbers of a table whose journal's file has so many bytes.
+pub fn measured<K: Sink>(
+    alloc: Global,
+    bytes: usize,
+    table: &Table<K>,
+) -> Result<Measures, AllocError>
+    ensures value { IfOk result (IsMeasured bytes table.now.journal) }
+{
+    Ok(Measures {
+        bytes,
+        entries: table.len(),
+        position: table.position(),
+        names: table.names(),
+        instances: instances(table),
+        locks: locks(table),
+        oldest_lock: oldest_lock(alloc, table)?,
+    })
+}
+
 /// How many instances the states of all names of a table have.
-pub fn instances<K: Sink>(table: &Table<K>) -> usize
+fn instances<K: Sink>(table: &Table<K>) -> usize
     ensures value { result ≡ instances_of table.now.journal }
 {
     table.is_kept();
@@ -44,7 +79,7 @@ fn instances_at<K: Sink>(table: &Table<K>, name: &Name) -> usize
 }
 
 /// How many locks of a table are held.
-pub fn locks<K: Sink>(table: &Table<K>) -> usize
+fn locks<K: Sink>(table: &Table<K>) -> usize
     ensures value { result ≡ locks_of table.now.journal }
 {
     table.is_kept();

@@ -5,15 +5,22 @@
 mod counts;
 mod dot;
 mod event;
+mod holding;
 mod laws;
 mod number;
 mod past;
 mod place;
 mod restore;
+mod telling;
+mod told;
+mod whole;
 
-pub use counts::{instances, locks};
+pub use counts::{Measures, measured};
 pub use dot::picture;
-pub use event::{Event, add_events};
+pub use event::{Deed, Event, Outline};
+pub use holding::words_of;
 pub use laws::events_are_the_acts_of_a_name_in_order;
 pub use past::state_at;
 pub use restore::{RestoreFault, restored};
+pub use told::{Told, told_by};
+pub use whole::whole_part;

@@ -15,7 +15,7 @@ returns-in-Some-clause-memory c is =
 
 pub returns-in_default-index-clause-ok : goal.returns-in_default-index-clause-ok
 returns-in_default-index-clause-ok c =
-    let none : length (arc_value c.self.inside.doc).instances ≡ 0 = subst (HasIndex (arc_value c.self.inside.doc)) c.in_default-index.is c.self.invariant in
+    let none : length (arc_value c.self.inside.doc).instances ≡ 0 = subst (HasIndex (arc_value c.self.inside.doc)) c.in_default-index.is c.self.invariant.0 in
     c.new.ensures.items
     ∙ no_any c.args.self.now (map (λ (t : Bor (List ℕ)). t.now) c.args.texts.now)
     (subst (λ (d : Document). length d.instances ≡ 0) c.self.view_is none)

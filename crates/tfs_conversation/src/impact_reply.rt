@@ -1,0 +1,100 @@
+//! The reply to a query for the impact of changes, whose body is told in pieces.
+
+ghost use Rattle.std.specs.Prelude.{◌≡◌, [], ◌++◌, IsTrue, IfOk, IfErr, OnOk};
+ghost use Rattle.std.specs.Arc.{arc_value};
+ghost use Rattle.std.specs.Io.KnownBytes.{Appends};
+ghost use Rattle.tfs_calls.specs.Reply.{impact};
+ghost use Rattle.tfs_escapes.specs.Room.{HasRoom};
+ghost use Rattle.tfs_http.specs.ReplyText.{head_text, impact_body, reply_text};
+ghost use Rattle.tfs_conversation.specs.Lent.{TellsWriter};
+ghost use Rattle.tfs_conversation.specs.Turns.{WritesPart};
+
+use crate::fault::ServeFault;
+use crate::lent::Outlet;
+use crate::output::{PIECE_BYTES, write_in_pieces, write_joined, write_out};
+use std::alloc::{AllocError, Global};
+use tfs_calls::Impact;
+use tfs_framing::Form;
+use tfs_http::{ImpactBody, write_impact_head};
+
+/// Room for the head of an answer, whose length has at most 39 digits.
+const HEAD_BYTES: usize = 160;
+
+/// What is made of a reply before any of it is written: its head, and what is left of its body behind the first bytes.
+#[derive(Drop)]
+struct BegunReply<'r> {
+    head: Vec<u8>,
+    left: ImpactBody<'r>,
+    is_whole: bool,
+}
+
+/// Writes the reply to a query, by way of a vector whose bytes go. The memory that it takes is asked for before the first byte is written,
+/// and doesn't depend on how long the body is.
+pub(crate) fn send_impact<W: Outlet>(
+    alloc: Global,
+    text: &mut Vec<u8>,
+    writer: &mut W,
+    answer: &Impact,
+    form: Form,
+) -> Result<(), ServeFault>
+    ensures ok { OnOk result (Appends (W.contents writer.old) (W.contents writer.new)
+        (reply_text (impact (arc_value answer.now.version) answer.now.chosen answer.now.position) form)) }
+    ensures err { IfErr result (WritesPart (W.contents writer.old) (W.contents writer.new)
+        (reply_text (impact (arc_value answer.now.version) answer.now.chosen answer.now.position) form)) }
+    ensures writer { TellsWriter result (W.failed writer.old) (W.failed writer.new) }
+{
+    let Ok(begun) = begin(alloc, text, answer, form) else {
+        return Err(ServeFault::NoMemory);
+    };
+    if form.bare {
+        return write_out(writer, begun.head.as_slice());
+    }
+    write_begun(writer, text, begun)
+}
+
+/// Makes the head of a reply, and puts the first bytes of its body into a vector whose bytes go.
+fn begin<'r>(
+    alloc: Global,
+    text: &mut Vec<u8>,
+    answer: &'r Impact,
+    form: Form,
+) -> Result<BegunReply<'r>, AllocError>
+    ensures body { IfOk result (λ begun. text.new.items ++ begun.left
+        ≡ impact_body (arc_value answer.now.version) answer.now.chosen answer.now.position) }
+    ensures head { IfOk result (λ begun. begun.head.items ≡ head_text 200 [] form (text.new.items ++ begun.left)) }
+    ensures room { OnOk result (HasRoom text.new 65536) }
+    ensures whole { IfOk result (λ begun. IsTrue begun.is_whole → begun.left ≡ []) }
+{
+    let mut left = ImpactBody::new(alloc, answer)?;
+    text.clear();
+    text.reserve(PIECE_BYTES)?;
+    let is_whole = left.fill(PIECE_BYTES, text);
+    let mut head = Vec::with_capacity(alloc, HEAD_BYTES)?;
+    write_impact_head(text.as_slice(), &left, form, &mut head)?;
+    Ok(BegunReply {
+        head,
+        left,
+        is_whole,
+    })
+}
+
+/// Writes a head, the first bytes of a body, and what is left of it.
+fn write_begun<W: Outlet>(
+    writer: &mut W,
+    text: &mut Vec<u8>,
+    begun: BegunReply<'_>,
+) -> Result<(), ServeFault>
+    requires room { HasRoom text.old 65536 }
+    requires whole { IsTrue begun.is_whole → begun.left ≡ [] }
+    ensures ok { OnOk result (Appends (W.contents writer.old) (W.contents writer.new)
+        (begun.entry.head.items ++ (text.old.items ++ begun.entry.left))) }
+    ensures err { IfErr result (WritesPart (W.contents writer.old) (W.contents writer.new)
+        (begun.entry.head.items ++ (text.old.items ++ begun.entry.left))) }
+    ensures writer { TellsWriter result (W.failed writer.old) (W.failed writer.new) }
+{
+    let mut head = begun.head;
+    if begun.is_whole {
+        return write_joined(writer, &mut head, text.as_slice());
+    }
+    write_in_pieces(writer, head.as_slice(), text, begun.left)
+}

@@ -1,0 +1,7 @@
+-- What stands for the bytes so far.
+use Rattle.std.proofs.Common.{◌≡◌, ◌≤◌, ◌*◌, length, take}
+use Rattle.json.specs.Print.{escape}
+use Rattle.tfs_escapes.proofs.escaped.sum_of_widths.Given as goal
+
+abbrev pub invariant-loop-byte : goal.invariant-loop-byte
+invariant-loop-byte l = (l.len ≡ length (escape (take l.byte-index l.text))) × (l.len ≤ 6 * l.byte-index)

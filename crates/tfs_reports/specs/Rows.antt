@@ -1,0 +1,53 @@
+-- The rows of reports, as JSON.
+use Rattle.std.specs.Prelude.{ℕ, List, length, codes, Option, option_and_then, option_map}
+use Rattle.std.specs.Option.{option_map_or}
+use Rattle.serde_json.specs.Data.{unsigned, Data, null, number, string, object, no_members, member}
+use Rattle.tfs_state.specs.Document.{Document}
+use Rattle.tfs_lock.specs.LockInfo.{LockInformation}
+use Rattle.tfs_rules.specs.History.{state_of, holder_of}
+use Rattle.tfs_records.specs.Journal.{Journal, acts_of}
+use Rattle.tfs_versions.specs.declared.event.Outline.{Outline}
+use Rattle.tfs_versions.specs.Holding.{word_at}
+
+-- A number.
+abbrev pub whole : ℕ → Data
+whole n = number (unsigned n)
+
+-- A number, if it is known.
+abbrev pub whole_or_null : Option ℕ → Data
+whole_or_null n = option_map_or whole n null
+
+-- A text, if it is known.
+abbrev pub text_or_null : Option (List ℕ) → Data
+text_or_null text = option_map_or string text null
+
+-- A name with its state and its holder, as far as it has them.
+abbrev pub standing_row : List ℕ → Option Document → Option LockInformation → Data
+standing_row name state holder = object
+    (member (codes "bytes") (whole_or_null (option_map (λ d. length d.bytes) state))
+    (member (codes "created") (text_or_null (option_and_then (word_at (codes "Created")) holder))
+    (member (codes "holder") (text_or_null (option_and_then (word_at (codes "ID")) holder))
+    (member (codes "instances") (whole_or_null (option_map (λ d. length d.instances) state))
+    (member (codes "name") (string name)
+    (member (codes "operation") (text_or_null (option_and_then (word_at (codes "Operation")) holder))
+    (member (codes "serial") (whole_or_null (option_map (λ d. d.serial) state))
+    (member (codes "who") (text_or_null (option_and_then (word_at (codes "Who")) holder)) no_members))))))))
+
+-- The row of a name of a journal.
+abbrev pub name_row : Journal → List ℕ → Data
+name_row j name = standing_row name (state_of (acts_of name j)) (holder_of (acts_of name j))
+
+-- An act without more than its identifier.
+abbrev pub act_row : List ℕ → ℕ → Option (List ℕ) → Data
+act_row act position id = object
+    (member (codes "act") (string act) (member (codes "id") (text_or_null id) (member (codes "position") (whole position) no_members)))
+
+-- A push, with the outline of its state.
+abbrev pub push_row : ℕ → Option (List ℕ) → Outline → Data
+push_row position id outline = object
+    (member (codes "act") (string (codes "push"))
+    (member (codes "bytes") (whole outline.bytes)
+    (member (codes "id") (text_or_null id)
+    (member (codes "instances") (whole outline.instances)
+    (member (codes "position") (whole position)
+    (member (codes "serial") (whole outline.serial) no_members))))))

@@ -1,0 +1,102 @@
+//! What locks tell of themselves, and when they were taken.
+
+ghost use Rattle.std.specs.Prelude.{◌≡◌, Some, option_and_then, slice_get, IfOk};
+ghost use Rattle.serde_json.specs.View.{view};
+ghost use Rattle.tfs_json.specs.Json.{json_value};
+ghost use Rattle.tfs_records.specs.Journal.{names_of};
+ghost use Rattle.tfs_versions.specs.Holding.{seconds_of, created_at, taken_at, lock_times, IsEarliest, earlier};
+
+use jiff::Timestamp;
+use serde_json::Value;
+use std::alloc::{AllocError, Global};
+use std::str::FromStr;
+use tfs_lock::LockInfo;
+use tfs_records::Sink;
+use tfs_rules::Name;
+use tfs_table::Table;
+
+/// What lock information says, as JSON.
+pub fn words_of(alloc: Global, info: &LockInfo) -> Result<Value, AllocError>
+    ensures value { IfOk result (λ words. json_value info.now.bytes ≡ Some (view words)) }
+{
+    match Value::from_slice(alloc, info.bytes()) {
+        Ok(words) => Ok(words),
+        // Lock information is JSON, so that only memory can be wanting.
+        Err(_) => Err(AllocError),
+    }
+}
+
+/// When the lock was taken that is held longest, as far as lock information tells that.
+pub(crate) fn oldest_lock<K: Sink>(
+    alloc: Global,
+    table: &Table<K>,
+) -> Result<Option<i64>, AllocError>
+    ensures { IfOk result (IsEarliest (lock_times table.now.journal)) }
+{
+    let mut oldest = None;
+    for number in 0..table.names() {
+        oldest = earlier(oldest, time_numbered(alloc, table, number)?);
+    }
+    Ok(oldest)
+}
+
+/// The earlier of two times, as far as they are known.
+fn earlier(one: Option<i64>, other: Option<i64>) -> Option<i64>
+    ensures { result ≡ earlier one other }
+{
+    match (one, other) {
+        (Some(first), Some(second)) => Some(if second < first { second } else { first }),
+        (Some(first), None) => Some(first),
+        (None, other) => other,
+    }
+}
+
+/// When the lock of the name of a number was taken, if it is held and tells that.
+fn time_numbered<K: Sink>(
+    alloc: Global,
+    table: &Table<K>,
+    number: usize,
+) -> Result<Option<i64>, AllocError>
+    ensures { IfOk result (λ time. time
+        ≡ option_and_then (taken_at table.now.journal) (slice_get (names_of table.now.journal) number)) }
+{
+    match table.name(number) {
+        Some(name) => taken_at(alloc, table, name),
+        None => Ok(None),
+    }
+}
+
+/// When the lock of a name was taken, if it is held and tells that.
+fn taken_at<K: Sink>(
+    alloc: Global,
+    table: &Table<K>,
+    name: &Name,
+) -> Result<Option<i64>, AllocError>
+    ensures { IfOk result (λ time. time ≡ taken_at table.now.journal name.now) }
+{
+    match table.holder(name) {
+        Some(info) => created_at(alloc, info),
+        None => Ok(None),
+    }
+}
+
+/// When a lock was taken, by its `Created`.
+fn created_at(alloc: Global, info: &LockInfo) -> Result<Option<i64>, AllocError>
+    ensures { IfOk result (λ time. time ≡ created_at info.now) }
+{
+    let words = words_of(alloc, info)?;
+    match words.get("Created").and_then(Value::as_str) {
+        Some(text) => Ok(seconds_of(text)),
+        None => Ok(None),
+    }
+}
+
+/// The whole seconds since 1970 of a time (RFC 3339).
+fn seconds_of(text: &str) -> Option<i64>
+    ensures { result ≡ seconds_of text.now }
+{
+    match Timestamp::from_str(text) {
+        Ok(time) => Some(time.as_second()),
+        Err(_) => None,
+    }
+}
