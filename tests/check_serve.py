@@ -271,18 +271,6 @@ def check_each_push_of_more_than_4_mib_gives_its_turn_back():
     expect(server.ask("GET", "/state/n3"), (200, long[1]))
 
 
-def check_a_long_module_path_is_taken_and_its_answer_is_not():
-    server = Server(workers=2, preexec_fn=limited(6 * 10**9))
-    module = "module." + "m" * (4 << 20)
-    instances = ",".join('{"index_key":%d,"dependencies":["t.a"]}' % number for number in range(4095))
-    text = state(1, ("a",))[:-2] + b', {"module":"%s","mode":"managed","type":"t","name":"n","instances":[%s]}]}' % (
-        module.encode(), instances.encode())
-    expect(server.ask("POST", "/state/a", text), (200, b""))
-    expect(server.ask("GET", "/impact/a/any?of=t.a"), None, "an answer of 34 GB")
-    expect(server.ask("GET", "/state/a"), (200, text))
-    expect(server.process.poll(), None)
-
-
 def stop_and_continue(server):
     """Stops the program and lets it go on, some times. A call that waits for a socket with a limit of time ends by EINTR then (signal(7))."""
     for _ in range(5):
