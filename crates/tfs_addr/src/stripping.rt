@@ -1,7 +1,7 @@
 //! A text without its instance keys. The steps of a key take a few nanoseconds each, so they are
 //! compiled into the loops that take them.
 
-ghost use Rattle.std.specs.Prelude.{◌≡◌, ◌≢◌, ◌++◌, ◌*◌, ◌+◌, ◌<◌, ◌≤◌, ℕ, List, [], length, chars, IsUtf8, option_copied, IfOk, IfErr, IsOk, OnOk, OnErr, IfSome, Ok, string_bytes, string_len, string_capacity, false};
+ghost use Rattle.std.specs.Prelude.{◌≡◌, ◌≢◌, ◌++◌, ◌*◌, ◌+◌, ◌<◌, ◌≤◌, ℕ, List, [], length, chars, IsUtf8, option_copied, IfOk, IfErr, IsOk, OnOk, OnErr, IfSome, Ok, string_bytes, string_len, string_capacity, true, false};
 ghost use Rattle.tfs_addr.specs.Address.{opening, closing, IsStripped, StopsBefore, HasNoReading, BeginsNoPiece, GivesText, stripped_text, quote, backslash};
 ghost use Rattle.tfs_addr.specs.Steps.{HasNeither, MayBeginWith, IsBracketOf, FaultOf, IsKeyThen, rest_after, units_rest, key_rest, without_digits};
 
@@ -66,10 +66,12 @@ fn keep(bare: &mut String, front: &str) -> Result<(), AllocError>
     bare.push_str(front)
 }
 
-/// The text with little room to spare. One that was made with room for its length stays where it is.
+/// The text with little room to spare. One that was made with room for its length stays where it is; an error comes only where the
+/// allocator gave a text much more room, and takes none back.
 fn fitted(mut text: String) -> Result<String, AllocError>
     ensures kept { IfOk result (λ fit. string_bytes fit ≡ string_bytes text) }
     ensures room { IfOk result (λ fit. 4 * string_capacity fit ≤ 5 * string_len fit) }
+    ensures err { OnErr result (5 * string_len text < 4 * string_capacity text) }
     ensures empty { string_len text ≡ 0 → IsOk result }
 {
     if has_much_room(&text) {
@@ -84,6 +86,7 @@ fn fitted(mut text: String) -> Result<String, AllocError>
 /// Whether the text keeps room for more than 1.25 times its length.
 fn has_much_room(text: &String) -> bool
     ensures no { result ≡ false → 4 * string_capacity text.now ≤ 5 * string_len text.now }
+    ensures yes { result ≡ true → 5 * string_len text.now < 4 * string_capacity text.now }
     ensures none { string_capacity text.now ≡ 0 → result ≡ false }
 {
     text.capacity() - text.len() > text.len() / 4

@@ -14,6 +14,6 @@ pub use laws::{
     locked_acts_have_a_holder, the_current_state_is_that_of_the_last_push,
     the_holder_is_that_of_the_last_lock,
 };
-pub use name::{MAX_NAME_BYTES, Name};
+pub use name::{MAX_NAME_BYTES, Name, is_name};
 pub use record::Record;
 pub use verdict::Verdict;

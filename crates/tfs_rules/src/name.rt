@@ -58,7 +58,8 @@ impl Name {
     }
 }
 
-fn is_name(text: &str) -> bool
+/// Whether a text is a name, told where it lies: no copy of it is made.
+pub fn is_name(text: &str) -> bool
     ensures { IsTrue result ↔ IsName text.now }
 {
     !text.is_empty() && text.len() <= MAX_NAME_BYTES && has_name_bytes(text)

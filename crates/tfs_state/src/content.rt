@@ -1,10 +1,10 @@
 //! What the text of a state says.
 
-ghost use Rattle.std.specs.Prelude.{◌≡◌, ◌≢◌, ◌≤◌, ◌<◌, slice_get, Some, Ok, IfOk, IfErr, length};
+ghost use Rattle.std.specs.Prelude.{◌≡◌, ◌≢◌, ◌≤◌, ◌<◌, slice_get, Some, Ok, IfOk, IfErr, OnOk, length};
 ghost use Rattle.tfs_json.specs.Tree.{tree_view as view};
 ghost use Rattle.tfs_state.specs.StateText.{first_state_fault, instances_of, content_of};
 ghost use Rattle.tfs_state.specs.Contents.{Keeps, ReadsContent, ReadsInstancesOf};
-ghost use Rattle.tfs_state.specs.declared.fault.StateFault.TheVariants.{NoMemory};
+ghost use Rattle.tfs_state.specs.declared.fault.StateFault.TheVariants.{NoMemory, TooManyInstances};
 
 use crate::fault::StateFault;
 use crate::members::{lineage_of, serial_of, version_of};
@@ -94,11 +94,20 @@ fn read_tables(alloc: Global, value: &Tree<'_>) -> Result<Tables, StateFault>
         return Err(StateFault::Resource(0));
     };
     let mut tables = Tables::read(alloc, list)?;
-    if tables.packed.rows.len() > MAX_INSTANCES {
-        return Err(StateFault::TooManyInstances);
-    }
+    check_count(tables.packed.rows.len())?;
     tables.names.apart();
     tables.blocks.shrink_to_fit();
     tables.packed.numbers.shrink_to_fit();
     Ok(tables)
+}
+
+/// Refuses too many instances, all of which were read: `TooManyInstances` is told without a request for memory.
+fn check_count(count: usize) -> Result<(), StateFault>
+    ensures ok { OnOk result (count ≤ 4096) }
+    ensures err { IfErr result (λ fault. (fault ≡ TooManyInstances) × (4096 < count)) }
+{
+    if count > MAX_INSTANCES {
+        return Err(StateFault::TooManyInstances);
+    }
+    Ok(())
 }

@@ -1,6 +1,6 @@
 //! Numbers in place of texts, while a document is read.
 
-ghost use Rattle.std.specs.Prelude.{◌≡◌, Some, IfOk, slice_get, string_bytes, []};
+ghost use Rattle.std.specs.Prelude.{◌≡◌, ◌≤◌, Some, IfOk, OnErr, slice_get, string_bytes, []};
 ghost use Rattle.tfs_state.specs.Names.{AreApart, Extends};
 
 use indexmap::IndexSet;
@@ -53,7 +53,8 @@ impl Names {
 
 /// The number in 32 bits: a state of 16 MiB has fewer texts than there are such numbers.
 pub(crate) fn short(number: usize) -> Result<u32, AllocError>
-    ensures { IfOk result (λ n. n ≡ number) }
+    ensures ok { IfOk result (λ n. n ≡ number) }
+    ensures err { OnErr result (4294967296 ≤ number) }
 {
     match u32::try_from(number) {
         Ok(number) => Ok(number),

@@ -11,4 +11,4 @@ pub returns-clause-ok : goal.returns-clause-ok
 returns-clause-ok c =
     let stored = c.in_ok-number.ensures.stored in
     let at = stored_text c.insert_full.new.self.keys c.in_ok-number.number c.args.text stored.0 stored.1 stored.2 in
-    IfOk-weaker c.short.result _ _ (λ n same. ap (slice_get (map string_bytes c.insert_full.new.self.keys)) same ∙ at) c.short.ensures
+    IfOk-weaker c.short.result _ _ (λ n same. ap (slice_get (map string_bytes c.insert_full.new.self.keys)) same ∙ at) c.short.ensures.ok
