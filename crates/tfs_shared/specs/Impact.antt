@@ -1,5 +1,5 @@
 -- The answers to impact queries over published copies.
-use Rattle.std.specs.Prelude.{◌≡◌, ◌⊎◌, ℕ, List, IsSome}
+use Rattle.std.specs.Prelude.{◌≡◌, ◌⊎◌, ◌<◌, ◌≤◌, ℕ, List, length, IsSome}
 use Rattle.std.specs.Option.{option_map_or}
 use Rattle.tfs_state.specs.Document.{Document}
 use Rattle.tfs_rules.specs.History.{state_of}
@@ -12,12 +12,16 @@ use Rattle.tfs_calls.specs.Transition.{answer_of, open_model}
 use Rattle.tfs_calls.specs.declared.call.Call.TheVariants.{Impact as CallImpact}
 use Rattle.tfs_calls.specs.declared.query.Query.{Query}
 
--- The reply over a lawful journal: the model's answer or, where the name has a state, want of memory.
+-- The query isn't refused for the number of its texts: it has 1 to 64.
+abbrev pub HasFewTexts : Query → Type 0
+HasFewTexts query = (0 < length query.texts) × (length query.texts ≤ 64)
+
+-- The reply over a lawful journal: the model's answer or, where the name has a state and the query 1 to 64 texts, want of memory.
 abbrev pub AnswersImpact : Journal → List ℕ → Query → ReplyValue → Type 0
 AnswersImpact j name query reply = IsLawful j × ((reply ≡ answer_of (open_model j) (CallImpact name query))
-    ⊎ ((reply ≡ refused out_of_memory) × IsSome (state_of (acts_of name j))))
+    ⊎ ((reply ≡ refused out_of_memory) × IsSome (state_of (acts_of name j)) × HasFewTexts query))
 
 -- The same over a state, at a position.
 abbrev pub AnswersQuery : Document → Query → ℕ → ReplyValue → Type 0
 AnswersQuery d query position reply = (reply ≡ option_map_or refused (query_refusal d query) (impact d (chosen_by d query) position))
-    ⊎ (reply ≡ refused out_of_memory)
+    ⊎ ((reply ≡ refused out_of_memory) × HasFewTexts query)

@@ -1,11 +1,12 @@
 //! Impact queries, which wait for nobody.
 
-ghost use Rattle.std.specs.Prelude.{◌≡◌, ◌⊎◌, [], Some};
+ghost use Rattle.std.specs.Prelude.{◌≡◌, ◌⊎◌, ℕ, [], Some};
 ghost use Rattle.std.specs.Arc.{arc_value};
-ghost use Rattle.tfs_calls.specs.Refusal.{no_copy};
+ghost use Rattle.tfs_calls.specs.Refusal.{refusal_value, no_copy};
 ghost use Rattle.tfs_calls.specs.Reply.{refused};
 ghost use Rattle.tfs_table.specs.Table.{impact_reply};
 ghost use Rattle.tfs_shared.specs.Signed.{IsSigned};
+ghost use Rattle.tfs_state.specs.Document.{Document};
 ghost use Rattle.tfs_shared.specs.Impact.{AnswersImpact, AnswersQuery};
 ghost use Rattle.tfs_published.specs.Beginning.{BeginsWith};
 
@@ -14,7 +15,7 @@ use crate::shared::Shared;
 use std::alloc::Global;
 use std::sync::Arc;
 use tfs_calls::{Impact, Query, Refusal};
-use tfs_index::Version;
+use tfs_index::{MAX_TEXTS, Version};
 use tfs_published::{Lookup, Naming};
 use tfs_records::Sink;
 use tfs_rules::Name;
@@ -22,7 +23,7 @@ use tfs_rules::Name;
 impl<J: Naming> Session<J> {
     /// What a query chooses in the state of a name, by a published copy that begins with all that the session has seen. The
     /// answer, also a refusal, is over the journal that the session has seen afterwards. `NoCopy` where no such copy is handed
-    /// out, and then nothing changes; `OutOfMemory` also where the copy has lost the version of the name.
+    /// out, and then nothing changes; `OutOfMemory` also where the copy has lost the version of the name, and the query 1 to 64 texts.
     pub fn impact<K: Sink>(
         &mut self,
         shared: &Shared<J, K>,
@@ -38,7 +39,7 @@ impl<J: Naming> Session<J> {
         match self.look(name) {
             None => Err(Refusal::NoCopy),
             Some(Lookup::NoState) => Err(Refusal::NoState),
-            Some(Lookup::Lost) => Err(Refusal::OutOfMemory),
+            Some(Lookup::Lost) => Err(refusal_of_lost(query)),
             Some(Lookup::Kept(version)) => ask(shared.alloc(), version, query, self.seen()),
         }
     }
@@ -59,4 +60,18 @@ fn ask(
         chosen,
         position,
     })
+}
+
+/// The answer to a query where the version of a state is lost. The number of its texts is refused over each.
+fn refusal_of_lost(query: &Query) -> Refusal
+    ensures { (d : Document) (position : ℕ) → AnswersQuery d query.now position (refused (refusal_value result)) }
+{
+    let texts = query.texts.as_slice();
+    if texts.is_empty() {
+        return Refusal::NoAddress;
+    }
+    if texts.len() > MAX_TEXTS {
+        return Refusal::TooManyAddresses;
+    }
+    Refusal::OutOfMemory
 }

@@ -4,7 +4,7 @@ ghost use Rattle.std.specs.Prelude.{◌≡◌, ◌+◌, ◌<◌, ◌∷◌, ◌+
 ghost use Rattle.tfs_records.specs.Journal.{position_of};
 ghost use Rattle.tfs_calls.specs.Transition.{AnswersAct};
 ghost use Rattle.tfs_table.specs.Table.{model_of, change_reply};
-ghost use Rattle.tfs_shared.specs.LockedState.{ArePublished};
+ghost use Rattle.tfs_shared.specs.LockedState.{ArePublished, HasCause};
 
 use std::sync::Wait;
 use tfs_calls::Refusal;
@@ -14,6 +14,7 @@ use tfs_table::{Prepared, Table};
 
 /// Makes a change of the session of a number and publishes it, or says why not. Whatever takes memory comes before the sink, so that what is written is
 /// published too; what is staged when the sink fails is never published, since the table is stopped then.
+#[tactic(auto, using(crate::proofs::Refusing::unstaged_caused, crate::proofs::Refusing::fault_caused, crate::proofs::Refusing::made_caused))]
 pub(crate) fn change<J: Naming, K: Sink, R: Wait>(
     rt: &R,
     table: &mut Table<K>,
@@ -23,6 +24,7 @@ pub(crate) fn change<J: Naming, K: Sink, R: Wait>(
 ) -> Result<u64, Refusal>
     requires published { ArePublished table.old publisher.old }
     ensures answered { AnswersAct (model_of table.old) prepared.name prepared.act (change_reply result) (model_of table.new) }
+    ensures caused { HasCause table.old table.new prepared (change_reply result) }
     ensures published { ArePublished table.new publisher.new }
     ensures more { OnOk result (length table.new.journal.entries ≡ length table.old.journal.entries + 1) }
     ensures numbered { IfOk result (λ number. (number ≡ position_of table.new.journal) × (position_of table.old.journal < number)) }
@@ -31,8 +33,13 @@ pub(crate) fn change<J: Naming, K: Sink, R: Wait>(
 {
     // The journal is lawful before the change.
     table.is_kept();
-    let ready = table.ready(prepared)?;
-    publisher.stage(&ready, maker)?;
+    let ready = match table.ready(prepared) {
+        Ok(ready) => ready,
+        Err(refusal) => return Err(refusal),
+    };
+    if publisher.stage(&ready, maker).is_err() {
+        return Err(Refusal::OutOfMemory);
+    }
     let number = ready.number();
     let position = table.finish(ready)?;
     publisher.publish(rt, number);

@@ -3,7 +3,7 @@
 ghost use Rattle.std.specs.Prelude.{◌≡◌, ◌≢◌, ◌⊎◌, ◌+◌, ◌≤◌, ◌<◌, ℕ, List, [], true, false, All, Any, None, length, sum_by, IfOk, OnOk, OnErr, MatchResult};
 ghost use Rattle.tfs_rules.specs.Act.{ActValue};
 ghost use Rattle.std.specs.Arc.{arc_value};
-ghost use Rattle.tfs_calls.specs.Refusal.{refusal_value, no_copy, out_of_memory};
+ghost use Rattle.tfs_calls.specs.Refusal.{refusal_value, no_copy, out_of_memory, journal_stopped};
 ghost use Rattle.tfs_calls.specs.Transition.{AnswersAct, answer_of, open_model};
 ghost use Rattle.tfs_rules.specs.History.{state_of};
 ghost use Rattle.tfs_records.specs.Journal.{acts_of, position_of};
@@ -11,7 +11,7 @@ ghost use Rattle.tfs_calls.specs.declared.call.Call.TheVariants.{Read};
 ghost use Rattle.tfs_calls.specs.Reply.{state, refused};
 ghost use Rattle.tfs_table.specs.Table.{IsTable, model_of, change_reply};
 ghost use Rattle.tfs_published.specs.Publisher.{Shows};
-ghost use Rattle.tfs_shared.specs.LockedState.{IsLockedState};
+ghost use Rattle.tfs_shared.specs.LockedState.{IsLockedState, HasCause};
 ghost use mathlib.Core.List.{IsPrefix};
 ghost use Rattle.tfs_shared.specs.Signed.{AreSigned, IsSigned, makers_told};
 ghost use Rattle.tfs_shared.specs.Locked.{AnswersChange, AnswersRead, HasNoCopy, IsAhead};
@@ -91,7 +91,7 @@ impl<J: Naming, K: Sink> LockedState<J, K> {
         ensures over { ((change_reply result ≡ refused no_copy) × (position_of self.old.table.journal < position_of session.old.journal)
             × (session.new ≡ session.old))
             ⊎ (AnswersAct (model_of self.old.table) prepared.name prepared.act (change_reply result) (model_of self.new.table)
-            × (session.new.journal ≡ self.new.table.journal)) }
+            × HasCause self.old.table self.new.table prepared (change_reply result) × (session.new.journal ≡ self.new.table.journal)) }
         ensures numbered { IfOk result (λ number. (number ≡ position_of session.new.journal) × (position_of session.old.journal < number)) }
         ensures signed { IsSigned J.opening session.old session.new (makers_told session.old.number (change_reply result)) }
         ensures accepted { OnOk result (session.new.accepted ≡ session.old.accepted + 1) }
@@ -122,13 +122,15 @@ impl<J: Naming, K: Sink> LockedState<J, K> {
         self.publisher.take_replaced()
     }
 
-    /// The answer to a change of a session that couldn't be prepared for want of memory. The session sees what is published.
+    /// The answer to a change of a session that couldn't be prepared for want of memory: a stopped table is told as such. The session sees
+    /// what is published.
     #[tactic(auto, using(crate::proofs::Signing::signs_none, crate::proofs::Signing::signs_nothing))]
     pub(crate) fn lack_memory(&self, session: &mut Session<J>) -> Refusal
         ensures answered { (name : List ℕ) (act : ActValue) → HasNoCopy J.opening session.old session.new (refused (refusal_value result))
             ⊎ AnswersChange name act session.old session.new (refused (refusal_value result)) }
         ensures over { ((refusal_value result ≡ no_copy) × (position_of self.now.table.journal < position_of session.old.journal))
-            ⊎ (refusal_value result ≡ out_of_memory) }
+            ⊎ (((refusal_value result ≡ journal_stopped) × (self.now.table.stopped ≡ true))
+            ⊎ ((refusal_value result ≡ out_of_memory) × (self.now.table.stopped ≡ false))) }
         ensures signed { IsSigned J.opening session.old session.new [] }
         ensures accepted { session.new.accepted ≡ session.old.accepted }
     {
@@ -140,6 +142,9 @@ impl<J: Naming, K: Sink> LockedState<J, K> {
         }
         session.see(&self.publisher);
         session.is_kept();
+        if self.table.stopped() {
+            return Refusal::JournalStopped;
+        }
         Refusal::OutOfMemory
     }
 
