@@ -5,6 +5,7 @@
 mod answer;
 mod impact_body;
 mod laws;
+mod name;
 mod pieces;
 mod query;
 mod reply;

@@ -1,14 +1,15 @@
 //! From a request to a call.
 
-ghost use Rattle.std.specs.Prelude.{◌≡◌, ◌≢◌, ℕ, List, codes, Contains, IfOk, IfErr, IfSome, IfNone};
+ghost use Rattle.std.specs.Prelude.{◌≡◌, ◌≢◌, ◌⊎◌, ℕ, List, codes, Contains, IfOk, IfErr, IfSome, IfNone, OnOk, true, false};
 ghost use Rattle.tfs_calls.specs.declared.refusal.Methods.TheVariants.{State};
 ghost use Rattle.tfs_rules.specs.Name.{IsName};
-ghost use Rattle.tfs_calls.specs.declared.refusal.Refusal.TheVariants.{OutOfMemory, BadName};
+ghost use Rattle.tfs_calls.specs.declared.refusal.Refusal.TheVariants.{OutOfMemory, BadName, BadDigest};
 ghost use Rattle.tfs_http.specs.Query.{identifier_parameter, texts_parameter};
-ghost use Rattle.tfs_http.specs.Routing.{path_of, Route, IsPathOf, HasRoute, IsTaken, IsOneOf, HasCall, methods_of, routing_refusal, routes as all_routes};
+ghost use Rattle.tfs_http.specs.Routing.{path_of, Route, IsPathOf, HasRoute, IsTaken, IsSound, IsOneOf, HasCall, methods_of, routing_refusal, routes as all_routes};
 ghost use Rattle.tfs_http.specs.Routing.{impact_path, route_of};
 ghost use Rattle.tfs_http.specs.Rows.{route_rows};
 
+use crate::name::is_name;
 use crate::query::{identifier_parameter, texts_parameter};
 use matchit::{InsertError, Router};
 use std::alloc::{AllocError, Global};
@@ -82,13 +83,13 @@ fn build(alloc: Global) -> Result<Router<Served>, InsertError>
     Ok(router)
 }
 
-/// The call of a request, or its first refusal in the order of their numbers. Memory is asked for only where the target has a
-/// route that takes the method; where it is refused, so is the request, with `OutOfMemory`.
+/// The call of a request, or its first refusal in the order of their numbers. Memory is asked for only where there is none of these; where
+/// it is refused, so is the request, with `OutOfMemory`.
 pub fn call_of(alloc: Global, routes: &Routes, request: Request) -> Result<Call, Refusal>
     ensures ok { IfOk result (HasCall request) }
     ensures err { IfErr result (λ refusal. refusal ≢ OutOfMemory → routing_refusal request refusal) }
     ensures memory { IfErr result (λ refusal. refusal ≡ OutOfMemory
-        → (route : Route) × (part : List ℕ) × IsTaken request route part) }
+        → (route : Route) × (part : List ℕ) × IsSound request route part) }
 {
     let Some((served, target, part)) = route_target(routes, request.target()) else {
         return Err(Refusal::NoRoute);
@@ -99,10 +100,8 @@ pub fn call_of(alloc: Global, routes: &Routes, request: Request) -> Result<Call,
     let Some(method) = method_of(request.method()) else {
         return Err(Refusal::MethodNotAllowed(Methods::State));
     };
+    check_name_and_body(&request, part)?;
     let name = read_name(alloc, part)?;
-    if !request.is_intact() {
-        return Err(Refusal::BadDigest);
-    }
     match method {
         Method::Get => Ok(Call::Read(name)),
         Method::Post => {
@@ -133,15 +132,13 @@ fn call_of_impact(
     requires route { HasRoute request.now.target (impact_path kind) part.now }
     ensures ok { IfOk result (HasCall request.now) }
     ensures err { IfErr result (λ refusal. refusal ≢ OutOfMemory → routing_refusal request.now refusal) }
-    ensures memory { IfErr result (λ refusal. refusal ≡ OutOfMemory → IsTaken request.now (impact_path kind) part.now) }
+    ensures memory { IfErr result (λ refusal. refusal ≡ OutOfMemory → IsSound request.now (impact_path kind) part.now) }
 {
     if request.method() != b"GET".as_slice() {
         return Err(Refusal::MethodNotAllowed(Methods::Impact));
     }
+    check_name_and_body(request, part)?;
     let name = read_name(alloc, part)?;
-    if !request.is_intact() {
-        return Err(Refusal::BadDigest);
-    }
     let texts = read_texts(alloc, target)?;
     Ok(Call::Impact(name, Query { kind, texts }))
 }
@@ -198,17 +195,33 @@ fn method_of(text: &[u8]) -> Option<Method>
     }
 }
 
-/// A copy of the part, if it is a name.
+/// Refuses a part that is no name, and else a body that hasn't the digest that is told. Memory isn't asked for.
+fn check_name_and_body(request: &Request, part: &str) -> Result<(), Refusal>
+    ensures ok { OnOk result (IsName part.now × (request.now.intact ≡ true)) }
+    ensures err { IfErr result (λ refusal. ((refusal ≡ BadName) × ¬ (IsName part.now))
+        ⊎ ((refusal ≡ BadDigest) × IsName part.now × (request.now.intact ≡ false))) }
+{
+    if !is_name(part) {
+        return Err(Refusal::BadName);
+    }
+    if !request.is_intact() {
+        return Err(Refusal::BadDigest);
+    }
+    Ok(())
+}
+
+/// A copy of a part that is a name.
 fn read_name(alloc: Global, part: &str) -> Result<Name, Refusal>
-    ensures ok { IfOk result (λ name. (name ≡ part.now) × IsName part.now) }
-    ensures err { IfErr result (λ refusal. refusal ≢ OutOfMemory → (refusal ≡ BadName) × ¬ (IsName part.now)) }
+    requires { IsName part.now }
+    ensures ok { IfOk result (λ name. name ≡ part.now) }
+    ensures err { IfErr result (λ refusal. refusal ≡ OutOfMemory) }
 {
     let Ok(text) = String::from_str(alloc, part) else {
         return Err(Refusal::OutOfMemory);
     };
     match Name::read(text) {
         Some(name) => Ok(name),
-        None => Err(Refusal::BadName),
+        None => unreachable!(),
     }
 }
 
