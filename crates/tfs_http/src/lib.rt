@@ -5,7 +5,6 @@
 mod answer;
 mod impact_body;
 mod laws;
-mod name;
 mod pieces;
 mod query;
 mod reply;

@@ -9,7 +9,6 @@ ghost use Rattle.tfs_http.specs.Routing.{path_of, Route, IsPathOf, HasRoute, IsT
 ghost use Rattle.tfs_http.specs.Routing.{impact_path, route_of};
 ghost use Rattle.tfs_http.specs.Rows.{route_rows};
 
-use crate::name::is_name;
 use crate::query::{identifier_parameter, texts_parameter};
 use matchit::{InsertError, Router};
 use std::alloc::{AllocError, Global};
@@ -17,7 +16,7 @@ use std::marker::Model;
 use std::str;
 use tfs_calls::{Call, Kind, Methods, Query, Raw, Refusal, Text, Texts};
 use tfs_framing::Request;
-use tfs_rules::Name;
+use tfs_rules::{Name, is_name};
 
 /// What a route serves.
 #[derive(Clone, Copy)]
