@@ -1,0 +1,5 @@
+use Rattle.tfs_digests.proofs.LaneLemmas.{h_lanes}
+use Rattle.tfs_digests.proofs.lanes.h_fn.Goals as goal
+
+pub returns : goal.returns
+returns c = h_lanes c.args.x c.args.y c.args.z c.fits-x.0 c.fits-y.0 c.fits-z.0
