@@ -5,6 +5,8 @@
 #[cfg(test)]
 mod ample;
 #[cfg(test)]
+mod digests;
+#[cfg(test)]
 mod files;
 #[cfg(test)]
 mod folders;

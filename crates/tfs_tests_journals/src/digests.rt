@@ -1,0 +1,66 @@
+//! The MD5 of four texts at once, against RFC 1321's test suite and against the MD5 of each alone.
+
+use crate::helpers::is_vector;
+use md5::{Digest, Md5};
+use std::alloc::Global;
+use std::process::Abort;
+use std::test::Fail;
+use tfs_digests::digests;
+
+/// The test suite (section A.5): texts, and their MD5.
+const SUITE: &str = " = d41d8cd98f00b204e9800998ecf8427e
+a = 0cc175b9c0f1b6a831c399e269772661
+abc = 900150983cd24fb0d6963f7d28e17f72
+message digest = f96b697d7cb7938d525a2f31aaf161d0
+abcdefghijklmnopqrstuvwxyz = c3fcd3d76192e4007dfb496cca67e13b
+ABCDEFGHIJKLMNOPQRSTUVWXYZabcdefghijklmnopqrstuvwxyz0123456789 = d174ab98d277d9f5a5611c2c9f419d9f
+12345678901234567890123456789012345678901234567890123456789012345678901234567890 = 57edf4a22be3c955ac49da2e2107b67a";
+
+/// Checks a line, with the text in each of the four places.
+fn has_digest(rt: &(impl Alloc<A = Global> + Abort), line: &str) -> Result<(), Fail> {
+    let (text, vector) = line.split_once(" = ").expect(rt, "a text and a vector");
+    let text = text.as_bytes();
+    let [first, _, third, _] = digests([text, b"", text, b"abc"]);
+    let [_, second, _, fourth] = digests([b"", text, b"abc", text]);
+    assert!(rt; is_vector(rt, first.as_slice(), vector)?, "{line}");
+    assert!(rt; is_vector(rt, second.as_slice(), vector)?, "{line}");
+    assert!(rt; is_vector(rt, third.as_slice(), vector)?, "{line}");
+    assert!(rt; is_vector(rt, fourth.as_slice(), vector)?, "{line}");
+    Ok(())
+}
+
+#[test]
+fn texts_of_the_suite_have_their_digests(rt: HostRuntime) -> Result<(), Fail> {
+    for line in SUITE.lines() {
+        has_digest(&rt, line)?;
+    }
+    Ok(())
+}
+
+/// Whether four texts have the digests that each has alone.
+fn are_as_alone(a: &[u8], b: &[u8], c: &[u8], d: &[u8]) -> bool {
+    let [first, second, third, fourth] = digests([a, b, c, d]);
+    first == Md5::digest(a)
+        && second == Md5::digest(b)
+        && third == Md5::digest(c)
+        && fourth == Md5::digest(d)
+}
+
+#[test]
+fn texts_of_each_length_have_their_digests(rt: HostRuntime) {
+    let mut bytes = [0u8; 1000];
+    for i in 0..1000 {
+        bytes[i] = (i % 251) as u8;
+    }
+    for len in 0..=130 {
+        assert!(rt;
+            are_as_alone(
+                &bytes[..len],
+                &bytes[len..2 * len],
+                &bytes[len..],
+                &bytes[..130 - len]
+            ),
+            "{len}"
+        );
+    }
+}
