@@ -1,13 +1,16 @@
 -- Laws of the desk over a table.
-use Rattle.std.proofs.Common.{◌≡◌, ℕ, List, Option, Some, None, refl, inl, inr, ap}
+use Rattle.std.proofs.Common.{◌≡◌, ◌≢◌, ℕ, List, Bool, true, false, Option, Some, None, refl, inl, inr, ap}
 use Rattle.tfs_rules.specs.Act.{ActValue}
 use Rattle.tfs_records.specs.Journal.{with_entry}
 use Rattle.tfs_calls.specs.declared.call.Call.{Call}
-use Rattle.tfs_calls.specs.Refusal.{RefusalValue, journal_fault}
+use Rattle.tfs_calls.specs.declared.call.Call.TheVariants.{Change}
+use Rattle.tfs_calls.specs.declared.call.Raw.{Raw}
+use Rattle.tfs_calls.specs.Draft.{act_of, TakesNoMemory}
+use Rattle.tfs_calls.specs.Refusal.{RefusalValue, journal_fault, journal_stopped, out_of_memory}
 use Rattle.tfs_calls.specs.Reply.{ReplyValue, done, state, impact, refused}
 use Rattle.tfs_calls.specs.Transition.{TableModel, AnswersAct, act_refusal}
 use Rattle.tfs_table.specs.Table.{TableValue}
-use Rattle.tfs_conversation.specs.Desk.{AnswersCall, Leaves}
+use Rattle.tfs_conversation.specs.Desk.{AnswersCall, CallMayLackMemory, Leaves}
 
 -- Where an act is answered by a position, the journal has its entry, and nothing else has changed.
 pub entered_by : (m n : TableModel) (name : List ℕ) (act : ActValue) (position : ℕ) → AnswersAct m name act (done position) n
@@ -31,3 +34,21 @@ still_tells old new call (refused refusal) a = by refusal a.leaves
     by : (r : RefusalValue) → Leaves (refused r) old new → new.tells ≡ old.tells
     by journal_fault l = (l.1 refl).tells
     by r l = (l.0 (λ e. cc)).tells
+
+-- A refusal for want of memory is told as such, and has its cause.
+pub lacks_by : (A : Type 0) (refusal : RefusalValue) → (refusal ≡ out_of_memory → A) → refused refusal ≡ refused out_of_memory → A
+lacks_by A refusal may lacks = may (cc lacks)
+
+-- A change that can't be read without memory isn't one that is read so.
+pub unread_lacks : (m : TableModel) (name : List ℕ) (raw : Raw) (refusal : RefusalValue) → (TakesNoMemory raw → refusal ≢ out_of_memory)
+    → refused refusal ≡ refused out_of_memory → CallMayLackMemory m (Change name raw)
+unread_lacks m name raw refusal never lacks takes = absurd (never takes (cc lacks))
+
+-- A change whose act lacks memory is one of a table that isn't stopped.
+pub applied_lacks : (m : TableModel) (name : List ℕ) (raw : Raw) (act : ActValue) (refusal : RefusalValue) → act_of raw ≡ Some act
+    → (m.stopped ≡ true → refusal ≡ journal_stopped) → refused refusal ≡ refused out_of_memory → CallMayLackMemory m (Change name raw)
+applied_lacks m name raw act refusal is stops lacks takes = (λ none. cc (is, none), by m.stopped stops)
+  where
+    by : (b : Bool) → (b ≡ true → refusal ≡ journal_stopped) → b ≡ false
+    by false stopped = refl
+    by true stopped = absurd (cc (stopped refl, lacks))

@@ -68,13 +68,15 @@ refusal_leaves r t other = (λ more. same_table t, λ is. absurd (other (ap refu
 abbrev HasAnswer : TableValue → Call → Type 0
 HasAnswer old call = (new : TableValue) × AnswersCall old call (answer_of (model_of old) call) new
 
-module _ (told : (m : TableModel) (call : Call) → answer_of m call ≢ refused journal_fault) where
+module _ (told : (m : TableModel) (call : Call) → answer_of m call ≢ refused journal_fault)
+    (had : (m : TableModel) (call : Call) → answer_of m call ≢ refused out_of_memory) where
   -- A read has an answer.
   read_answered : (old : TableValue) (name : List ℕ) → HasAnswer old (Read name)
   read_answered old name = (
     old,
     record {
       answered = inl (inl (refl, refl));
+      memory = λ lacks. absurd (had (model_of old) (Read name) lacks);
       leaves = by (state_of (acts_of name old.journal)) (told (model_of old) (Read name));
     },
   )
@@ -90,6 +92,7 @@ module _ (told : (m : TableModel) (call : Call) → answer_of m call ≢ refused
     old,
     record {
       answered = inl (inl (refl, refl));
+      memory = λ lacks. absurd (had (model_of old) (Impact name query) lacks);
       leaves = by (state_of (acts_of name old.journal)) (told (model_of old) (Impact name query));
     },
   )
@@ -118,6 +121,7 @@ module _ (told : (m : TableModel) (call : Call) → answer_of m call ≢ refused
         entered old (record { name = name; act = act }),
         record {
           answered = inl (inl (refl, rw (is, free) refl));
+          memory = λ lacks. absurd (had (model_of old) (Change name raw) lacks);
           leaves = rw (is, free) (record {
             entry = record { name = name; act = act };
             journal = refl;
@@ -131,6 +135,7 @@ module _ (told : (m : TableModel) (call : Call) → answer_of m call ≢ refused
         old,
         record {
           answered = inl (inl (refl, rw (is, free) refl));
+          memory = λ lacks. absurd (had (model_of old) (Change name raw) lacks);
           leaves = rw (is, free) (refusal_leaves r old (rw (is, free) at other));
         },
       )
@@ -141,6 +146,7 @@ module _ (told : (m : TableModel) (call : Call) → answer_of m call ≢ refused
         old,
         record {
           answered = inl (inl (refl, rw is refl));
+          memory = λ lacks. absurd (had (model_of old) (Change name raw) lacks);
           leaves = rw is (refusal_leaves (draft_refusal raw) old (rw is at other));
         },
       )
@@ -161,8 +167,7 @@ module _ (told : (m : TableModel) (call : Call) → answer_of m call ≢ refused
   routing_told r JournalFault is = absurd is
   routing_told r refusal is = (λ e. cc, λ e. cc)
 
-  module _ (had : (m : TableModel) (call : Call) → answer_of m call ≢ refused out_of_memory)
-      (routed : (r : RequestValue) → (x : Result Call Refusal) × RoutesTo r x) where
+  module _ (routed : (r : RequestValue) → (x : Result Call Refusal) × RoutesTo r x) where
     -- A request is answered, by neither.
     abbrev IsAnswered : TableValue → RequestValue → Type 0
     IsAnswered old r = (reply : ReplyValue) × (new : TableValue) × AnswersRequest AnswersCall old r reply new

@@ -9,7 +9,7 @@ use Rattle.tfs_framing.specs.declared.form.Form.{Form}
 use Rattle.tfs_framing.specs.Request.{RequestValue}
 use Rattle.tfs_framing.specs.Form.{form_of}
 use Rattle.tfs_framing.specs.Framing.{BeginsWith, IsUnfinished}
-use Rattle.tfs_http.specs.Routing.{Route, IsTaken, HasCall, routing_refusal}
+use Rattle.tfs_http.specs.Routing.{Route, IsSound, HasCall, routing_refusal}
 use Rattle.tfs_http.specs.ReplyText.{reply_text}
 use Rattle.tfs_conversation.specs.Messages.{Messages, HasMessages, Stop, one_asks}
 use Rattle.tfs_conversation.specs.declared.ended.Ended.{Ended}
@@ -17,9 +17,10 @@ use Rattle.tfs_conversation.specs.declared.ended.Ended.TheVariants.{Clean, Cut, 
 use Rattle.tfs_conversation.specs.declared.fault.ServeFault.{ServeFault}
 use Rattle.tfs_conversation.specs.declared.fault.ServeFault.TheVariants.{Read, Write, TooManyReads, NoMemory}
 
--- The target has a route that takes the method: only then routing asks for memory.
+-- The target has a route that takes the method, its part is a name, and the body has the digest that is told: only then routing asks for
+-- memory.
 abbrev pub IsRouted : RequestValue → Type 0
-IsRouted r = (route : Route) × (part : List ℕ) × IsTaken r route part
+IsRouted r = (route : Route) × (part : List ℕ) × IsSound r route part
 
 -- The reply to a request, over the steps of a desk: its refusal by routing, or want of memory in routing, and the desk stays;
 -- else the desk's own answer to its call.

@@ -1,12 +1,15 @@
 -- The step of a desk over a table.
-use Rattle.std.specs.Prelude.{◌≡◌, ◌≢◌}
+use Rattle.std.specs.Prelude.{◌≡◌, ◌≢◌, ◌<◌, ◌≤◌, length, false, None}
 use Rattle.std.specs.Io.KnownBytes.{Appends}
-use Rattle.tfs_records.specs.Journal.{EntryValue, with_entry}
+use Rattle.tfs_rules.specs.History.{state_of}
+use Rattle.tfs_records.specs.Journal.{EntryValue, acts_of, with_entry}
 use Rattle.tfs_records.specs.Format.{record_text}
 use Rattle.tfs_calls.specs.declared.call.Call.{Call}
-use Rattle.tfs_calls.specs.Refusal.{journal_fault}
+use Rattle.tfs_calls.specs.declared.call.Call.TheVariants.{Read, Change, Impact}
+use Rattle.tfs_calls.specs.Draft.{act_of, TakesNoMemory}
+use Rattle.tfs_calls.specs.Refusal.{journal_fault, out_of_memory}
 use Rattle.tfs_calls.specs.Reply.{ReplyValue, done, state, impact, refused}
-use Rattle.tfs_calls.specs.Transition.{Answers}
+use Rattle.tfs_calls.specs.Transition.{TableModel, Answers}
 use Rattle.tfs_table.specs.Table.{TableValue, model_of, IsSameTable, IsFault}
 
 -- An entry was accepted: the journal has it at its end, and the sink was told its record.
@@ -25,7 +28,16 @@ Leaves (state d) old new = IsSameTable old new
 Leaves (impact d chosen position) old new = IsSameTable old new
 Leaves (refused refusal) old new = (refusal ≢ journal_fault → IsSameTable old new) × (refusal ≡ journal_fault → IsFault old new)
 
--- One step of a desk over a table is the table's transition, and leaves the table as the reply tells.
+-- Over a table a call may lack memory: a read and a query where the name has a state, the query with 1 to 64 texts; a change that is read
+-- without memory only where its texts give an act, and the table isn't stopped.
+abbrev pub CallMayLackMemory : TableModel → Call → Type 0
+CallMayLackMemory m (Read name) = state_of (acts_of name m.journal) ≢ None
+CallMayLackMemory m (Impact name query) = (state_of (acts_of name m.journal) ≢ None) × (0 < length query.texts) × (length query.texts ≤ 64)
+CallMayLackMemory m (Change name raw) = TakesNoMemory raw → (act_of raw ≢ None) × (m.stopped ≡ false)
+
+-- One step of a desk over a table is the table's transition, and leaves the table as the reply tells. Want of memory is told only where the
+-- call may lack it.
 pub record AnswersCall (old : TableValue) (call : Call) (reply : ReplyValue) (new : TableValue) : Type 0 where
   pub answered : Answers (model_of old) call reply (model_of new)
+  pub memory : reply ≡ refused out_of_memory → CallMayLackMemory (model_of old) call
   pub leaves : Leaves reply old new

@@ -81,6 +81,7 @@ fn reply_to<K: Sink>(
 }
 
 /// The state of a name.
+#[tactic(auto, using(crate::proofs::DeskLemmas::lacks_by))]
 fn read<K: Sink>(table: &Table<K>, name: &Name) -> Reply
     ensures { AnswersCall table.now (CallRead name.now) (reply_value result) table.now }
 {
@@ -91,6 +92,7 @@ fn read<K: Sink>(table: &Table<K>, name: &Name) -> Reply
 }
 
 /// What a query chooses in the state of a name.
+#[tactic(auto, using(crate::proofs::DeskLemmas::lacks_by))]
 fn ask<K: Sink>(table: &Table<K>, name: &Name, query: &Query) -> Reply
     ensures { AnswersCall table.now (Impact name.now query.now) (reply_value result) table.now }
 {
@@ -101,6 +103,7 @@ fn ask<K: Sink>(table: &Table<K>, name: &Name, query: &Query) -> Reply
 }
 
 /// Changes the workspace of a name. A state is read over the room of a scratch.
+#[tactic(auto, using(crate::proofs::DeskLemmas::unread_lacks, crate::proofs::DeskLemmas::applied_lacks))]
 fn change<K: Sink>(
     alloc: Global,
     table: &mut Table<K>,

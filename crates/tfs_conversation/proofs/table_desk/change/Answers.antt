@@ -10,6 +10,7 @@ returns-in-Ok-apply g c =
     c.in-Ok-apply.ensures.answered in
     record {
       answered = search rules;
+      memory = λ lacks. absurd (cc lacks);
       leaves = record {
         entry = record { name = c.args.name; act = c.in-Ok.draft };
         journal = entered.0;
