@@ -1,20 +1,20 @@
 -- The answers of a session are steps of the desk over it.
-use Rattle.std.proofs.Common.{◌≡◌, ◌≢◌, ◌+◌, ◌<◌, ◌⊎◌, ℕ, arith, List, [], ◌∷◌, Option, Some, None, IsSome, refl, sym, ◌∙◌, ap, subst, inl, inr}
+use Rattle.std.proofs.Common.{◌≡◌, ◌≢◌, ◌+◌, ◌<◌, ◌≤◌, ◌⊎◌, ℕ, length, arith, List, [], ◌∷◌, Option, Some, None, IsSome, refl, sym, ◌∙◌, ap, subst, inl, inr}
 use Rattle.std.specs.Option.{option_map_or}
 use Rattle.tfs_rules.specs.Act.{ActValue}
 use Rattle.tfs_calls.specs.declared.call.Call.{Call}
 use Rattle.tfs_calls.specs.declared.call.Call.TheVariants.{Read, Change, Impact}
 use Rattle.tfs_calls.specs.declared.call.Raw.{Raw}
 use Rattle.tfs_calls.specs.declared.query.Query.{Query}
-use Rattle.tfs_calls.specs.Draft.{act_of, draft_refusal}
+use Rattle.tfs_calls.specs.Draft.{act_of, draft_refusal, TakesNoMemory}
 use Rattle.tfs_calls.specs.Refusal.{RefusalValue, no_copy, no_state, out_of_memory}
 use Rattle.tfs_calls.specs.Reply.{ReplyValue, done, state, refused}
 use Rattle.tfs_state.specs.Document.{Document}
 use Rattle.tfs_rules.specs.History.{state_of}
 use Rattle.tfs_records.specs.Journal.{Journal, acts_of, position_of}
 use Rattle.tfs_table.specs.Lawful.{IsLawful}
-use Rattle.tfs_calls.specs.Transition.{TableModel, Answers, AnswersAct, act_answer, journal_after_act, query_answer, answer_of, open_model}
-use Rattle.tfs_shared.specs.Impact.{AnswersImpact}
+use Rattle.tfs_calls.specs.Transition.{TableModel, Answers, AnswersAct, act_answer, journal_after_act, answer_of, open_model}
+use Rattle.tfs_shared.specs.Impact.{AnswersImpact, HasFewTexts}
 use Rattle.tfs_shared.specs.Locked.{AnswersChange, AnswersRead, HasNoCopy}
 use Rattle.tfs_shared.specs.Signed.{IsSigned, makers_told}
 use Rattle.tfs_published.specs.Beginning.{BeginsWith}
@@ -46,32 +46,33 @@ counts_one opening old new number signed at = record {
 
 -- The answer to a query.
 pub impact_step : (opening : Journal) (old new : SessionView) (name : List ℕ) (query : Query) (reply : ReplyValue)
+    → ((m : TableModel) (call : Call) → answer_of m call ≢ refused out_of_memory)
     → ((reply ≡ refused no_copy) × (new ≡ old)) ⊎ AnswersImpact new.journal name query reply → BeginsWith new.journal old.journal
     → new.accepted ≡ old.accepted → accepted_by reply ≡ 0 → Answered opening old (Impact name query) reply new
-impact_step opening old new name query reply (inl a) later same none = inl a
-impact_step opening old new name query reply (inr a) later same none = inr (record {
+impact_step opening old new name query reply had (inl a) later same none = inl a
+impact_step opening old new name query reply had (inr a) later same none = inr (record {
   before = open_model new.journal;
   after = open_model new.journal;
   lawful = a.0;
   fresh = later;
   answer = answered a.1;
-  memory = λ lacks. has_state (state_of (acts_of name new.journal)) a.1 lacks;
+  memory = λ lacks. has_state (had (open_model new.journal) (Impact name query)) (state_of (acts_of name new.journal)) a.1 lacks;
   seen = refl;
   accepted = omega (arith, same, none);
 })
   where
     answered : (reply ≡ answer_of (open_model new.journal) (Impact name query))
-        ⊎ ((reply ≡ refused out_of_memory) × IsSome (state_of (acts_of name new.journal)))
+        ⊎ ((reply ≡ refused out_of_memory) × IsSome (state_of (acts_of name new.journal)) × HasFewTexts query)
         → Answers (open_model new.journal) (Impact name query) reply (open_model new.journal)
     answered (inl is) = inl (inl (is, refl))
     answered (inr lacks) = inl (inr (lacks.0, refl))
 
-    has_state : (o : Option Document)
-        → (reply ≡ option_map_or (query_answer new.journal query) o (refused no_state)) ⊎ ((reply ≡ refused out_of_memory) × IsSome o)
-        → reply ≡ refused out_of_memory → o ≢ None
-    has_state None (inl is) lacks = absurd (cc (sym is ∙ lacks))
-    has_state None (inr is) lacks = absurd (cc (is.1))
-    has_state (Some d) is lacks = λ e. cc e
+    has_state : answer_of (open_model new.journal) (Impact name query) ≢ refused out_of_memory → (o : Option Document)
+        → (reply ≡ answer_of (open_model new.journal) (Impact name query)) ⊎ ((reply ≡ refused out_of_memory) × IsSome o × HasFewTexts query)
+        → reply ≡ refused out_of_memory → (o ≢ None) × (0 < length query.texts) × (length query.texts ≤ 64)
+    has_state had o (inl is) lacks = absurd (had (sym is ∙ lacks))
+    has_state had None (inr is) lacks = absurd (cc (is.1))
+    has_state had (Some d) (inr is) lacks = (λ e. cc e, is.2.0, is.2.1)
 
 -- The answer to a read.
 pub read_step : (opening : Journal) (old new : SessionView) (name : List ℕ) (reply : ReplyValue) → AnswersRead name old new reply
@@ -109,15 +110,15 @@ refused_read_step opening old new name refusal (inr a) same = read_step opening 
 
 -- The answer to a change that can't be read.
 pub draft_step : (opening : Journal) (v : SessionView) (name : List ℕ) (raw : Raw) (refusal : RefusalValue) → IsLawful v.journal
-    → (refusal ≡ out_of_memory) ⊎ ((refusal ≡ draft_refusal raw) × (act_of raw ≡ None))
+    → (refusal ≡ out_of_memory) ⊎ ((refusal ≡ draft_refusal raw) × (act_of raw ≡ None)) → (TakesNoMemory raw → refusal ≢ out_of_memory)
     → Answered opening v (Change name raw) (refused refusal) v
-draft_step opening v name raw refusal lawful is = inr (record {
+draft_step opening v name raw refusal lawful is never = inr (record {
   before = open_model v.journal;
   after = open_model v.journal;
   lawful = lawful;
   fresh = begins_with_itself v.journal;
   answer = answered is;
-  memory = λ lacks. tt;
+  memory = λ lacks takes. absurd (never takes (cc lacks));
   seen = refl;
   accepted = omega arith;
 })
@@ -138,16 +139,16 @@ draft_step opening v name raw refusal lawful is = inr (record {
 -- The answer to a change.
 pub change_step : (opening : Journal) (old new : SessionView) (name : List ℕ) (raw : Raw) (act : ActValue) (reply : ReplyValue)
     → ((before after : TableModel) → AnswersAct before name act reply after → Answers before (Change name raw) reply after)
-    → HasNoCopy opening old new reply ⊎ AnswersChange name act old new reply → new.accepted ≡ old.accepted + accepted_by reply
-    → Answered opening old (Change name raw) reply new
-change_step opening old new name raw act reply law (inl a) counted = inl a
-change_step opening old new name raw act reply law (inr a) counted = inr (record {
+    → act_of raw ≡ Some act → HasNoCopy opening old new reply ⊎ AnswersChange name act old new reply
+    → new.accepted ≡ old.accepted + accepted_by reply → Answered opening old (Change name raw) reply new
+change_step opening old new name raw act reply law read (inl a) counted = inl a
+change_step opening old new name raw act reply law read (inr a) counted = inr (record {
   before = a.before;
   after = a.after;
   lawful = a.lawful;
   fresh = a.fresh;
   answer = law a.before a.after a.answer;
-  memory = λ lacks. tt;
+  memory = λ lacks takes. (λ none. cc (read, none), refl);
   seen = a.seen;
   accepted = counted;
 })

@@ -1,12 +1,12 @@
 -- The step of a desk over a session.
-use Rattle.std.specs.Prelude.{◌≡◌, ◌≢◌, ◌≤◌, ◌<◌, ◌+◌, ◌⊎◌, ℕ, None}
-use Rattle.tfs_rules.specs.History.{state_of}
-use Rattle.tfs_records.specs.Journal.{Journal, acts_of, position_of}
+use Rattle.std.specs.Prelude.{◌≡◌, ◌≤◌, ◌<◌, ◌+◌, ◌⊎◌, ℕ}
+use Rattle.tfs_records.specs.Journal.{Journal, position_of}
 use Rattle.tfs_calls.specs.declared.call.Call.{Call}
 use Rattle.tfs_calls.specs.declared.call.Call.TheVariants.{Read, Change, Impact}
 use Rattle.tfs_calls.specs.Refusal.{no_copy, out_of_memory}
 use Rattle.tfs_calls.specs.Reply.{ReplyValue, done, state, impact, refused}
-use Rattle.tfs_calls.specs.Transition.{TableModel, Answers}
+use Rattle.tfs_calls.specs.Transition.{TableModel, Answers, open_model}
+use Rattle.tfs_conversation.specs.Desk.{CallMayLackMemory}
 use Rattle.tfs_table.specs.Lawful.{IsLawful}
 use Rattle.tfs_published.specs.Beginning.{BeginsWith}
 use Rattle.tfs_shared.specs.Locked.{HasNoCopy}
@@ -20,11 +20,9 @@ accepted_by (state d) = 0
 accepted_by (impact d chosen position) = 0
 accepted_by (refused refusal) = 0
 
--- Over which journals a call may be refused memory: a change over any, a read and a query where the name has a state.
+-- Over which journals a call may lack memory: where it may over a table that has such a journal and isn't stopped.
 abbrev pub MayLackMemory : Journal → Call → Type 0
-MayLackMemory j (Read name) = state_of (acts_of name j) ≢ None
-MayLackMemory j (Impact name query) = state_of (acts_of name j) ≢ None
-MayLackMemory j (Change name raw) = Unit {0}
+MayLackMemory j call = CallMayLackMemory (open_model j) call
 
 -- The reply is the transition of a table whose lawful journal begins with all that the session had seen; the journal that it leaves is
 -- what the session has then seen.

@@ -1,7 +1,7 @@
 //! The desk over a session, and conversations over it.
 
-ghost use Rattle.std.specs.Prelude.{◌≡◌, ◌⊎◌, Some, None, IfOk, IfErr};
-ghost use Rattle.tfs_calls.specs.Draft.{CarriesFittingState, HasFittingState, act_of, draft_refusal};
+ghost use Rattle.std.specs.Prelude.{◌≡◌, ◌≢◌, ◌⊎◌, Some, None, IfOk, IfErr};
+ghost use Rattle.tfs_calls.specs.Draft.{CarriesFittingState, HasFittingState, TakesNoMemory, act_of, draft_refusal};
 ghost use Rattle.tfs_calls.specs.Refusal.{refusal_value, out_of_memory};
 ghost use Rattle.tfs_calls.specs.Reply.{reply_value};
 ghost use Rattle.tfs_calls.specs.declared.call.Call.TheVariants.{Read as CallRead, Change, Impact};
@@ -11,7 +11,10 @@ use json::Scratch;
 use std::alloc::Global;
 use std::sync::atomic::AtomicBool;
 use std::sync::{Mutex, MutexGuard, Wait};
-use tfs_calls::{Call, Draft, Query, Raw, Refusal, Reply, a_change_is_answered_as_its_act_is};
+use tfs_calls::{
+    Call, Draft, Query, Raw, Refusal, Reply, a_change_is_answered_as_its_act_is,
+    answers_of_the_model_are_undisturbed,
+};
 use tfs_connections::Load;
 use tfs_conversation::Desk;
 use tfs_records::Sink;
@@ -118,6 +121,8 @@ fn ask<J: Naming, K: Sink>(
 ) -> Reply
     ensures { SessionStep J.opening session.old (Impact name.now query.now) (reply_value result) session.new }
 {
+    // No answer of the model tells of want of memory.
+    answers_of_the_model_are_undisturbed();
     match session.impact(shared, name, query) {
         Ok(answer) => Reply::Impact(answer),
         Err(refusal) => Reply::Refused(refusal),
@@ -158,6 +163,7 @@ fn read_in_turn<J: Naming, K: Sink, R: Wait>(
     ensures ok { IfOk result (λ draft. act_of raw ≡ Some draft) }
     ensures err { IfErr result (λ refusal. (refusal_value refusal ≡ out_of_memory)
         ⊎ ((refusal_value refusal ≡ draft_refusal raw) × (act_of raw ≡ None))) }
+    ensures memory { TakesNoMemory raw → IfErr result (λ refusal. refusal_value refusal ≢ out_of_memory) }
 {
     if !is_long(&raw) {
         return Draft::read_over(service.alloc, raw, scratch);

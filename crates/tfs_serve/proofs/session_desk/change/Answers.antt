@@ -9,7 +9,7 @@ use Rattle.tfs_serve.proofs.session_desk.change.Goals as goal
 pub returns-in-Err : goal.returns-in-Err
 returns-in-Err g c = (
   counts_none _ _ _ _ (signs_nothing _ _ _ refl c.is_kept.ensures.begins c.is_kept.ensures.counted) refl,
-  draft_step _ _ _ _ (refusal_value c.in-Err.refusal) c.is_kept.ensures.lawful c.in-Err.ensures.err,
+  draft_step _ _ _ _ (refusal_value c.in-Err.refusal) c.is_kept.ensures.lawful c.in-Err.ensures.err c.in-Err.ensures.memory,
 )
 
 pub returns-in-Ok-submit : goal.returns-in-Ok-submit
@@ -18,7 +18,7 @@ returns-in-Ok-submit g c =
       counts_one _ _ _ c.in-Ok-submit.position c.in-Ok-submit.ensures.signed c.in-Ok-submit.ensures.numbered,
       change_step _ _ _ c.args.name c.args.raw c.in-Ok.draft reply
           (λ before after. c.a_change_is_answered_as_its_act_is.ensures.call before after c.args.name c.args.raw c.in-Ok.draft reply c.in-Ok.ensures.ok)
-          c.in-Ok-submit.ensures.answered c.in-Ok-submit.ensures.accepted,
+          c.in-Ok.ensures.ok c.in-Ok-submit.ensures.answered c.in-Ok-submit.ensures.accepted,
     )
 
 pub returns-in-Err-submit : goal.returns-in-Err-submit
@@ -27,5 +27,5 @@ returns-in-Err-submit g c =
       counts_none _ _ _ reply c.in-Err-submit.ensures.signed refl,
       change_step _ _ _ c.args.name c.args.raw c.in-Ok.draft reply
           (λ before after. c.a_change_is_answered_as_its_act_is.ensures.call before after c.args.name c.args.raw c.in-Ok.draft reply c.in-Ok.ensures.ok)
-          c.in-Err-submit.ensures.answered (omega (arith, c.in-Err-submit.ensures.refused)),
+          c.in-Ok.ensures.ok c.in-Err-submit.ensures.answered (omega (arith, c.in-Err-submit.ensures.refused)),
     )
