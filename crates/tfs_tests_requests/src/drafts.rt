@@ -36,14 +36,29 @@ pub(crate) fn push_of(rt: &(impl Alloc<A = Global> + Abort), serial: u64) -> Dra
     push_of_text(rt, text.as_str())
 }
 
-/// Two instances that depend on each other, of serial 1.
-const CIRCLE: &str = r#"{"version":4,"serial":1,"lineage":"L1","resources":[
-{"mode":"managed","type":"t","name":"a","instances":[{"dependencies":["t.b"]}]},
-{"mode":"managed","type":"t","name":"b","instances":[{"dependencies":["t.a"]}]}]}"#;
+/// The resource `a` of the circle, which depends on the chain's `b`.
+const CLOSING: &str =
+    r#"{"mode":"managed","type":"t","name":"a","instances":[{"dependencies":["t.b"]}]}"#;
 
-/// The push of the circle.
+/// The push of two instances that depend on each other, with serial 1.
 pub(crate) fn circle(rt: &(impl Alloc<A = Global> + Abort)) -> Draft {
-    push_of_text(rt, CIRCLE)
+    let text = format!(in rt.alloc();
+        "{{\"version\":4,\"serial\":1,\"lineage\":\"L1\",\"resources\":[{CLOSING},{SECOND}]}}"
+    );
+    let text = text.ok().expect(rt, "a state");
+    push_of_text(rt, text.as_str())
+}
+
+/// A state without resources, with a serial.
+pub(crate) fn bare_of(rt: &(impl Alloc<A = Global> + Abort), serial: u64) -> String {
+    let text = format!(in rt.alloc(); "{{\"version\":4,\"serial\":{serial},\"lineage\":\"L1\"}}");
+    text.ok().expect(rt, "a state")
+}
+
+/// The push of that state.
+pub(crate) fn bare_push_of(rt: &(impl Alloc<A = Global> + Abort), serial: u64) -> Draft {
+    let text = bare_of(rt, serial);
+    push_of_text(rt, text.as_str())
 }
 
 /// The push of a state.
@@ -54,10 +69,10 @@ fn push_of_text(rt: &(impl Alloc<A = Global> + Abort), text: &str) -> Draft {
     draft.ok().expect(rt, "a draft")
 }
 
-/// An unlock by nobody, which takes what lock there is.
-pub(crate) fn unlock_of(rt: &(impl Alloc<A = Global> + Abort)) -> Draft {
-    let body = Bytes::new(Vec::new(rt.alloc()));
-    let draft = Draft::read(rt.alloc(), Raw::Unlock(body, None));
+/// A lock by `B`.
+pub(crate) fn lock_of(rt: &(impl Alloc<A = Global> + Abort)) -> Draft {
+    let bytes = br#"{"ID":"B"}"#.to_vec(rt.alloc()).ok().expect(rt, "bytes");
+    let draft = Draft::read(rt.alloc(), Raw::Lock(Bytes::new(bytes)));
     draft.ok().expect(rt, "a draft")
 }
 

@@ -161,7 +161,7 @@ fn is_served<R: Threads + Wait + Clock + Abort + Alloc<A = Global> + Sync>(
 
 #[test]
 fn a_run_tells_what_ended_its_workers(rt: HostRuntime) -> Result<(), Fail> {
-    let run = run_of(&rt, table_of(&rt, Discard), Shut)?;
+    let run = run_of(&rt, table_of(&rt, Discard, 1), Shut)?;
     is_ended_by_its_listener(&rt, run.served.as_slice());
     Ok(())
 }
@@ -219,7 +219,7 @@ fn is_stopped<R: Threads + Wait + Clock + Abort + Alloc<A = Global> + Sync>(
 #[test]
 fn a_table_without_a_listener_comes_back(rt: HostRuntime) -> Result<(), Fail> {
     let gates = vec![in rt.alloc(); Once { is_open: true }]?;
-    let table = table_of(&rt, Discard);
+    let table = table_of(&rt, Discard, 1);
     let made = serve(&rt, rt.alloc(), table, gates, || Err::<TcpListener, u8>(7));
     is_unserved(&rt, made.err());
     Ok(())

@@ -1,6 +1,6 @@
 //! What sessions of a shared table are answered. No call is refused: no copy is behind or has lost its version.
 
-use crate::drafts::{chain_of, circle, name_of, push_of, query_of, unlock_of};
+use crate::drafts::{bare_of, bare_push_of, chain_of, circle, lock_of, name_of, push_of, query_of};
 use std::alloc::Global;
 use std::process::Abort;
 use std::sync::Wait;
@@ -20,13 +20,13 @@ pub(crate) fn push<J: Naming, K: Sink, R: Wait + Abort + Alloc<A = Global>>(
     session.submit(rt, shared, name_of(rt), draft).ok()
 }
 
-/// The position of an unlock, where it is accepted.
-pub(crate) fn unlock<J: Naming, K: Sink, R: Wait + Abort + Alloc<A = Global>>(
+/// The position of a lock by `B`, where it is accepted.
+pub(crate) fn lock<J: Naming, K: Sink, R: Wait + Abort + Alloc<A = Global>>(
     rt: &R,
     shared: &Shared<J, K>,
     session: &mut Session<J>,
 ) -> Option<u64> {
-    let draft = unlock_of(rt);
+    let draft = lock_of(rt);
     session.submit(rt, shared, name_of(rt), draft).ok()
 }
 
@@ -149,8 +149,8 @@ pub(crate) fn refuses<J: Naming, K: Sink, R: Wait + Abort + Alloc<A = Global>>(
     assert!(rt; second.seen() == 1 && first.accepted() == 1 && second.accepted() == 0);
 }
 
-/// Pushes the chain with the serials from 1 to 100. The positions that are told rise, and what isn't accepted has a serial that is too
-/// low by then.
+/// Pushes states without resources, with the serials from 1 to 100. The positions that are told rise, and what isn't accepted has a serial
+/// that is too low by then. The last state is there in the end.
 fn push_all<J: Naming, K: Sink, R: Wait + Abort + Alloc<A = Global>>(
     rt: &R,
     shared: &Shared<J, K>,
@@ -158,7 +158,7 @@ fn push_all<J: Naming, K: Sink, R: Wait + Abort + Alloc<A = Global>>(
 ) {
     let mut last = session.seen();
     for serial in 1..101 {
-        match session.submit(rt, shared, name_of(rt), push_of(rt, serial)) {
+        match session.submit(rt, shared, name_of(rt), bare_push_of(rt, serial)) {
             Ok(position) => {
                 assert!(rt; last < position && position == session.seen());
                 last = position;
@@ -166,18 +166,23 @@ fn push_all<J: Naming, K: Sink, R: Wait + Abort + Alloc<A = Global>>(
             Err(refusal) => assert!(rt; refusal.name() == "SerialTooLow"),
         }
     }
-    assert!(rt; read(rt, shared, session) == 100);
+    let state = session.state(rt, shared, &name_of(rt)).ok();
+    let state = state.expect(rt, "a state");
+    assert!(rt; state.bytes() == bare_of(rt, 100).as_bytes());
 }
 
-/// Each session pushes the same states, one session after another.
-pub(crate) fn pushes<J: Naming, K: Sink, R: Wait + Abort + Alloc<A = Global>>(
-    rt: &R,
-    shared: &Shared<J, K>,
-    sessions: &mut [Session<J>],
-) {
-    for session in sessions {
-        push_all(rt, shared, session);
-    }
+/// Each session pushes the same states, in a thread of its own.
+pub(crate) fn pushes<
+    J: Naming + Send + Sync,
+    K: Sink + Send,
+    R: Threads + Wait + Abort + Alloc<A = Global> + Sync,
+>(rt: &R, shared: &Shared<J, K>, sessions: &mut [Session<J>]) {
+    thread::for_each_mut(
+        rt,
+        sessions,
+        16,
+        &|_, session| { push_all(rt, shared, session) },
+    );
 }
 
 /// How many changes of sessions were accepted.

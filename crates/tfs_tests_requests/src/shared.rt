@@ -31,7 +31,7 @@ pub(crate) enum Scene<'f> {
     Asks,
     /// The first session pushes, and is refused an older state; both read.
     Refuses,
-    /// Each session pushes the same hundred states, one session after another.
+    /// Each session pushes the same hundred states, in a thread of its own.
     Pushes,
     /// The first session's change waits in the sink until the second one was answered.
     Waits(&'f AtomicU64),
@@ -153,20 +153,24 @@ fn in_two<J: Naming, K: Sink, R: Wait + Abort + Alloc<A = Global>>(
     }
 }
 
-/// A table over a sink that nothing went to, with a push of the chain with serial 1 to `a`.
-pub(crate) fn table_of<K: Sink + Drop>(rt: &(impl Alloc<A = Global> + Abort), sink: K) -> Table<K>
+/// A table over a sink that nothing went to, with a push of the chain with a serial to `a`.
+pub(crate) fn table_of<K: Sink + Drop>(
+    rt: &(impl Alloc<A = Global> + Abort),
+    sink: K,
+    serial: u64,
+) -> Table<K>
     requires open { K.faults sink ≡ 0 }
     requires untold { IfSome (K.told sink) (λ bytes. bytes ≡ []) }
 {
     let mut table = Table::new(rt.alloc(), sink).ok().expect(rt, "a table");
-    let done = table.apply(name_of(rt), push_of(rt, 1));
+    let done = table.apply(name_of(rt), push_of(rt, serial));
     assert!(rt; done.ok() == Some(1));
     table
 }
 
 /// The table that goes on from it at position 1, with a base.
 pub(crate) fn later_table(rt: &(impl Alloc<A = Global> + Abort)) -> Table<Discard> {
-    let table = table_of(rt, Discard);
+    let table = table_of(rt, Discard, 1);
     table.rebase(Discard).ok().expect(rt, "a rebased table")
 }
 
@@ -174,7 +178,7 @@ pub(crate) fn later_table(rt: &(impl Alloc<A = Global> + Abort)) -> Table<Discar
 fn all_sessions_gather(rt: HostRuntime) -> Result<(), Fail> {
     for number in 1..17 {
         assert!(rt;
-            played(&rt, table_of(&rt, Discard), number, Scene::Turns) == 1 + number,
+            played(&rt, table_of(&rt, Discard, 1), number, Scene::Turns) == 1 + number,
             "{number}"
         );
         assert!(rt;
@@ -188,7 +192,7 @@ fn all_sessions_gather(rt: HostRuntime) -> Result<(), Fail> {
 #[test]
 fn a_shared_table_takes_a_push_and_answers(rt: HostRuntime) -> Result<(), Fail> {
     assert_eq!(rt;
-        played(&rt, table_of(&rt, Discard), 16, Scene::Busy),
+        played(&rt, table_of(&rt, Discard, 1), 16, Scene::Busy),
         1 + 16 * 25
     );
     Ok(())
@@ -196,13 +200,13 @@ fn a_shared_table_takes_a_push_and_answers(rt: HostRuntime) -> Result<(), Fail> 
 
 #[test]
 fn a_later_locked_read_sees_the_push(rt: HostRuntime) -> Result<(), Fail> {
-    assert_eq!(rt; played(&rt, table_of(&rt, Discard), 2, Scene::Reads), 9);
+    assert_eq!(rt; played(&rt, table_of(&rt, Discard, 1), 2, Scene::Reads), 9);
     Ok(())
 }
 
 #[test]
 fn a_push_of_another_session_is_seen_without_a_lock(rt: HostRuntime) -> Result<(), Fail> {
-    assert_eq!(rt; played(&rt, table_of(&rt, Discard), 2, Scene::Asks), 9);
+    assert_eq!(rt; played(&rt, table_of(&rt, Discard, 1), 2, Scene::Asks), 9);
     Ok(())
 }
 
@@ -220,6 +224,6 @@ fn an_older_state_is_refused_and_not_seen(rt: HostRuntime) -> Result<(), Fail> {
 #[test]
 fn positions_rise_where_four_sessions_push_the_same_states(rt: HostRuntime) -> Result<(), Fail> {
     let entries = played(&rt, new_table(&rt), 4, Scene::Pushes);
-    assert!(rt; entries == 103);
+    assert!(rt; 100 <= entries && entries <= 400);
     Ok(())
 }

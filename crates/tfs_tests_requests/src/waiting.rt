@@ -1,6 +1,6 @@
 //! What a session is answered while another one's change is inside the sink.
 
-use crate::sessions::{ask, read, unlock};
+use crate::sessions::{ask, lock, read};
 use crate::shared::{Scene, played, table_of};
 use std::alloc::Global;
 use std::process::Abort;
@@ -67,13 +67,13 @@ fn a_query_is_answered_while_the_sink_waits(rt: HostRuntime) -> Result<(), Fail>
         rt: &rt,
         flag: &flag,
     };
-    let table = table_of(&rt, sink);
+    let table = table_of(&rt, sink, 2);
     assert_eq!(rt; played(&rt, table, 2, Scene::Waits(&flag)), 2);
     assert_eq!(rt; flag.load(Ordering::SeqCst), RELEASED);
     Ok(())
 }
 
-/// The first session's unlock waits in the sink until the second one was answered.
+/// The first session's lock waits in the sink until the second one was answered.
 pub(crate) fn ask_meanwhile<
     J: Naming + Send + Sync,
     K: Sink + Send,
@@ -94,16 +94,17 @@ pub(crate) fn ask_meanwhile<
     );
 }
 
-/// The first session's unlock, which is the second change.
+/// The first session's lock, which is the second change.
 fn change<J: Naming, K: Sink, R: Wait + Abort + Alloc<A = Global>>(
     rt: &R,
     shared: &Shared<J, K>,
     session: &mut Session<J>,
 ) {
-    assert!(rt; unlock(rt, shared, session) == Some(2));
+    assert!(rt; lock(rt, shared, session) == Some(2));
 }
 
-/// The second session's query, which is answered while the sink waits, and then lets it go on. A read sees the change.
+/// The second session's query, which is answered while the sink waits, and then lets it go on. A read sees the change, and so does the next
+/// query.
 fn answer<J: Naming, K: Sink, R: Wait + Clock + Abort + Alloc<A = Global>>(
     rt: &R,
     shared: &Shared<J, K>,
@@ -111,8 +112,9 @@ fn answer<J: Naming, K: Sink, R: Wait + Clock + Abort + Alloc<A = Global>>(
     flag: &AtomicU64,
 ) {
     assert!(rt; wait_for(rt, flag, INSIDE));
-    assert!(rt; ask(rt, shared, session) == (1, 1) && session.seen() == 1);
+    assert!(rt; ask(rt, shared, session) == (1, 2) && session.seen() == 1);
     assert!(rt; flag.load(Ordering::SeqCst) == INSIDE);
     flag.store(RELEASED, Ordering::SeqCst);
-    assert!(rt; read(rt, shared, session) == 1 && session.seen() == 2);
+    assert!(rt; read(rt, shared, session) == 2 && session.seen() == 2);
+    assert!(rt; ask(rt, shared, session) == (2, 2));
 }
