@@ -171,15 +171,18 @@ fn push_all<J: Naming, K: Sink, R: Wait + Abort + Alloc<A = Global>>(
     assert!(rt; state.bytes() == bare_of(rt, 100).as_bytes());
 }
 
-/// Each session pushes the same states, one session after another.
-pub(crate) fn pushes<J: Naming, K: Sink, R: Wait + Abort + Alloc<A = Global>>(
-    rt: &R,
-    shared: &Shared<J, K>,
-    sessions: &mut [Session<J>],
-) {
-    for session in sessions {
-        push_all(rt, shared, session);
-    }
+/// Each session pushes the same states, in a thread of its own.
+pub(crate) fn pushes<
+    J: Naming + Send + Sync,
+    K: Sink + Send,
+    R: Threads + Wait + Abort + Alloc<A = Global> + Sync,
+>(rt: &R, shared: &Shared<J, K>, sessions: &mut [Session<J>]) {
+    thread::for_each_mut(
+        rt,
+        sessions,
+        16,
+        &|_, session| { push_all(rt, shared, session) },
+    );
 }
 
 /// How many changes of sessions were accepted.

@@ -31,7 +31,7 @@ pub(crate) enum Scene<'f> {
     Asks,
     /// The first session pushes, and is refused an older state; both read.
     Refuses,
-    /// Each session pushes the same hundred states, one session after another.
+    /// Each session pushes the same hundred states, in a thread of its own.
     Pushes,
     /// The first session's change waits in the sink until the second one was answered.
     Waits(&'f AtomicU64),
@@ -224,6 +224,6 @@ fn an_older_state_is_refused_and_not_seen(rt: HostRuntime) -> Result<(), Fail> {
 #[test]
 fn positions_rise_where_four_sessions_push_the_same_states(rt: HostRuntime) -> Result<(), Fail> {
     let entries = played(&rt, new_table(&rt), 4, Scene::Pushes);
-    assert!(rt; entries == 103);
+    assert!(rt; 100 <= entries && entries <= 400);
     Ok(())
 }
