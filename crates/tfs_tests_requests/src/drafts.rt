@@ -76,15 +76,15 @@ pub(crate) fn lock_of(rt: &(impl Alloc<A = Global> + Abort)) -> Draft {
     draft.ok().expect(rt, "a draft")
 }
 
-/// A query for what `t.a` reaches.
-pub(crate) fn query_of(rt: &(impl Alloc<A = Global> + Abort)) -> Query {
+/// A query of a kind for what `t.a` reaches.
+pub(crate) fn query_of(rt: &(impl Alloc<A = Global> + Abort), kind: Kind) -> Query {
     let text = String::from_str(rt.alloc(), "t.a")
         .ok()
         .expect(rt, "a text");
     let mut texts = Vec::new(rt.alloc());
     assert!(rt; texts.push(Text::new(text)).is_ok());
     Query {
-        kind: Kind::Any,
+        kind,
         texts: Texts::new(texts),
     }
 }

@@ -21,6 +21,8 @@ mod sessions;
 #[cfg(test)]
 mod shared;
 #[cfg(test)]
+mod sinks;
+#[cfg(test)]
 mod surface;
 #[cfg(test)]
 mod terms;

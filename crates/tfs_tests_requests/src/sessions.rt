@@ -6,6 +6,7 @@ use std::process::Abort;
 use std::sync::Wait;
 use std::thread;
 use std::thread::Threads;
+use tfs_calls::Kind;
 use tfs_records::Sink;
 use tfs_shared::{Naming, Session, Shared};
 
@@ -43,14 +44,16 @@ pub(crate) fn read<J: Naming, K: Sink, R: Wait + Abort + Alloc<A = Global>>(
     state.serial()
 }
 
-/// The position of the answer to what `t.a` reaches, which is the other two, and the serial of the state that it is about.
+/// The position of the answer to a query of a kind for what `t.a` reaches, which is the other two, and the serial of the state that it is
+/// about.
 pub(crate) fn ask<J: Naming, K: Sink, R: Abort + Alloc<A = Global>>(
     rt: &R,
     shared: &Shared<J, K>,
     session: &mut Session<J>,
+    kind: Kind,
 ) -> (u64, u64) {
     let name = name_of(rt);
-    let query = query_of(rt);
+    let query = query_of(rt, kind);
     let answer = session.impact(shared, &name, &query).ok();
     let answer = answer.expect(rt, "an answer");
     assert!(rt; answer.chosen.as_slice() == [1, 2].as_slice());
@@ -65,7 +68,7 @@ fn call_once<J: Naming, K: Sink, R: Wait + Abort + Alloc<A = Global>>(
 ) {
     assert!(rt; push(rt, shared, session, 1).is_some());
     assert!(rt; read(rt, shared, session) == 1);
-    let (position, serial) = ask(rt, shared, session);
+    let (position, serial) = ask(rt, shared, session, Kind::Any);
     assert!(rt; position == session.seen() && serial == 1);
 }
 
@@ -128,7 +131,9 @@ pub(crate) fn asks<J: Naming, K: Sink, R: Wait + Abort + Alloc<A = Global>>(
 ) {
     for serial in 2..10 {
         assert!(rt; push(rt, shared, first, serial) == Some(serial));
-        assert!(rt; ask(rt, shared, second) == (serial, serial) && second.seen() == serial);
+        assert!(rt;
+            ask(rt, shared, second, Kind::All) == (serial, serial) && second.seen() == serial
+        );
     }
 }
 
@@ -140,7 +145,7 @@ pub(crate) fn refuses<J: Naming, K: Sink, R: Wait + Abort + Alloc<A = Global>>(
     second: &mut Session<J>,
 ) {
     assert!(rt; push(rt, shared, first, 2) == Some(1));
-    assert!(rt; ask(rt, shared, first) == (1, 2) && first.seen() == 1);
+    assert!(rt; ask(rt, shared, first, Kind::Any) == (1, 2) && first.seen() == 1);
     let refusal = first.submit(rt, shared, name_of(rt), circle(rt)).err();
     assert!(rt;
         refusal.is_some_and(|refusal| refusal.name() == "SerialTooLow") && first.seen() == 1

@@ -10,6 +10,7 @@ use std::test::Fail;
 use std::thread;
 use std::thread::Threads;
 use std::time::{Clock, Duration};
+use tfs_calls::Kind;
 use tfs_records::{Sink, SinkFault};
 use tfs_shared::{Naming, Session, Shared};
 
@@ -112,9 +113,9 @@ fn answer<J: Naming, K: Sink, R: Wait + Clock + Abort + Alloc<A = Global>>(
     flag: &AtomicU64,
 ) {
     assert!(rt; wait_for(rt, flag, INSIDE));
-    assert!(rt; ask(rt, shared, session) == (1, 2) && session.seen() == 1);
+    assert!(rt; ask(rt, shared, session, Kind::Any) == (1, 2) && session.seen() == 1);
     assert!(rt; flag.load(Ordering::SeqCst) == INSIDE);
     flag.store(RELEASED, Ordering::SeqCst);
     assert!(rt; read(rt, shared, session) == 2 && session.seen() == 2);
-    assert!(rt; ask(rt, shared, session) == (2, 2));
+    assert!(rt; ask(rt, shared, session, Kind::All) == (2, 2));
 }

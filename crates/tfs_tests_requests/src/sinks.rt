@@ -1,0 +1,46 @@
+//! What sinks are given.
+
+ghost use Rattle.std.specs.Prelude.{◌≡◌, false};
+
+use std::process::Abort;
+use tfs_records::{Sink, SinkFault};
+use tfs_table::Table;
+
+/// A sink that takes no bytes, and fails where it is given some.
+#[derive(Drop)]
+struct Closed {
+    has_failed: bool,
+}
+
+impl Sink for Closed {
+    ghost use Rattle.std.specs.Prelude.{None, if◌then◌else◌};
+
+    ghost told = { λ _. None };
+
+    ghost faults = { λ s. if s.has_failed then 1 else 0 };
+
+    fn write(&mut self, _piece: &[u8]) -> Result<usize, SinkFault> {
+        self.has_failed = true;
+        Err(SinkFault)
+    }
+
+    fn takes_bytes(&self) -> bool {
+        false
+    }
+}
+
+/// Such a sink that was given nothing.
+fn closed() -> Closed
+    ensures open { result.has_failed ≡ false }
+{
+    Closed { has_failed: false }
+}
+
+#[test]
+fn a_sink_that_takes_no_bytes_is_given_none_where_a_table_begins(rt: HostRuntime) {
+    let made = Table::new(rt.alloc(), closed());
+    assert!(rt; made.is_ok());
+    let opened = Table::open(rt.alloc(), b"TFJ1\n", closed());
+    let (table, _) = opened.ok().expect(&rt, "a table");
+    assert!(rt; table.rebase(closed()).is_ok());
+}
