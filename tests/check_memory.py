@@ -163,12 +163,14 @@ THREE = (b'{"version":4,"serial":1,"lineage":"L1","resources":[{"mode":"managed"
 MOST = [
     ("a read of no state", ("GET", "/state/z", b""), 4),
     ("a read", ("GET", "/state/a", b""), 3),
+    ("a read with an identifier", ("GET", "/state/a?ID=A", b""), 3),
     ("a lock", ("LOCK", "/state/a", A), 11),
+    ("a lock with an identifier", ("LOCK", "/state/a?ID=A", A), 11),
     ("an unlock", ("UNLOCK", "/state/a", A), 12),
-    ("a push", ("POST", "/state/a", THREE), 66),
+    ("a push", ("POST", "/state/a", THREE), 64),
     ("a push that comes in pieces", ("POST", "/state/a", LONG), 13),
-    ("an impact", ("GET", "/impact/a/any?of=t.a", b""), 16),
-    ("an impact of two", ("GET", "/impact/a/all?of=t.a&of=t.b", b""), 17),
+    ("an impact", ("GET", "/impact/a/any?of=t.a", b""), 10),
+    ("an impact of two", ("GET", "/impact/a/all?of=t.a&of=t.b", b""), 12),
 ]
 
 

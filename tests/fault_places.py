@@ -3,8 +3,8 @@ or made twice over.
 
 A contract can't tell a refused request for memory, or a read that failed, from one that was never made. So each place that makes such a
 fault stands in tests/fault_places.txt with what it passes on, and any other place is listed here. Room is asked for by a length or by a
-constant with a name: a number that is written there could be one that no machine has. `set_len`, `File::create(` and `try_clone` stand
-nowhere in src/, since no contract says what they do to a file."""
+constant with a name: a number that is written there, or the highest of its type, could be one that no machine has. `set_len`,
+`File::create(` and `try_clone` stand nowhere in src/, since no contract says what they do to a file."""
 import re
 
 from repository import TOP
@@ -15,7 +15,7 @@ FAULT = re.compile(
     r"\b(?!ErrorKind)\w+::(?:Source|OutOfMemory|NoMemory|SinkFault|SyncFault|NoCopy|NoPlace|JournalFault|JournalStopped|AcceptFault|Lost|Unplaced)\b"
     rf"|{BEFORE}(?:AllocError|SinkFault|SyncFault|AcceptFault|LentFault|OutOfMemory|NoMemory|NoCopy|NoPlace|JournalFault|JournalStopped)\b"
 )
-CALLS = re.compile(r"\bset_len\b|\bFile::create\(|\btry_clone\b|\b(?:with_capacity|reserve|reserve_exact|resize)\(.*(?:<<|\b\d\d|\b\d_)")
+CALLS = re.compile(r"\bset_len\b|\bFile::create\(|\btry_clone\b|\b(?:with_capacity|reserve|reserve_exact|resize)\(.*(?:<<|\b\d\d|\b\d_|\b[iu]\w+::MAX\b)")
 FUNCTION = re.compile(r"^\s*(?:pub(?:\([a-z]+\))? )?(?:const )?(?:unsafe )?fn (\w+)")
 LEFT_OUT = ("tfs_tests_", "tfs_bench", "tfs_probe")
 
