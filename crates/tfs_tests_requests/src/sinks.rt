@@ -12,6 +12,15 @@ struct Closed {
     has_failed: bool,
 }
 
+impl Closed {
+    /// It was given nothing.
+    fn new() -> Closed
+        ensures open { result.has_failed ≡ false }
+    {
+        Closed { has_failed: false }
+    }
+}
+
 impl Sink for Closed {
     ghost use Rattle.std.specs.Prelude.{None, if◌then◌else◌};
 
@@ -29,18 +38,11 @@ impl Sink for Closed {
     }
 }
 
-/// Such a sink that was given nothing.
-fn closed() -> Closed
-    ensures open { result.has_failed ≡ false }
-{
-    Closed { has_failed: false }
-}
-
 #[test]
 fn a_sink_that_takes_no_bytes_is_given_none_where_a_table_begins(rt: HostRuntime) {
-    let made = Table::new(rt.alloc(), closed());
+    let made = Table::new(rt.alloc(), Closed::new());
     assert!(rt; made.is_ok());
-    let opened = Table::open(rt.alloc(), b"TFJ1\n", closed());
+    let opened = Table::open(rt.alloc(), b"TFJ1\n", Closed::new());
     let (table, _) = opened.ok().expect(&rt, "a table");
-    assert!(rt; table.rebase(closed()).is_ok());
+    assert!(rt; table.rebase(Closed::new()).is_ok());
 }
