@@ -9,6 +9,7 @@ mod news;
 mod placing;
 mod serve;
 mod turning;
+mod underway;
 mod watch;
 
 pub use serve::{Begun, Bounds, Left, Plan, serve_folder};

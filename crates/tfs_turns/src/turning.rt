@@ -8,6 +8,7 @@ use crate::listening::Listening;
 use crate::news::{News, Turned};
 use crate::placing::{length_of, place, remove, sink_of};
 use crate::serve::Plan;
+use crate::underway::Underway;
 use crate::watch::Watch;
 use std::alloc::AllocError;
 use std::cell::Cell;
@@ -29,6 +30,7 @@ pub(crate) struct Turning<'t, R: AllocGlobal + Wait> {
     pub(crate) plan: &'t Plan<'t>,
     pub(crate) watch: &'t Watch<'t>,
     pub(crate) least: &'t Mutex<Option<PositionFile>>,
+    pub(crate) underway: &'t Underway,
     pub(crate) listener: &'t TcpListener,
     pub(crate) news: Cell<News>,
     pub(crate) placed: Snapshot<Table<JournalSink>>,
@@ -154,6 +156,9 @@ fn gates_of<'t, R: AllocGlobal + Wait>(
             durable: durable.clone()?,
             least: turning.least,
             serves_reads: turning.plan.serves_reads,
+            underway: turning.underway,
+            worker: made,
+            read: None,
         })?;
     }
     Ok(gates)
