@@ -193,6 +193,34 @@ def check_one_sync_serves_many():
     expect(many >= 6 * one, True, f"{one:.0f} changes a second of one writer, {many:.0f} of 16")
 
 
+def count(port, end, step, counts):
+    """Takes steps over a connection until a moment, and appends how many there were."""
+    connection, number = http.client.HTTPConnection(LOOPBACK, port, timeout=10), 0
+    while time.monotonic() < end:
+        step(connection)
+        number += 1
+    connection.close()
+    counts.append(number)
+
+
+def check_a_read_waits_only_while_its_name_is_changed():
+    server, told, pushes, other, same = serving(fresh(), workers="4", env=disk(DELAY=50000)), Told(), [], [], []
+    connection = http.client.HTTPConnection(LOOPBACK, server.port, timeout=10)
+    for name in ("busy", "still"):
+        told.push(connection, name)
+    connection.close()
+    end = time.monotonic() + 2
+    steps = ((lambda connection: told.push(connection, "busy"), pushes), (lambda connection: ask_over(connection, "GET", "/state/still"), other),
+             (lambda connection: ask_over(connection, "GET", "/state/busy"), same))
+    threads = [threading.Thread(target=count, args=(server.port, end, *step)) for step in steps]
+    for thread in threads:
+        thread.start()
+    for thread in threads:
+        thread.join()
+    server.kill()
+    expect(pushes[0] <= 41 and other[0] >= 4 * pushes[0] > 0 and same < other, True, f"pushes {pushes}, reads {same}, of another name {other}")
+
+
 if __name__ == "__main__":
     SHIM = preloaded("lazy_disk.c")
     sys.exit(run_checks(checks_in(globals())))

@@ -20,7 +20,7 @@ pub(crate) struct Watching<'g, R: AllocGlobal + Wait> {
     pub(crate) durable: Arc<Durable<FileDevice>>,
     pub(crate) least: &'g Mutex<Option<PositionFile>>,
     pub(crate) serves_reads: bool,
-    pub(crate) underway: &'g Underway,
+    pub(crate) underway: Arc<Underway>,
     pub(crate) worker: usize,
     /// The number of the name that is read.
     pub(crate) read: Option<u64>,

@@ -6,7 +6,6 @@ ghost use Rattle.tfs_terms.specs.Terms.{EndsOn};
 use crate::fault::end_of;
 use crate::news::News;
 use crate::turning::Turning;
-use crate::underway::Underway;
 use crate::watch::Watch;
 use std::cell::Cell;
 use std::net::TcpListener;
@@ -83,13 +82,6 @@ pub fn serve_folder<R: AllocGlobal + Threads + Wait + Clock + Sync>(
             accepting: None,
         };
     };
-    let Ok(underway) = Underway::new(rt.alloc(), plan.workers) else {
-        return Left {
-            table,
-            fault: Fault::OutOfMemory,
-            accepting: None,
-        };
-    };
     let least = Mutex::new(least);
     let watch = Watch::new(host, plan);
     watch.open(number, table.base().position());
@@ -99,7 +91,6 @@ pub fn serve_folder<R: AllocGlobal + Threads + Wait + Clock + Sync>(
         plan,
         watch: &watch,
         least: &least,
-        underway: &underway,
         listener: &listener,
         news: Cell::new(News::First),
         placed: Snapshot::of(&table),

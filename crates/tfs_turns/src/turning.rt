@@ -30,7 +30,6 @@ pub(crate) struct Turning<'t, R: AllocGlobal + Wait> {
     pub(crate) plan: &'t Plan<'t>,
     pub(crate) watch: &'t Watch<'t>,
     pub(crate) least: &'t Mutex<Option<PositionFile>>,
-    pub(crate) underway: &'t Underway,
     pub(crate) listener: &'t TcpListener,
     pub(crate) news: Cell<News>,
     pub(crate) placed: Snapshot<Table<JournalSink>>,
@@ -147,8 +146,10 @@ fn gates_of<'t, R: AllocGlobal + Wait>(
 ) -> Result<Vec<Watching<'t, R>>, AllocError>
     ensures as_many { IfOk result (λ gates. length gates.items ≡ turning.now.plan.now.workers) }
 {
+    let alloc = turning.rt.alloc();
     let number = turning.plan.workers;
-    let mut gates = Vec::with_capacity(turning.rt.alloc(), number)?;
+    let underway = Arc::new(alloc, Underway::new(alloc, number)?)?;
+    let mut gates = Vec::with_capacity(alloc, number)?;
     for made in 0..number {
         gates.push(Watching {
             rt: turning.rt,
@@ -156,7 +157,7 @@ fn gates_of<'t, R: AllocGlobal + Wait>(
             durable: durable.clone()?,
             least: turning.least,
             serves_reads: turning.plan.serves_reads,
-            underway: turning.underway,
+            underway: underway.clone()?,
             worker: made,
             read: None,
         })?;
