@@ -2,22 +2,22 @@
 
 use crate::helpers::{draft_of, name_of};
 use crate::journals::journal_bytes;
-use std::alloc::{AllocError, Global};
+use std::alloc::Global;
 use std::process::Abort;
-use std::test::Fail;
 use tfs_journal::decode;
 use tfs_records::Discard;
 use tfs_table::{Kind, Prepared, Query, Ready, Table, Text, Texts, first_unlawful};
 
-/// Two instances, of which the second depends on the first.
-const TWO: &str = "{\"version\":4,\"serial\":2,\"lineage\":\"L1\",\"resources\":[\
+/// A push of two instances, of which the second depends on the first.
+const TWO: &str = "push - {\"version\":4,\"serial\":2,\"lineage\":\"L1\",\"resources\":[\
 {\"mode\":\"managed\",\"type\":\"t\",\"name\":\"a\",\"instances\":[{}]},\
 {\"mode\":\"managed\",\"type\":\"t\",\"name\":\"b\",\"instances\":[{\"dependencies\":[\"t.a\"]}]}]}";
 
 /// A change of `a`.
-fn prepared_of(rt: &(impl Alloc<A = Global> + Abort), change: &str) -> Result<Prepared, Fail> {
-    let draft = draft_of(rt, change)?.ok().expect(rt, "a draft");
-    Ok(Prepared::new(rt.alloc(), name_of(rt, "a")?, draft)?)
+fn prepared_of(rt: &(impl Alloc<A = Global> + Abort), change: &str) -> Prepared {
+    let draft = draft_of(rt, change).ok().expect(rt, "a draft");
+    let prepared = Prepared::new(rt.alloc(), name_of(rt, "a"), draft);
+    prepared.ok().expect(rt, "memory")
 }
 
 /// Whether a ready change is of `a`, the first name, which has a version of this serial afterwards.
@@ -49,71 +49,62 @@ fn make(
     change: &str,
     position: u64,
     serial: u64,
-) -> Result<(), Fail> {
-    let prepared = prepared_of(rt, change)?;
-    assert!(rt;
-        finished(table, prepared, serial) == Some(position),
-        "{change}"
-    );
-    Ok(())
+) {
+    let found = finished(table, prepared_of(rt, change), serial);
+    assert!(rt; found == Some(position), "{change}");
 }
 
 /// A table of `a` with TWO and its lock.
-fn table_of_two(rt: &(impl Alloc<A = Global> + Abort)) -> Result<Table<Discard>, Fail> {
+fn table_of_two(rt: &(impl Alloc<A = Global> + Abort)) -> Table<Discard> {
     let mut table = Table::new(rt.alloc(), Discard).ok().expect(rt, "a table");
-    let push = format!(in rt.alloc(); "push - {TWO}")?;
-    make(rt, &mut table, "push - S1", 1, 1)?;
-    make(rt, &mut table, push.as_str(), 2, 2)?;
-    make(rt, &mut table, "lock B", 3, 2)?;
-    Ok(table)
+    make(rt, &mut table, "push - S1", 1, 1);
+    make(rt, &mut table, TWO, 2, 2);
+    make(rt, &mut table, "lock B", 3, 2);
+    table
 }
 
 /// The query for all that a change of one address reaches.
-fn query_of(rt: &impl Alloc<A = Global>, text: &str) -> Result<Query, AllocError> {
+fn query_of(rt: &(impl Alloc<A = Global> + Abort), text: &str) -> Query {
     let mut texts = Vec::new(rt.alloc());
-    texts.push(Text::new(String::from_str(rt.alloc(), text)?))?;
-    Ok(Query {
+    let text = String::from_str(rt.alloc(), text).expect(rt, "memory");
+    texts.push(Text::new(text)).ok().expect(rt, "memory");
+    Query {
         kind: Kind::Any,
         texts: Texts::new(texts),
-    })
+    }
 }
 
-/// How many instances a query for one address chooses in the state of `a`.
-fn chosen(
+/// Compares how many instances a query for one address chooses in the state of `a`.
+fn expect_chosen(
     rt: &(impl Alloc<A = Global> + Abort),
     table: &Table<Discard>,
     text: &str,
-) -> Result<usize, Fail> {
-    let impact = table.impact(&name_of(rt, "a")?, &query_of(rt, text)?);
+    count: usize,
+) {
+    let impact = table.impact(&name_of(rt, "a"), &query_of(rt, text));
     let impact = impact.ok().expect(rt, "an answer");
-    assert!(rt; impact.position == 3);
-    Ok(impact.chosen.as_slice().len())
+    let found = impact.chosen.as_slice().len();
+    assert!(rt; impact.position == 3 && found == count, "{text}");
 }
 
-/// Whether a table is rebased to this position.
-fn is_rebased(rt: &impl Abort, table: &Table<Discard>, position: u64) -> bool {
+/// Checks that a table is rebased to this position.
+fn is_rebased(rt: &impl Abort, table: &Table<Discard>, position: u64) {
     let rebased = table.rebase(Discard).ok().expect(rt, "a table");
-    rebased.position() == position && rebased.len() == 0
+    assert!(rt; rebased.position() == position && rebased.len() == 0);
 }
 
 #[test]
-fn each_call_answers_with_ample_memory(rt: HostRuntime) -> Result<(), Fail> {
-    let table = table_of_two(&rt)?;
-    assert!(rt; chosen(&rt, &table, "t.a")? == 1);
-    assert!(rt; chosen(&rt, &table, "t.b")? == 0);
-    assert!(rt; is_rebased(&rt, &table, 3));
-    Ok(())
-}
-
-/// The first record of bytes that isn't lawful.
-fn unlawful_in(rt: &impl Alloc<A = Global>, bytes: &[u8]) -> Result<Option<u64>, AllocError> {
-    let read = decode(rt.alloc(), bytes)?;
-    first_unlawful(rt.alloc(), &read.base, read.entries.as_slice())
+fn each_call_answers_with_ample_memory(rt: HostRuntime) {
+    let table = table_of_two(&rt);
+    expect_chosen(&rt, &table, "t.a", 1);
+    expect_chosen(&rt, &table, "t.b", 0);
+    is_rebased(&rt, &table, 3);
 }
 
 #[test]
-fn a_lawful_journal_is_judged_with_ample_memory(rt: HostRuntime) -> Result<(), Fail> {
-    let bytes = journal_bytes(&rt, "192")?;
-    assert!(rt; unlawful_in(&rt, bytes.as_slice())? == None);
-    Ok(())
+fn a_lawful_journal_is_judged_with_ample_memory(rt: HostRuntime) {
+    let read = decode(rt.alloc(), journal_bytes(&rt, "192").as_slice());
+    let read = read.expect(&rt, "memory");
+    let found = first_unlawful(rt.alloc(), &read.base, read.entries.as_slice());
+    assert!(rt; found.expect(&rt, "memory") == None);
 }

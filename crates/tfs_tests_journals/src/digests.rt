@@ -1,10 +1,10 @@
 //! The MD5 of four texts at once, against RFC 1321's test suite and against the MD5 of each alone.
 
-use crate::helpers::is_vector;
+use crate::helpers::expect_vector;
+use crate::lines::{Judge, expect_lines};
 use md5::{Digest, Md5};
 use std::alloc::Global;
 use std::process::Abort;
-use std::test::Fail;
 use tfs_digests::digests;
 
 /// The test suite (section A.5): texts, and their MD5.
@@ -16,25 +16,23 @@ abcdefghijklmnopqrstuvwxyz = c3fcd3d76192e4007dfb496cca67e13b
 ABCDEFGHIJKLMNOPQRSTUVWXYZabcdefghijklmnopqrstuvwxyz0123456789 = d174ab98d277d9f5a5611c2c9f419d9f
 12345678901234567890123456789012345678901234567890123456789012345678901234567890 = 57edf4a22be3c955ac49da2e2107b67a";
 
-/// Checks a line, with the text in each of the four places.
-fn has_digest(rt: &(impl Alloc<A = Global> + Abort), line: &str) -> Result<(), Fail> {
-    let (text, vector) = line.split_once(" = ").expect(rt, "a text and a vector");
-    let text = text.as_bytes();
-    let [first, _, third, _] = digests([text, b"", text, b"abc"]);
-    let [_, second, _, fourth] = digests([b"", text, b"abc", text]);
-    assert!(rt; is_vector(rt, first.as_slice(), vector)?, "{line}");
-    assert!(rt; is_vector(rt, second.as_slice(), vector)?, "{line}");
-    assert!(rt; is_vector(rt, third.as_slice(), vector)?, "{line}");
-    assert!(rt; is_vector(rt, fourth.as_slice(), vector)?, "{line}");
-    Ok(())
+/// A text in each of the four places.
+struct Suite;
+
+impl Judge for Suite {
+    fn judge(rt: &(impl Alloc<A = Global> + Abort), given: &str, wanted: &str) {
+        let text = given.as_bytes();
+        let [first, _, third, _] = digests([text, b"", text, b"abc"]);
+        let [_, second, _, fourth] = digests([b"", text, b"abc", text]);
+        for digest in [first, second, third, fourth] {
+            expect_vector(rt, digest.as_slice(), wanted);
+        }
+    }
 }
 
 #[test]
-fn texts_of_the_suite_have_their_digests(rt: HostRuntime) -> Result<(), Fail> {
-    for line in SUITE.lines() {
-        has_digest(&rt, line)?;
-    }
-    Ok(())
+fn texts_of_the_suite_have_their_digests(rt: HostRuntime) {
+    expect_lines::<Suite>(&rt, SUITE);
 }
 
 /// Whether four texts have the digests that each has alone.

@@ -1,77 +1,68 @@
 //! Folders of journals: which one is gone on from, or why none is, worked out by hand. A line has files, each with its number, the length of
 //! its text and how many of its bytes are there, and then the choice.
 
-use crate::helpers::split;
-use crate::journals::{front, journal_bytes};
+use crate::journals::{front_of, journal_bytes};
+use crate::lines::{Judge, expect_lines, expect_text, expect_words, number_in, split};
 use crate::pieces::Pieces;
-use std::alloc::Global;
+use std::alloc::{AllocError, Global};
 use std::process::Abort;
-use std::test::Fail;
 use tfs_folder::{
     Chosen, FolderFile, JournalReader, NoChoice, Unchosen, choose, choose_beside, name_of,
     number_of,
 };
 use tfs_records::MemorySink;
-use tfs_table::OpenFault;
+use tfs_table::{OpenFault, Table};
 
 /// The file of a word.
-fn file_of(rt: &(impl Alloc<A = Global> + Abort), word: &str) -> Result<FolderFile, Fail> {
+fn file_of(rt: &(impl Alloc<A = Global> + Abort), word: &str) -> FolderFile {
     let (number, text) = word.split_once(':').expect(rt, "a number");
     let (length, count) = text.split_once(':').expect(rt, "a length and a count");
-    let bytes = journal_bytes(rt, length)?;
-    let bytes = front(rt, bytes.as_slice(), count).to_vec(rt.alloc())?;
-    let name = format!(in rt.alloc(); "journal-000000000{number}.tfj")?;
-    Ok(FolderFile::new(name, bytes))
+    let name = format!(in rt.alloc(); "journal-000000000{number}.tfj");
+    FolderFile::new(name.expect(rt, "memory"), front_of(rt, length, count))
 }
 
 /// The files of words.
-fn files_of(rt: &(impl Alloc<A = Global> + Abort), words: &str) -> Result<Vec<FolderFile>, Fail> {
+fn files_of(rt: &(impl Alloc<A = Global> + Abort), words: &str) -> Vec<FolderFile> {
     let mut files = Vec::new(rt.alloc());
-    for word in words.split(' ') {
-        if !word.is_empty() {
-            files.push(file_of(rt, word)?)?;
-        }
+    for word in words.split_whitespace() {
+        files.push(file_of(rt, word)).ok().expect(rt, "memory");
     }
-    Ok(files)
+    files
 }
 
 /// A choice in words: its number, the number of one that was left, and its position.
-fn chosen_words(rt: &impl Alloc<A = Global>, chosen: &Chosen) -> Result<String, Fail> {
+fn chosen_words(alloc: Global, chosen: &Chosen) -> Result<String, AllocError> {
     let (number, position) = (chosen.number, chosen.table.position());
     match chosen.left {
-        Some(left) => Ok(format!(in rt.alloc(); "{number} at {position}, {left} left")?),
-        None => Ok(format!(in rt.alloc(); "{number} at {position}")?),
+        Some(left) => format!(in alloc; "{number} at {position}, {left} left"),
+        None => format!(in alloc; "{number} at {position}"),
     }
 }
 
 /// Why there is none, in words: the number of the journal that shows it, and the fault.
-fn unchosen_words(rt: &impl Alloc<A = Global>, unchosen: Unchosen) -> Result<String, Fail> {
+fn unchosen_words(alloc: Global, unchosen: Unchosen) -> Result<String, AllocError> {
     let why = unchosen.why;
     match unchosen.number {
-        Some(number) => Ok(format!(in rt.alloc(); "{number} {why:?}")?),
-        None => Ok(format!(in rt.alloc(); "- {why:?}")?),
+        Some(number) => format!(in alloc; "{number} {why:?}"),
+        None => format!(in alloc; "- {why:?}"),
     }
 }
 
 /// The choice in a folder, in words.
-fn choice_of(
-    rt: &(impl Alloc<A = Global> + Abort),
-    words: &str,
-    least: u64,
-) -> Result<String, Fail> {
-    match choose(rt.alloc(), files_of(rt, words)?, least) {
-        Ok(chosen) => chosen_words(rt, &chosen),
-        Err(unchosen) => unchosen_words(rt, unchosen),
+fn choice_of(alloc: Global, files: Vec<FolderFile>, least: u64) -> Result<String, AllocError> {
+    match choose(alloc, files, least) {
+        Ok(chosen) => chosen_words(alloc, &chosen),
+        Err(unchosen) => unchosen_words(alloc, unchosen),
     }
 }
 
 /// Readers of the journals among files, in pieces of at most so many bytes. That of one number fails behind them.
 fn readers_of<'f>(
-    rt: &impl Alloc<A = Global>,
+    rt: &(impl Alloc<A = Global> + Abort),
     files: &'f [FolderFile],
     most: usize,
     failing: u64,
-) -> Result<Vec<JournalReader<Pieces<'f>>>, Fail> {
+) -> Vec<JournalReader<Pieces<'f>>> {
     let mut readers = Vec::new(rt.alloc());
     for file in files {
         if let Some(number) = number_of(file.name()) {
@@ -80,42 +71,52 @@ fn readers_of<'f>(
                 most,
                 fails: number == failing,
             };
-            readers.push(JournalReader { number, reader })?;
+            let reader = JournalReader { number, reader };
+            readers.push(reader).ok().expect(rt, "memory");
         }
     }
-    Ok(readers)
+    readers
 }
 
 /// The choice among these readers, in words.
 fn choice_beside(
-    rt: &impl Alloc<A = Global>,
+    alloc: Global,
     readers: Vec<JournalReader<Pieces<'_>>>,
     least: u64,
-) -> Result<String, Fail> {
-    match choose_beside(rt.alloc(), readers, least) {
-        Ok(chosen) => chosen_words(rt, &chosen),
-        Err(NoChoice::Unchosen(unchosen)) => unchosen_words(rt, unchosen),
-        Err(NoChoice::Unread(number, fault)) => {
-            Ok(format!(in rt.alloc(); "{number} unread {fault:?}")?)
-        }
+) -> Result<String, AllocError> {
+    match choose_beside(alloc, readers, least) {
+        Ok(chosen) => chosen_words(alloc, &chosen),
+        Err(NoChoice::Unchosen(unchosen)) => unchosen_words(alloc, unchosen),
+        Err(NoChoice::Unread(number, fault)) => format!(in alloc; "{number} unread {fault:?}"),
     }
 }
 
-/// Checks a line: the least position, the files, and the choice, of whole files and of pieces.
-fn is_chosen(rt: &(impl Alloc<A = Global> + Abort), line: &str) -> Result<(), Fail> {
-    let (asked, wanted) = line.split_once(" = ").expect(rt, "a line has a choice");
-    let (least, words) = split(asked);
-    let least = least.parse::<u64>().ok().expect(rt, "a position");
-    assert!(rt; choice_of(rt, words, least)?.as_str() == wanted, "{line}");
-    let files = files_of(rt, words)?;
-    let readers = readers_of(rt, files.as_slice(), 1 + line.len() % 97, NONE)?;
-    let found = choice_beside(rt, readers, least)?;
-    assert!(rt; found.as_str() == wanted, "{line}: {found} in pieces");
-    Ok(())
+/// Compares the choice of whole files with a line's.
+fn expect_choice(rt: &(impl Alloc<A = Global> + Abort), words: &str, least: u64, wanted: &str) {
+    expect_words(
+        rt,
+        choice_of(rt.alloc(), files_of(rt, words), least),
+        wanted,
+    );
 }
 
 /// The number of no file.
 const NONE: u64 = u64::MAX;
+
+/// The least position, and the files: whole ones, and in pieces.
+struct Choices;
+
+impl Judge for Choices {
+    fn judge(rt: &(impl Alloc<A = Global> + Abort), given: &str, wanted: &str) {
+        let (least, words) = split(given);
+        let least = number_in(rt, least);
+        expect_choice(rt, words, least, wanted);
+        let most = given.len().wrapping_add(3).wrapping_add(wanted.len()) % 97 + 1;
+        let files = files_of(rt, words);
+        let readers = readers_of(rt, files.as_slice(), most, NONE);
+        expect_words(rt, choice_beside(rt.alloc(), readers, least), wanted);
+    }
+}
 
 /// Folders, and what is chosen of them.
 const CHOICES: &str = "0 1:104:104 = 1 at 2
@@ -147,22 +148,20 @@ const CHOICES: &str = "0 1:104:104 = 1 at 2
 0 c:92:50 1:104:104 = 1 at 2";
 
 #[test]
-fn the_newest_journal_that_follows_is_chosen(rt: HostRuntime) -> Result<(), Fail> {
-    for line in CHOICES.lines() {
-        is_chosen(&rt, line)?;
-    }
-    Ok(())
+fn the_newest_journal_that_follows_is_chosen(rt: HostRuntime) {
+    expect_lines::<Choices>(&rt, CHOICES);
 }
 
-/// Checks a line: the number of the journal whose reader fails, the files, and the choice.
-fn is_told(rt: &(impl Alloc<A = Global> + Abort), line: &str) -> Result<(), Fail> {
-    let (asked, wanted) = line.split_once(" = ").expect(rt, "a line has a choice");
-    let (failing, words) = split(asked);
-    let failing = failing.parse::<u64>().ok().expect(rt, "a number");
-    let files = files_of(rt, words)?;
-    let found = choice_beside(rt, readers_of(rt, files.as_slice(), 50, failing)?, 0)?;
-    assert!(rt; found.as_str() == wanted, "{line}: {found}");
-    Ok(())
+/// The number of the journal whose reader fails, and the files.
+struct Failing;
+
+impl Judge for Failing {
+    fn judge(rt: &(impl Alloc<A = Global> + Abort), given: &str, wanted: &str) {
+        let (failing, words) = split(given);
+        let files = files_of(rt, words);
+        let readers = readers_of(rt, files.as_slice(), 50, number_in(rt, failing));
+        expect_words(rt, choice_beside(rt.alloc(), readers, 0), wanted);
+    }
 }
 
 /// Journals beside one another, of which the reader of one fails.
@@ -177,36 +176,40 @@ const FAILING: &str = "1 1:104:104 2:92:92 = 1 unread Source
 3 1:104:104 2:130:130 3:92:92 = 2 Parted";
 
 #[test]
-fn a_reader_that_fails_ends_the_choice(rt: HostRuntime) -> Result<(), Fail> {
-    for line in FAILING.lines() {
-        is_told(&rt, line)?;
-    }
-    Ok(())
+fn a_reader_that_fails_ends_the_choice(rt: HostRuntime) {
+    expect_lines::<Failing>(&rt, FAILING);
 }
 
-/// What goes on from the choice in a folder has in its sink, which takes so many calls; or the fault.
+/// What goes on from the choice in a folder, over a sink that takes so many calls.
 fn going_on(
     rt: &(impl Alloc<A = Global> + Abort),
     words: &str,
     calls: u64,
-) -> Result<Result<Vec<u8>, OpenFault>, Fail> {
-    let files = files_of(rt, words)?;
-    let chosen = choose(rt.alloc(), files, 0).ok().expect(rt, "a choice");
-    match chosen.go_on(MemorySink::new(rt.alloc(), 4096, calls)) {
-        Ok(table) => Ok(Ok(table.sink().bytes().to_vec(rt.alloc())?)),
-        Err(fault) => Ok(Err(fault)),
-    }
+) -> Result<Table<MemorySink>, OpenFault> {
+    let chosen = choose(rt.alloc(), files_of(rt, words), 0);
+    let chosen = chosen.ok().expect(rt, "a choice");
+    chosen.go_on(MemorySink::new(rt.alloc(), 4096, calls))
 }
 
+/// Compares the bytes of the sink of what goes on from the choice in a folder.
+fn expect_going_on(rt: &(impl Alloc<A = Global> + Abort), words: &str, wanted: &[u8]) {
+    let table = going_on(rt, words, 1).ok().expect(rt, "a journal");
+    assert!(rt; table.sink().bytes() == wanted, "{words}");
+}
+
+/// Folders whose choice has one base.
+const OF_ONE_BASE: &str = "1:104:104
+1:130:130
+1:104:104 2:92:50
+1:104:104 2:92:92";
+
 #[test]
-fn the_next_journal_has_the_base_of_the_chosen_one(rt: HostRuntime) -> Result<(), Fail> {
-    let wanted = journal_bytes(&rt, "92")?;
-    for words in "1:104:104|1:130:130|1:104:104 2:92:50|1:104:104 2:92:92".split('|') {
-        let text = going_on(&rt, words, 1)?.ok().expect(&rt, "a journal");
-        assert!(rt; text.as_slice() == wanted.as_slice(), "{words}");
+fn the_next_journal_has_the_base_of_the_chosen_one(rt: HostRuntime) {
+    let wanted = journal_bytes(&rt, "92");
+    for words in OF_ONE_BASE.lines() {
+        expect_going_on(&rt, words, wanted.as_slice());
     }
-    assert!(rt; going_on(&rt, "1:104:104", 0)?.err() == Some(OpenFault::SinkFault));
-    Ok(())
+    assert!(rt; going_on(&rt, "1:104:104", 0).err() == Some(OpenFault::SinkFault));
 }
 
 /// Names, and the numbers of those that are journals'.
@@ -223,33 +226,26 @@ Journal-0000000042.tfj -
 journal-0000000042.tfj.part -";
 
 #[test]
-fn names_of_22_bytes_are_those_of_journals(rt: HostRuntime) -> Result<(), Fail> {
+fn names_of_22_bytes_are_those_of_journals(rt: HostRuntime) {
     for line in NAMES.lines() {
         let (name, number) = split(line);
         assert!(rt; number_of(name) == number.parse::<u64>().ok(), "{line}");
     }
-    Ok(())
 }
 
-/// Checks that a number has this name, or none.
-fn is_named(
-    rt: &(impl Alloc<A = Global> + Abort),
-    number: u64,
-    wanted: Option<&str>,
-) -> Result<(), Fail> {
-    let name = name_of(rt.alloc(), number)?;
-    assert!(rt;
-        name.as_ref().map(|name| name.as_str()) == wanted,
-        "{number}"
-    );
-    Ok(())
+/// Compares the name of a number; `-` stands for none.
+fn expect_name(rt: &(impl Alloc<A = Global> + Abort), number: u64, wanted: &str) {
+    match name_of(rt.alloc(), number).expect(rt, "memory") {
+        Some(name) => expect_text(rt, name.as_str(), wanted),
+        None => expect_text(rt, "-", wanted),
+    }
 }
 
 #[test]
-fn numbers_of_ten_digits_have_a_name(rt: HostRuntime) -> Result<(), Fail> {
-    is_named(&rt, 0, Some("journal-0000000000.tfj"))?;
-    is_named(&rt, 42, Some("journal-0000000042.tfj"))?;
-    is_named(&rt, 9_999_999_999, Some("journal-9999999999.tfj"))?;
-    is_named(&rt, 10_000_000_000, None)?;
-    is_named(&rt, u64::MAX, None)
+fn numbers_of_ten_digits_have_a_name(rt: HostRuntime) {
+    expect_name(&rt, 0, "journal-0000000000.tfj");
+    expect_name(&rt, 42, "journal-0000000042.tfj");
+    expect_name(&rt, 9_999_999_999, "journal-9999999999.tfj");
+    expect_name(&rt, 10_000_000_000, "-");
+    expect_name(&rt, u64::MAX, "-");
 }

@@ -17,6 +17,8 @@ mod journals;
 #[cfg(test)]
 mod limits;
 #[cfg(test)]
+mod lines;
+#[cfg(test)]
 mod opened;
 #[cfg(test)]
 mod pieces;

@@ -3,7 +3,6 @@
 use crate::helpers::{A, info_of};
 use std::alloc::Global;
 use std::process::Abort;
-use std::test::Fail;
 use tfs_calls::{Methods, Refusal};
 
 /// Checks a refusal's number, name and status.
@@ -38,8 +37,8 @@ fn refusals_of_calls_have_their_rows(rt: HostRuntime) {
 }
 
 #[test]
-fn refusals_of_changes_have_their_rows(rt: HostRuntime) -> Result<(), Fail> {
-    is_row(&rt, Refusal::Locked(info_of(&rt, A)?), 15, "Locked", 423);
+fn refusals_of_changes_have_their_rows(rt: HostRuntime) {
+    is_row(&rt, Refusal::Locked(info_of(&rt, A)), 15, "Locked", 423);
     is_row(&rt, Refusal::JournalStopped, 14, "JournalStopped", 503);
     is_row(&rt, Refusal::LockLost, 16, "LockLost", 409);
     is_row(&rt, Refusal::LineageDiffers, 17, "LineageDiffers", 409);
@@ -48,7 +47,6 @@ fn refusals_of_changes_have_their_rows(rt: HostRuntime) -> Result<(), Fail> {
     is_row(&rt, Refusal::TableFull, 24, "TableFull", 507);
     is_row(&rt, Refusal::JournalFull, 25, "JournalFull", 507);
     is_row(&rt, Refusal::JournalFault, 27, "JournalFault", 500);
-    Ok(())
 }
 
 #[test]

@@ -4,7 +4,6 @@
 use crate::helpers::{act_of, text_of};
 use std::alloc::Global;
 use std::process::Abort;
-use std::test::Fail;
 use tfs_rules::{Name, Record, Verdict};
 
 /// The name of a verdict.
@@ -20,17 +19,13 @@ fn word_of(verdict: Verdict) -> &'static str {
 }
 
 /// The verdict on an act, a copy of which is committed where it is accepted.
-fn answer(
-    rt: &(impl Alloc<A = Global> + Abort),
-    record: &mut Record,
-    line: &str,
-) -> Result<Verdict, Fail> {
-    let act = act_of(rt, line)?.copy()?;
+fn answer(rt: &(impl Alloc<A = Global> + Abort), record: &mut Record, line: &str) -> Verdict {
+    let act = act_of(rt, line).copy().expect(rt, "memory");
     let verdict = record.verdict(&act);
     if verdict == Verdict::Accept {
         record.commit(act);
     }
-    Ok(verdict)
+    verdict
 }
 
 /// The state's text; nothing where there is none.
@@ -49,28 +44,27 @@ fn holder_of(record: &Record) -> &[u8] {
     }
 }
 
-/// Takes a line.
-fn follow(
+/// Whether what a line says is so.
+fn is_so(
     rt: &(impl Alloc<A = Global> + Abort),
     record: &mut Record,
-    line: &str,
-) -> Result<(), Fail> {
-    let (act, wanted) = line.rsplit_once(' ').expect(rt, "a line has words");
+    act: &str,
+    wanted: &str,
+) -> bool {
     match act {
-        "state" => assert!(rt; state_of(record) == text_of(wanted).as_bytes(), "{line}"),
-        "holder" => assert!(rt; holder_of(record) == text_of(wanted).as_bytes(), "{line}"),
-        _ => assert!(rt; word_of(answer(rt, record, act)?) == wanted, "{line}"),
+        "state" => state_of(record) == text_of(wanted).as_bytes(),
+        "holder" => holder_of(record) == text_of(wanted).as_bytes(),
+        _ => word_of(answer(rt, record, act)) == wanted,
     }
-    Ok(())
 }
 
 /// Takes lines in order, from the record of no acts on.
-fn follow_all(rt: &(impl Alloc<A = Global> + Abort), lines: &str) -> Result<(), Fail> {
+fn follow_all(rt: &(impl Alloc<A = Global> + Abort), lines: &str) {
     let mut record = Record::empty();
     for line in lines.lines() {
-        follow(rt, &mut record, line)?;
+        let (act, wanted) = line.rsplit_once(' ').expect(rt, "a line has words");
+        assert!(rt; is_so(rt, &mut record, act, wanted), "{line}");
     }
-    Ok(())
 }
 
 /// A lock, and identifiers that aren't its own.
@@ -84,8 +78,8 @@ unlock A Accept
 holder -";
 
 #[test]
-fn identifiers_of_locks_are_compared_byte_by_byte(rt: HostRuntime) -> Result<(), Fail> {
-    follow_all(&rt, IDENTIFIERS)
+fn identifiers_of_locks_are_compared_byte_by_byte(rt: HostRuntime) {
+    follow_all(&rt, IDENTIFIERS);
 }
 
 /// A state under a lock and without one.
@@ -101,8 +95,8 @@ delete - Accept
 state -";
 
 #[test]
-fn locks_and_unlocks_leave_the_state(rt: HostRuntime) -> Result<(), Fail> {
-    follow_all(&rt, STATES)
+fn locks_and_unlocks_leave_the_state(rt: HostRuntime) {
+    follow_all(&rt, STATES);
 }
 
 /// Pushes that two rules refuse.
@@ -118,25 +112,33 @@ state S2
 holder A";
 
 #[test]
-fn the_lock_is_looked_at_before_the_state(rt: HostRuntime) -> Result<(), Fail> {
-    follow_all(&rt, REFUSALS)
+fn the_lock_is_looked_at_before_the_state(rt: HostRuntime) {
+    follow_all(&rt, REFUSALS);
 }
 
 /// Whether a text is a name, which keeps it.
-fn is_name(rt: &impl Alloc<A = Global>, text: &str) -> Result<bool, Fail> {
-    match Name::read(String::from_str(rt.alloc(), text)?) {
-        Some(name) => Ok(name.copy()?.text() == text),
-        None => Ok(false),
+fn is_name(rt: &(impl Alloc<A = Global> + Abort), text: &str) -> bool {
+    let given = String::from_str(rt.alloc(), text).expect(rt, "memory");
+    match Name::read(given) {
+        Some(name) => name.copy().expect(rt, "memory").text() == text,
+        None => false,
     }
 }
 
+/// Looks at whether each of some texts, between which bars stand, is a name.
+fn expect_names(rt: &(impl Alloc<A = Global> + Abort), texts: &str, are_names: bool) {
+    for text in texts.split('|') {
+        assert!(rt; is_name(rt, text) == are_names, "{text}");
+    }
+}
+
+/// What are names, and what are none.
+const NAMES: &str = "a|Z|0|_|-|.|..|prod-eu_1.A|default";
+
+const NO_NAMES: &str = "| |a b|a/b|a%20b|a:b|a\n|\0|\u{e9}|a@|a[|a`|a{|/";
+
 #[test]
-fn a_name_has_letters_digits_and_three_signs(rt: HostRuntime) -> Result<(), Fail> {
-    for text in "a|Z|0|_|-|.|..|prod-eu_1.A|default".split('|') {
-        assert!(rt; is_name(&rt, text)?, "{text}");
-    }
-    for text in "| |a b|a/b|a%20b|a:b|a\n|\0|\u{e9}|a@|a[|a`|a{|/".split('|') {
-        assert!(rt; !is_name(&rt, text)?, "{text}");
-    }
-    Ok(())
+fn a_name_has_letters_digits_and_three_signs(rt: HostRuntime) {
+    expect_names(&rt, NAMES, true);
+    expect_names(&rt, NO_NAMES, false);
 }

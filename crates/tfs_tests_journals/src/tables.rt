@@ -1,9 +1,9 @@
 //! Tables over sinks in memory, also ones that fail at each call. A line has a change of `a` and its answer, or what the table shows.
 
 use crate::helpers::{draft_of, name_of, text_of};
+use crate::lines::{number_in, parts_of};
 use std::alloc::Global;
 use std::process::Abort;
-use std::test::Fail;
 use tfs_records::MemorySink;
 use tfs_rules::Name;
 use tfs_table::{OpenFault, Refusal, Table};
@@ -18,24 +18,24 @@ pub(crate) fn table_over(
     Table::new(rt.alloc(), MemorySink::new(rt.alloc(), step, calls))
 }
 
-/// An answer to a change: a position, or the name of a refusal.
-fn answer_word(rt: &impl Alloc<A = Global>, answer: &Result<u64, Refusal>) -> Result<String, Fail> {
-    match answer {
-        Ok(position) => Ok(format!(in rt.alloc(); "{position}")?),
-        Err(refusal) => Ok(String::from_str(rt.alloc(), refusal.name())?),
-    }
-}
-
 /// The answer to a change of a name.
 pub(crate) fn answer(
     rt: &(impl Alloc<A = Global> + Abort),
     table: &mut Table<MemorySink>,
     name: Name,
     change: &str,
-) -> Result<Result<u64, Refusal>, Fail> {
-    match draft_of(rt, change)? {
-        Ok(draft) => Ok(table.apply(name, draft)),
-        Err(refusal) => Ok(Err(refusal)),
+) -> Result<u64, Refusal> {
+    match draft_of(rt, change) {
+        Ok(draft) => table.apply(name, draft),
+        Err(refusal) => Err(refusal),
+    }
+}
+
+/// Whether an answer is the one that a word names: a position, or a refusal.
+fn is_named(answer: &Result<u64, Refusal>, word: &str) -> bool {
+    match answer {
+        Ok(position) => word.parse::<u64>().ok() == Some(*position),
+        Err(refusal) => refusal.name() == word,
     }
 }
 
@@ -56,43 +56,30 @@ fn number_of(table: &Table<MemorySink>, word: &str) -> usize {
     }
 }
 
-/// Takes a line.
-fn follow(
+/// Whether what a line says is so.
+fn is_so(
     rt: &(impl Alloc<A = Global> + Abort),
     table: &mut Table<MemorySink>,
-    line: &str,
-) -> Result<(), Fail> {
-    let (asked, wanted) = line.split_once(" = ").expect(rt, "a line has an answer");
-    let name = name_of(rt, "a")?;
+    asked: &str,
+    wanted: &str,
+) -> bool {
+    let name = name_of(rt, "a");
     match asked {
-        "state" => assert!(rt;
-            has_state(table, &name, text_of(wanted).as_bytes()),
-            "{line}"
-        ),
+        "state" => has_state(table, &name, text_of(wanted).as_bytes()),
         "entries" | "bytes" | "stopped" => {
-            let number = number_of(table, asked);
-            assert!(rt; wanted.parse::<usize>().ok() == Some(number), "{line}");
+            wanted.parse::<usize>().ok() == Some(number_of(table, asked))
         }
-        change => {
-            let given = answer(rt, table, name, change)?;
-            assert!(rt; answer_word(rt, &given)?.as_str() == wanted, "{line}");
-        }
+        change => is_named(&answer(rt, table, name, change), wanted),
     }
-    Ok(())
 }
 
 /// Takes lines in order, from a new table on, over a sink of so many bytes a call and so many calls.
-fn follow_all(
-    rt: &(impl Alloc<A = Global> + Abort),
-    step: usize,
-    calls: u64,
-    lines: &str,
-) -> Result<(), Fail> {
+fn follow_all(rt: &(impl Alloc<A = Global> + Abort), step: usize, calls: u64, lines: &str) {
     let mut table = table_over(rt, step, calls).ok().expect(rt, "a table");
     for line in lines.lines() {
-        follow(rt, &mut table, line)?;
+        let (asked, wanted) = parts_of(rt, line);
+        assert!(rt; is_so(rt, &mut table, asked, wanted), "{line}");
     }
-    Ok(())
 }
 
 /// A push and a lock, and what the table shows between them.
@@ -107,8 +94,8 @@ stopped = 0
 state = S1";
 
 #[test]
-fn a_push_and_a_lock_take_130_bytes(rt: HostRuntime) -> Result<(), Fail> {
-    follow_all(&rt, 4096, 100, KEPT)
+fn a_push_and_a_lock_take_130_bytes(rt: HostRuntime) {
+    follow_all(&rt, 4096, 100, KEPT);
 }
 
 /// A push at which the sink fails, and changes after it.
@@ -122,15 +109,14 @@ bytes = 147
 state = S1";
 
 #[test]
-fn a_stopped_table_takes_no_change(rt: HostRuntime) -> Result<(), Fail> {
-    follow_all(&rt, 50, 4, STOPPED)
+fn a_stopped_table_takes_no_change(rt: HostRuntime) {
+    follow_all(&rt, 50, 4, STOPPED);
 }
 
 /// Checks a section: how many calls the sink takes, of 50 bytes each, and lines.
-fn follow_section(rt: &(impl Alloc<A = Global> + Abort), section: &str) -> Result<(), Fail> {
+fn follow_section(rt: &(impl Alloc<A = Global> + Abort), section: &str) {
     let (calls, lines) = section.split_once('\n').expect(rt, "a section has lines");
-    let calls = calls.parse::<u64>().ok().expect(rt, "a number of calls");
-    follow_all(rt, 50, calls, lines)
+    follow_all(rt, 50, number_in(rt, calls), lines);
 }
 
 /// How many calls a sink takes, and what becomes of two pushes.
@@ -165,10 +151,9 @@ bytes = 163
 state = S2";
 
 #[test]
-fn a_sink_may_fail_at_each_call(rt: HostRuntime) -> Result<(), Fail> {
+fn a_sink_may_fail_at_each_call(rt: HostRuntime) {
     assert!(rt; table_over(&rt, 50, 0).err() == Some(OpenFault::SinkFault));
     for section in FAILING.split("\n\n") {
-        follow_section(&rt, section)?;
+        follow_section(&rt, section);
     }
-    Ok(())
 }

@@ -1,63 +1,47 @@
 //! Chains of resources, each of which depends on the one before: a change of the first reaches all others.
 
 use super::index::version_of;
-use std::alloc::Global;
+use std::alloc::{AllocError, Global};
 use std::process::Abort;
-use std::test::Fail;
 
 /// Writes the resource `t.cI`, which depends on the one before.
-fn push_link(list: &mut String, i: usize) -> Result<(), Fail> {
-    if i > 0 {
-        list.push(',')?;
-    }
-    write!(
-        list,
-        "{{\"mode\":\"managed\",\"type\":\"t\",\"name\":\"c{i}\","
-    )?;
-    let before = i.saturating_sub(1);
-    if i == 0 {
-        list.push_str("\"instances\":[{}]}")?;
-    } else {
-        write!(
+fn push_link(list: &mut String, i: usize) -> Result<(), AllocError> {
+    match i.checked_sub(1) {
+        None => list.push_str(r#"{"mode":"managed","type":"t","name":"c0","instances":[{}]}"#),
+        Some(before) => write!(
             list,
-            "\"instances\":[{{\"dependencies\":[\"t.c{before}\"]}}]}}"
-        )?;
+            ",{{\"mode\":\"managed\",\"type\":\"t\",\"name\":\"c{i}\",\"instances\":[{{\"dependencies\":[\"t.c{before}\"]}}]}}"
+        ),
     }
-    Ok(())
 }
 
 /// A chain of resources, each of which depends on the one before.
-fn chain(rt: &impl Alloc<A = Global>, count: usize) -> Result<String, Fail> {
+fn chain(rt: &(impl Alloc<A = Global> + Abort), count: usize) -> String {
     let mut list = String::new(rt.alloc());
     for i in 0..count {
-        push_link(&mut list, i)?;
+        push_link(&mut list, i).expect(rt, "memory");
     }
-    Ok(list)
+    list
 }
 
-/// Whether numbers are those from 1 up to a number.
-fn are_all_behind_the_first(numbers: &[usize], count: usize) -> bool {
-    numbers.len() == count.saturating_sub(1)
-        && numbers
-            .iter()
-            .enumerate()
-            .all(|(k, u)| k < *u && *u - k == 1)
+/// Compares numbers with those from 1 up to a number.
+fn expect_behind_the_first(rt: &impl Abort, numbers: &[usize], count: usize) {
+    assert!(rt; numbers.len() == count.saturating_sub(1), "of {count}");
+    for (k, u) in numbers.iter().enumerate() {
+        assert!(rt; k < *u && *u - k == 1, "{u} of {count}");
+    }
 }
 
 /// Looks at what the first of a chain reaches.
-fn expect_chain(rt: &(impl Alloc<A = Global> + Abort), count: usize) -> Result<(), Fail> {
-    let version = version_of(rt, chain(rt, count)?.as_str())?;
-    match version.any(rt.alloc(), &["t.c0"]) {
-        Ok(found) => assert!(rt; are_all_behind_the_first(&found, count), "of {count}"),
-        Err(fault) => panic!(rt; "{fault} of {count}"),
-    }
-    Ok(())
+fn expect_chain(rt: &(impl Alloc<A = Global> + Abort), count: usize) {
+    let version = version_of(rt, chain(rt, count).as_str());
+    let found = version.any(rt.alloc(), &["t.c0"]).expect(rt, "numbers");
+    expect_behind_the_first(rt, found.as_slice(), count);
 }
 
 #[test]
-fn the_first_of_a_chain_reaches_all_later_ones(rt: HostRuntime) -> Result<(), Fail> {
+fn the_first_of_a_chain_reaches_all_later_ones(rt: HostRuntime) {
     for count in [1, 63, 64, 65, 511, 512, 513, 2048, 2049, 4096] {
-        expect_chain(&rt, count)?;
+        expect_chain(&rt, count);
     }
-    Ok(())
 }

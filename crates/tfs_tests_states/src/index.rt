@@ -1,95 +1,58 @@
 //! What changes reach in states, worked out by hand. An answer is a list of numbers of instances, which begin with 0.
 
-use super::rows::parts_of;
-use std::alloc::Global;
+use super::both_ways::read;
+use super::rows::{expect_words, parts_of};
+use std::alloc::{AllocError, Global};
 use std::process::Abort;
 use std::sync::Arc;
-use std::test::Fail;
 use tfs_index::{ImpactFault, Version};
-use tfs_state::{Doc, MAX_STATE_BYTES};
 
 /// The version of a state with these resources, between which commas stand.
-pub(crate) fn version_of(
-    rt: &(impl Alloc<A = Global> + Abort),
-    resources: &str,
-) -> Result<Version, Fail> {
+pub(crate) fn version_of(rt: &(impl Alloc<A = Global> + Abort), resources: &str) -> Version {
     let text = format!(in rt.alloc();
         "{{\"version\":4,\"serial\":1,\"lineage\":\"L1\",\"resources\":[{resources}]}}"
-    )?;
-    assert!(rt; text.len() <= MAX_STATE_BYTES);
-    match Doc::read(rt.alloc(), text.as_bytes().to_vec(rt.alloc())?) {
-        Ok(doc) => built(rt, doc),
-        Err(fault) => panic!(rt; "{fault} in {resources}"),
-    }
+    );
+    let doc = read(rt, text.expect(rt, "memory").as_bytes()).expect(rt, "a state");
+    let doc = Arc::new(rt.alloc(), doc).ok().expect(rt, "memory");
+    Version::build(rt.alloc(), doc).expect(rt, "memory")
 }
 
-/// The version of a document.
-fn built(rt: &impl Alloc<A = Global>, doc: Doc) -> Result<Version, Fail> {
-    let doc = Arc::new(rt.alloc(), doc)?;
-    Ok(Version::build(rt.alloc(), doc)?)
-}
-
-/// Writes a list of numbers, or a fault.
-pub(crate) fn push_answer(
-    out: &mut String,
+/// An answer in words: the numbers, or the fault.
+pub(crate) fn words_of(
+    alloc: Global,
     answer: Result<Vec<usize>, ImpactFault>,
-) -> Result<(), Fail> {
+) -> Result<String, AllocError> {
     match answer {
-        Ok(numbers) => Ok(write!(out, "{:?}", numbers.as_slice())?),
-        Err(fault) => Ok(write!(out, "{fault:?}")?),
+        Ok(numbers) => format!(in alloc; "{:?}", numbers.as_slice()),
+        Err(fault) => format!(in alloc; "{fault:?}"),
     }
 }
 
-/// The answers of `any` and of `all`.
-pub(crate) fn answers_of(
-    rt: &impl Alloc<A = Global>,
-    version: &Version,
-    texts: &[&str],
-) -> Result<String, Fail> {
-    let mut out = String::new(rt.alloc());
-    push_answer(&mut out, version.any(rt.alloc(), texts))?;
-    out.push(' ')?;
-    push_answer(&mut out, version.all(rt.alloc(), texts))?;
-    Ok(out)
-}
-
-/// Compares both answers to texts.
-fn expect(
-    rt: &(impl Alloc<A = Global> + Abort),
-    version: &Version,
-    texts: &[&str],
-    wanted: &str,
-) -> Result<(), Fail> {
-    let found = answers_of(rt, version, texts)?;
-    assert!(rt; found.as_str() == wanted, "{found} of {texts:?}");
-    Ok(())
+/// Compares the answers of `any` and of `all` to texts.
+fn expect(rt: &(impl Alloc<A = Global> + Abort), version: &Version, texts: &[&str], wanted: &str) {
+    let (any, all) = wanted.split_once(" and ").expect(rt, "two answers");
+    let found = version.any(rt.alloc(), texts);
+    expect_words(rt, words_of(rt.alloc(), found), any);
+    let found = version.all(rt.alloc(), texts);
+    expect_words(rt, words_of(rt.alloc(), found), all);
 }
 
 /// Compares both answers to the texts of a row, between which bars stand.
-fn expect_row(
-    rt: &(impl Alloc<A = Global> + Abort),
-    version: &Version,
-    row: &str,
-) -> Result<(), Fail> {
+fn expect_row(rt: &(impl Alloc<A = Global> + Abort), version: &Version, row: &str) {
     let (line, wanted) = parts_of(rt, row);
     let mut texts = Vec::new(rt.alloc());
     for text in line.split(" | ") {
-        texts.push(text)?;
+        texts.push(text).ok().expect(rt, "memory");
     }
-    expect(rt, version, &texts, wanted)
+    expect(rt, version, &texts, wanted);
 }
 
 /// Compares the answers of rows of queries.
-fn expect_rows(
-    rt: &(impl Alloc<A = Global> + Abort),
-    resources: &str,
-    rows: &str,
-) -> Result<(), Fail> {
-    let version = version_of(rt, resources)?;
+fn expect_rows(rt: &(impl Alloc<A = Global> + Abort), resources: &str, rows: &str) {
+    let version = version_of(rt, resources);
     for row in rows.lines() {
-        expect_row(rt, &version, row)?;
+        expect_row(rt, &version, row);
     }
-    Ok(())
 }
 
 /// A chain of three, whose first depends on what isn't there.
@@ -99,15 +62,15 @@ const THREE: &str =
 {"mode":"managed","type":"t","name":"c","instances":[{"dependencies":["t.b"]}]}"#;
 
 /// Queries over [`THREE`].
-const OF_THREE: &str = "t.a => [1, 2] [1, 2]
-t.c => [] []
-x.y => UnknownAddress(0) UnknownAddress(0)
-t.a[0] => UnknownAddress(0) UnknownAddress(0)
- => UnknownAddress(0) UnknownAddress(0)";
+const OF_THREE: &str = "t.a => [1, 2] and [1, 2]
+t.c => [] and []
+x.y => UnknownAddress(0) and UnknownAddress(0)
+t.a[0] => UnknownAddress(0) and UnknownAddress(0)
+ => UnknownAddress(0) and UnknownAddress(0)";
 
 #[test]
-fn a_change_reaches_what_depends_on_it(rt: HostRuntime) -> Result<(), Fail> {
-    expect_rows(&rt, THREE, OF_THREE)
+fn a_change_reaches_what_depends_on_it(rt: HostRuntime) {
+    expect_rows(&rt, THREE, OF_THREE);
 }
 
 /// Whether a change of instance v reaches instance u.
@@ -115,19 +78,19 @@ fn reaches(version: &Version, v: usize, u: usize) -> bool {
     v < version.doc().len() && u < version.doc().len() && version.reaches(v, u)
 }
 
+/// Compares what instance v of a chain of three reaches with those behind it.
+fn expect_behind(rt: &impl Abort, version: &Version, v: usize) {
+    for u in 0..3 {
+        assert!(rt; reaches(version, v, u) == (v < u), "{v} and {u}");
+    }
+}
+
 #[test]
-fn an_instance_reaches_those_behind_it_in_a_chain(rt: HostRuntime) -> Result<(), Fail> {
-    let version = version_of(&rt, THREE)?;
-    for (v, u) in [(0, 1), (0, 2), (1, 2)] {
-        assert!(rt;
-            reaches(&version, v, u) && !reaches(&version, u, v),
-            "{v} and {u}"
-        );
+fn an_instance_reaches_those_behind_it_in_a_chain(rt: HostRuntime) {
+    let version = version_of(&rt, THREE);
+    for v in 0..3 {
+        expect_behind(&rt, &version, v);
     }
-    for i in 0..3 {
-        assert!(rt; !reaches(&version, i, i), "{i}");
-    }
-    Ok(())
 }
 
 /// Two instances that depend on each other, one that depends on itself, and one that depends on none.
@@ -138,14 +101,14 @@ const CYCLES: &str =
 {"mode":"managed","type":"t","name":"d","instances":[{"dependencies":[]}]}"#;
 
 /// Queries over [`CYCLES`].
-const OF_CYCLES: &str = "t.a => [0, 1] [0, 1]
-t.b | t.a => [0, 1] [0, 1]
-t.c => [2] [2]
-t.d => [] []";
+const OF_CYCLES: &str = "t.a => [0, 1] and [0, 1]
+t.b | t.a => [0, 1] and [0, 1]
+t.c => [2] and [2]
+t.d => [] and []";
 
 #[test]
-fn instances_of_a_cycle_reach_themselves(rt: HostRuntime) -> Result<(), Fail> {
-    expect_rows(&rt, CYCLES, OF_CYCLES)
+fn instances_of_a_cycle_reach_themselves(rt: HostRuntime) {
+    expect_rows(&rt, CYCLES, OF_CYCLES);
 }
 
 /// One resource in two instances of a module, and an instance that depends on both.
@@ -155,23 +118,22 @@ const MODULES: &str =
 {"mode":"managed","type":"t","name":"z","instances":[{"dependencies":["module.m[7].t.n"]}]}"#;
 
 /// Queries over [`MODULES`].
-const OF_MODULES: &str = r#"module.m[0].t.n => [2] [2]
-module.m["p.q]"].t.n => [2] [2]
-module.m.t.n => [2] [2]
-t.z => [] []
-t.z | module.m[7].t.n => UnknownAddress(1) UnknownAddress(1)
-t.z | module.m.t.n  => UnknownAddress(1) UnknownAddress(1)
-t.z | module.m => UnknownAddress(1) UnknownAddress(1)
-t.z | t.n => UnknownAddress(1) UnknownAddress(1)"#;
+const OF_MODULES: &str = r#"module.m[0].t.n => [2] and [2]
+module.m["p.q]"].t.n => [2] and [2]
+module.m.t.n => [2] and [2]
+t.z => [] and []
+t.z | module.m[7].t.n => UnknownAddress(1) and UnknownAddress(1)
+t.z | module.m.t.n  => UnknownAddress(1) and UnknownAddress(1)
+t.z | module.m => UnknownAddress(1) and UnknownAddress(1)
+t.z | t.n => UnknownAddress(1) and UnknownAddress(1)"#;
+
+/// A text that ends in a character too many.
+const OF_NO_MODULE: &str = "module.m[0].t.n\0 => UnknownAddress(0) and UnknownAddress(0)";
 
 #[test]
-fn texts_name_by_either_address(rt: HostRuntime) -> Result<(), Fail> {
-    expect_rows(&rt, MODULES, OF_MODULES)?;
-    expect_rows(
-        &rt,
-        MODULES,
-        "module.m[0].t.n\0 => UnknownAddress(0) UnknownAddress(0)",
-    )
+fn texts_name_by_either_address(rt: HostRuntime) {
+    expect_rows(&rt, MODULES, OF_MODULES);
+    expect_rows(&rt, MODULES, OF_NO_MODULE);
 }
 
 /// Instances with keys and a deposed object, of which one depends on another resource, and a data source.
@@ -181,17 +143,17 @@ const KEYS: &str = r#"{"mode":"managed","type":"t","name":"n","instances":
 {"mode":"data","type":"t","name":"n","instances":[{"dependencies":["t.n","t.n"]}]}"#;
 
 /// Queries over [`KEYS`].
-const OF_KEYS: &str = r#"t.n => [4] [4]
-t.n[0] => [4] [4]
-t.n["k"] => [4] [4]
-t.n[0] (deposed ab12) => [4] [4]
-t.a => [1, 4] [1, 4]
-data.t.n => [] []
-t.a | t.n[0] => [1, 4] [4]"#;
+const OF_KEYS: &str = r#"t.n => [4] and [4]
+t.n[0] => [4] and [4]
+t.n["k"] => [4] and [4]
+t.n[0] (deposed ab12) => [4] and [4]
+t.a => [1, 4] and [1, 4]
+data.t.n => [] and []
+t.a | t.n[0] => [1, 4] and [4]"#;
 
 #[test]
-fn a_resource_with_keys_is_named_as_a_whole_or_by_one(rt: HostRuntime) -> Result<(), Fail> {
-    expect_rows(&rt, KEYS, OF_KEYS)
+fn a_resource_with_keys_is_named_as_a_whole_or_by_one(rt: HostRuntime) {
+    expect_rows(&rt, KEYS, OF_KEYS);
 }
 
 /// Instances that depend on one of two, on both, or on none.
@@ -204,54 +166,63 @@ const FIVE: &str = r#"{"mode":"managed","type":"t","name":"a","instances":[{}]},
 {"mode":"managed","type":"u","name":"b","instances":[{"dependencies":["u.a"]}]}"#;
 
 /// Queries over [`FIVE`].
-const OF_FIVE: &str = "t.a => [2, 3] [2, 3]
-t.a | t.b => [2, 3, 4] [3]
-t.c => [] []
-t.a | t.c => [2, 3] []
-t.a | u.a => [2, 3, 6] []
-t.a | x.y => UnknownAddress(1) UnknownAddress(1)
-t.a | x.y | z => UnknownAddress(1) UnknownAddress(1)";
+const OF_FIVE: &str = "t.a => [2, 3] and [2, 3]
+t.a | t.b => [2, 3, 4] and [3]
+t.c => [] and []
+t.a | t.c => [2, 3] and []
+t.a | u.a => [2, 3, 6] and []
+t.a | x.y => UnknownAddress(1) and UnknownAddress(1)
+t.a | x.y | z => UnknownAddress(1) and UnknownAddress(1)";
 
 #[test]
-fn all_meets_what_any_unites(rt: HostRuntime) -> Result<(), Fail> {
-    expect_rows(&rt, FIVE, OF_FIVE)
+fn all_meets_what_any_unites(rt: HostRuntime) {
+    expect_rows(&rt, FIVE, OF_FIVE);
+}
+
+/// Compares both answers to a text, so many times.
+fn expect_many(
+    rt: &(impl Alloc<A = Global> + Abort),
+    version: &Version,
+    text: &str,
+    count: usize,
+    wanted: &str,
+) {
+    let texts = vec![in rt.alloc(); text; count].expect(rt, "memory");
+    expect(rt, version, &texts, wanted);
 }
 
 #[test]
-fn a_query_has_1_to_64_texts(rt: HostRuntime) -> Result<(), Fail> {
-    let version = version_of(&rt, FIVE)?;
-    expect(&rt, &version, &[], "NoAddress NoAddress")?;
-    expect(&rt, &version, &["t.a"; 64], "[2, 3] [2, 3]")?;
-    let many = "TooManyAddresses TooManyAddresses";
-    expect(&rt, &version, &["t.a"; 65], many)?;
-    expect(&rt, &version, &["x.y"; 65], many)
+fn a_query_has_1_to_64_texts(rt: HostRuntime) {
+    let version = version_of(&rt, FIVE);
+    expect_many(&rt, &version, "t.a", 0, "NoAddress and NoAddress");
+    expect_many(&rt, &version, "t.a", 64, "[2, 3] and [2, 3]");
+    let many = "TooManyAddresses and TooManyAddresses";
+    expect_many(&rt, &version, "t.a", 65, many);
+    expect_many(&rt, &version, "x.y", 65, many);
 }
 
+/// A query over a state without instances.
+const OF_NONE: &str = "t.a => UnknownAddress(0) and UnknownAddress(0)";
+
 #[test]
-fn a_state_without_instances_has_an_index(rt: HostRuntime) -> Result<(), Fail> {
-    let version = version_of(&rt, "")?;
+fn a_state_without_instances_has_an_index(rt: HostRuntime) {
+    let version = version_of(&rt, "");
     assert!(rt; version.doc().len() == 0);
-    expect(&rt, &version, &[], "NoAddress NoAddress")?;
-    expect_row(&rt, &version, "t.a => UnknownAddress(0) UnknownAddress(0)")
+    expect_many(&rt, &version, "t.a", 0, "NoAddress and NoAddress");
+    expect_row(&rt, &version, OF_NONE);
 }
 
 /// Compares the words of a fault.
-fn expect_words(
-    rt: &(impl Alloc<A = Global> + Abort),
-    fault: ImpactFault,
-    wanted: &str,
-) -> Result<(), Fail> {
-    let found = format!(in rt.alloc(); "{fault}")?;
-    assert!(rt; found.as_str() == wanted, "{found}");
-    Ok(())
+fn expect_fault(rt: &(impl Alloc<A = Global> + Abort), fault: ImpactFault, wanted: &str) {
+    expect_words(rt, format!(in rt.alloc(); "{fault}"), wanted);
 }
 
 #[test]
-fn faults_are_told_in_words(rt: HostRuntime) -> Result<(), Fail> {
-    expect_words(&rt, ImpactFault::NoAddress, "the query has no address")?;
+fn faults_are_told_in_words(rt: HostRuntime) {
+    expect_fault(&rt, ImpactFault::NoAddress, "the query has no address");
     let many = "the query has more than 64 addresses";
-    expect_words(&rt, ImpactFault::TooManyAddresses, many)?;
+    expect_fault(&rt, ImpactFault::TooManyAddresses, many);
     let unknown = "address 7 of the query names nothing";
-    expect_words(&rt, ImpactFault::UnknownAddress(7), unknown)?;
-    expect_words(&rt, ImpactFault::NoMemory, "no memory to answer the query")
+    expect_fault(&rt, ImpactFault::UnknownAddress(7), unknown);
+    expect_fault(&rt, ImpactFault::NoMemory, "no memory to answer the query");
 }

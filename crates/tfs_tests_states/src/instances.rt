@@ -1,80 +1,34 @@
 //! The instances of states: their addresses and what depends on what, worked out by hand, and the digests of texts.
 
-use super::both_ways::expect_both;
-use super::rows::{parts_of, repeated};
-use super::states::{one_resource, read, with_resources};
+use super::both_ways::words_of;
+use super::rows::{Judge, copies, expect_each, expect_rows, expect_text};
 use std::alloc::Global;
 use std::process::Abort;
-use std::test::Fail;
-use tfs_state::{Doc, text_digest};
-
-/// Writes the numbers of the instances that an instance depends on, and a mark where the numbers of texts say otherwise.
-fn push_dependencies(text: &mut String, doc: &Doc, u: usize) -> Result<(), Fail> {
-    let numbers = doc.numbers();
-    for v in 0..doc.len() {
-        if u < doc.len() && doc.depends(u, v) {
-            write!(text, " {v}")?;
-        }
-        if u < doc.len()
-            && doc.depends(u, v) != numbers.dependencies(u).contains(&numbers.config(v))
-        {
-            text.push('?')?;
-        }
-    }
-    Ok(())
-}
-
-/// Writes the line of an instance: its address, its configuration address, and the numbers of those that it depends on.
-fn push_line(text: &mut String, doc: &Doc, u: usize) -> Result<(), Fail> {
-    if !text.is_empty() {
-        text.push('\n')?;
-    }
-    if u < doc.len() {
-        write!(text, "{} of {}:", doc.address(u), doc.config(u))?;
-    }
-    push_dependencies(text, doc, u)
-}
-
-/// A line for each instance.
-pub(crate) fn listing_of(rt: &impl Alloc<A = Global>, doc: &Doc) -> Result<String, Fail> {
-    let mut text = String::new(rt.alloc());
-    for u in 0..doc.len() {
-        push_line(&mut text, doc, u)?;
-    }
-    Ok(text)
-}
+use tfs_state::text_digest;
 
 /// Compares the lines of a state's instances.
-pub(crate) fn expect_listing(
-    rt: &(impl Alloc<A = Global> + Abort),
-    text: &str,
-    wanted: &str,
-) -> Result<(), Fail> {
-    match read(rt, text.as_bytes())? {
-        Err(fault) => panic!(rt; "{fault} in {text}"),
-        Ok(doc) => {
-            let found = listing_of(rt, &doc)?;
-            assert!(rt; found.as_str() == wanted, "{found}\nin {text}");
-        }
+pub(crate) fn expect_listing(rt: &(impl Alloc<A = Global> + Abort), text: &str, wanted: &str) {
+    let words = words_of(rt, text.as_bytes());
+    let (_, listing) = words.split_once('\n').expect(rt, "a state");
+    expect_text(rt, listing, wanted);
+}
+
+/// The resources of a state.
+struct Resources;
+
+impl Judge for Resources {
+    fn judge(rt: &(impl Alloc<A = Global> + Abort), given: &str, wanted: &str) {
+        let text = format!(in rt.alloc();
+            "{{\"version\":4,\"serial\":1,\"lineage\":\"L1\",\"resources\":{given}}}"
+        );
+        expect_listing(rt, text.expect(rt, "memory").as_str(), wanted);
     }
-    expect_both(rt, text.as_bytes())?;
-    Ok(())
 }
 
-/// Compares the lines of a state with these resources.
-fn expect_listing_of(
-    rt: &(impl Alloc<A = Global> + Abort),
-    resources: &str,
-    wanted: &str,
-) -> Result<(), Fail> {
-    let text = with_resources(rt, resources)?;
-    expect_listing(rt, text.as_str(), wanted)
-}
-
-/// Instances with keys and deposed objects.
-const KEYS: &str =
-    r#"[{"index_key":0},{"index_key":"k"},{"index_key":0,"deposed":"ab12"},{"deposed":"","index_key":null},{"index_key":""},
-{"index_key":"a\"\u0007\u00e9/"},{"index_key":18446744073709551615}]"#;
+/// A resource of instances with keys and deposed objects.
+const KEYS: &str = r#"[{"mode":"managed","type":"t","name":"n","instances":
+[{"index_key":0},{"index_key":"k"},{"index_key":0,"deposed":"ab12"},{"deposed":"","index_key":null},{"index_key":""},
+{"index_key":"a\"\u0007\u00e9/"},{"index_key":18446744073709551615}]}]"#;
 
 /// The lines of [`KEYS`].
 const KEYS_LINES: &str = r#"t.n[0] of t.n:
@@ -86,9 +40,8 @@ t.n["a\"\u0007é/"] of t.n:
 t.n[18446744073709551615] of t.n:"#;
 
 #[test]
-fn keys_and_deposed_texts_are_in_the_address(rt: HostRuntime) -> Result<(), Fail> {
-    let resources = one_resource(&rt, KEYS)?;
-    expect_listing_of(&rt, resources.as_str(), KEYS_LINES)
+fn keys_and_deposed_texts_are_in_the_address(rt: HostRuntime) {
+    Resources::judge(&rt, KEYS, KEYS_LINES);
 }
 
 /// One resource each, with one instance, and its line.
@@ -101,18 +54,9 @@ const MODULES: &str =
 [{"module":"[0]","mode":"managed","type":"t","name":"n","instances":[{}]}] => [0].t.n of .t.n:
 [{"module":"m[1]","mode":"managed","type":"t[0]","name":"n]","instances":[{}]}] => m[1].t[0].n] of m.t[0].n]:"#;
 
-/// Compares the line of a row's resource.
-fn expect_row(rt: &(impl Alloc<A = Global> + Abort), row: &str) -> Result<(), Fail> {
-    let (resources, wanted) = parts_of(rt, row);
-    expect_listing_of(rt, resources, wanted)
-}
-
 #[test]
-fn modules_and_data_sources_are_in_both_addresses(rt: HostRuntime) -> Result<(), Fail> {
-    for row in MODULES.lines() {
-        expect_row(&rt, row)?;
-    }
-    Ok(())
+fn modules_and_data_sources_are_in_both_addresses(rt: HostRuntime) {
+    expect_rows::<Resources>(&rt, MODULES);
 }
 
 /// Resources with no instances.
@@ -123,11 +67,8 @@ const EMPTY: &str = r#"null
 [{"mode":"data","type":"t","name":"n","instances":[]}]"#;
 
 #[test]
-fn no_resources_are_no_instances(rt: HostRuntime) -> Result<(), Fail> {
-    for resources in EMPTY.lines() {
-        expect_listing_of(&rt, resources, "")?;
-    }
-    Ok(())
+fn no_resources_are_no_instances(rt: HostRuntime) {
+    expect_each::<Resources>(&rt, EMPTY, "");
 }
 
 /// Resources that depend on each other, on themselves, and on what isn't there; two have one address.
@@ -148,8 +89,8 @@ t.d of t.d: 5
 t.e of t.e: 4";
 
 #[test]
-fn dependencies_are_stripped_and_compared(rt: HostRuntime) -> Result<(), Fail> {
-    expect_listing_of(&rt, DEPENDENT, DEPENDENT_LINES)
+fn dependencies_are_stripped_and_compared(rt: HostRuntime) {
+    Resources::judge(&rt, DEPENDENT, DEPENDENT_LINES);
 }
 
 /// Instances of one module with two keys, and one that depends on both by a third key.
@@ -164,30 +105,29 @@ module.m[0].t.n of module.m.t.n:
 t.z of t.z: 0 1"#;
 
 #[test]
-fn keys_of_modules_play_no_part_in_dependencies(rt: HostRuntime) -> Result<(), Fail> {
-    expect_listing_of(&rt, KEYED_MODULES, KEYED_MODULES_LINES)
+fn keys_of_modules_play_no_part_in_dependencies(rt: HostRuntime) {
+    Resources::judge(&rt, KEYED_MODULES, KEYED_MODULES_LINES);
 }
 
 /// A resource in 20,000 modules, one in another, with one instance.
-fn deep_resource(rt: &impl Alloc<A = Global>) -> Result<String, Fail> {
-    let path = repeated(rt, "module.m[0].", 20_000)?;
-    Ok(format!(in rt.alloc();
+fn deep_resource(rt: &(impl Alloc<A = Global> + Abort)) -> String {
+    let path = copies(rt, "module.m[0].", 20_000);
+    let text = format!(in rt.alloc();
         "[{{\"module\":\"{path}x\",\"mode\":\"data\",\"type\":\"t\",\"name\":\"n\",\"instances\":[{{\"index_key\":7}}]}}]"
-    )?)
+    );
+    text.expect(rt, "memory")
 }
 
 /// The line of [`deep_resource`].
-fn deep_line(rt: &impl Alloc<A = Global>) -> Result<String, Fail> {
-    let path = repeated(rt, "module.m[0].", 20_000)?;
-    let bare = repeated(rt, "module.m.", 20_000)?;
-    Ok(format!(in rt.alloc(); "{path}x.data.t.n[7] of {bare}x.data.t.n:")?)
+fn deep_line(rt: &(impl Alloc<A = Global> + Abort)) -> String {
+    let path = copies(rt, "module.m[0].", 20_000);
+    let bare = copies(rt, "module.m.", 20_000);
+    format!(in rt.alloc(); "{path}x.data.t.n[7] of {bare}x.data.t.n:").expect(rt, "memory")
 }
 
 #[test]
-fn a_long_module_path_is_read(rt: HostRuntime) -> Result<(), Fail> {
-    let resources = deep_resource(&rt)?;
-    let wanted = deep_line(&rt)?;
-    expect_listing_of(&rt, resources.as_str(), wanted.as_str())
+fn a_long_module_path_is_read(rt: HostRuntime) {
+    Resources::judge(&rt, deep_resource(&rt).as_str(), deep_line(&rt).as_str());
 }
 
 /// Compares the digest of a text.

@@ -1,11 +1,10 @@
 //! Which bytes spell a JSON value, and what stands at its members, by hand from RFC 8259.
 
-use super::rows::parts_of;
+use super::rows::{expect_words, parts_of};
 use json::Scratch;
 use serde_json::Value;
-use std::alloc::Global;
+use std::alloc::{AllocError, Global};
 use std::process::Abort;
-use std::test::Fail;
 use tfs_json::{
     JsonFault, Tree, list_at, member_at, optional_text_at, read_kept, text_at, whole_number_at,
 };
@@ -32,47 +31,63 @@ id => None None Some(None) Some(0) false
 outputs => None None Some(None) Some(0) false
 Serial => None None Some(None) Some(0) false"#;
 
+/// How long the list is that may be absent.
+fn length_at(value: &Tree<'_>, name: &str) -> Option<usize> {
+    match list_at(value, name) {
+        Some(list) => Some(list.len()),
+        None => None,
+    }
+}
+
 /// What each call says of a member.
-fn answers_at(rt: &impl Alloc<A = Global>, value: &Tree<'_>, name: &str) -> Result<String, Fail> {
-    let number = whole_number_at(value, name);
-    let text = text_at(value, name);
-    let optional = optional_text_at(value, name);
-    let length = list_at(value, name).map(|list| list.len());
-    let is_there = member_at(value, name).is_some();
-    Ok(format!(in rt.alloc(); "{number:?} {text:?} {optional:?} {length:?} {is_there}")?)
+fn answers_at(alloc: Global, value: &Tree<'_>, name: &str) -> Result<String, AllocError> {
+    format!(in alloc;
+        "{:?} {:?} {:?} {:?} {:?}",
+        whole_number_at(value, name),
+        text_at(value, name),
+        optional_text_at(value, name),
+        length_at(value, name),
+        member_at(value, name).is_some()
+    )
 }
 
 /// Compares what is said of a row's member.
-fn expect_member(
-    rt: &(impl Alloc<A = Global> + Abort),
-    value: &Tree<'_>,
-    row: &str,
-) -> Result<(), Fail> {
+fn expect_member(rt: &(impl Alloc<A = Global> + Abort), value: &Tree<'_>, row: &str) {
     let (name, wanted) = parts_of(rt, row);
-    let found = answers_at(rt, value, name)?;
-    assert!(rt; found.as_str() == wanted, "{found} at {name}");
-    Ok(())
+    expect_words(rt, answers_at(rt.alloc(), value, name), wanted);
+}
+
+/// Compares what is said of each member of a value.
+fn expect_members(rt: &(impl Alloc<A = Global> + Abort), value: &Tree<'_>) {
+    for row in MEMBERS.lines() {
+        expect_member(rt, value, row);
+    }
 }
 
 #[test]
-fn members_are_read(rt: HostRuntime) -> Result<(), Fail> {
+fn members_are_read(rt: HostRuntime) {
     let mut scratch = Scratch::new(rt.alloc());
-    let value = read_kept(rt.alloc(), OBJECT.as_bytes(), &mut scratch)?;
-    for row in MEMBERS.lines() {
-        expect_member(&rt, &value, row)?;
+    match read_kept(rt.alloc(), OBJECT.as_bytes(), &mut scratch) {
+        Ok(value) => expect_members(&rt, &value),
+        Err(fault) => panic!(rt; "{fault:?}"),
     }
-    Ok(())
+}
+
+/// The fault of bytes that are read as a value.
+fn fault_of(alloc: Global, bytes: &[u8]) -> Option<JsonFault> {
+    let mut scratch = Scratch::new(alloc);
+    read_kept(alloc, bytes, &mut scratch).err()
 }
 
 /// Looks at whether bytes spell a value, for `serde_json` too; those that spell none are no JSON text.
 fn expect_value(rt: &(impl Alloc<A = Global> + Abort), bytes: &[u8], is_one: bool) {
     let is_read = Value::from_slice(rt.alloc(), bytes).is_ok();
-    assert!(rt; is_read == is_one, "{bytes:?}");
-    let mut scratch = Scratch::new(rt.alloc());
-    match read_kept(rt.alloc(), bytes, &mut scratch) {
-        Ok(_) => assert!(rt; is_one, "{bytes:?}"),
-        Err(fault) => assert!(rt; !is_one && fault == JsonFault::NotJson, "{bytes:?}"),
-    }
+    let fault = fault_of(rt.alloc(), bytes);
+    let is_wanted = match is_one {
+        true => fault == None,
+        false => fault == Some(JsonFault::NotJson),
+    };
+    assert!(rt; is_read == is_one && is_wanted, "{bytes:?}");
 }
 
 #[test]

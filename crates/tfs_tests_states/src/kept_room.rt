@@ -1,62 +1,60 @@
 //! States that are read one after another over one room: nothing that an earlier text left there is in a later answer.
 
-use super::rows::{parts_of, repeated};
+use super::rows::{copies, expect_words, parts_of};
 use super::states::TEXTS;
 use json::Scratch;
-use std::alloc::Global;
+use std::alloc::{AllocError, Global};
 use std::process::Abort;
-use std::test::Fail;
-use tfs_state::{Doc, MAX_STATE_BYTES};
+use tfs_state::{Doc, MAX_STATE_BYTES, StateFault};
 
-/// What a text is read as over a room: its serial and its lineage, or its fault.
-fn answer_over(
+/// Reads a text over a room.
+fn read_over(
     rt: &(impl Alloc<A = Global> + Abort),
-    text: &[u8],
+    text: &str,
     scratch: &mut Scratch,
-) -> Result<String, Fail> {
+) -> Result<Doc, StateFault> {
     assert!(rt; text.len() <= MAX_STATE_BYTES);
-    match Doc::read_over(rt.alloc(), text.to_vec(rt.alloc())?, scratch) {
-        Ok(doc) => Ok(format!(in rt.alloc(); "{} {:?}", doc.serial(), doc.lineage())?),
-        Err(fault) => Ok(format!(in rt.alloc(); "{fault:?}")?),
+    Doc::read_over(rt.alloc(), text.as_bytes().to_vec(rt.alloc())?, scratch)
+}
+
+/// What was read, in words: the serial and the lineage, or the fault.
+fn words_of(alloc: Global, read: Result<Doc, StateFault>) -> Result<String, AllocError> {
+    match read {
+        Ok(doc) => format!(in alloc; "{} {:?}", doc.serial(), doc.lineage()),
+        Err(fault) => format!(in alloc; "{fault:?}"),
     }
 }
 
 /// Compares the answer of a row.
-fn expect_over(
-    rt: &(impl Alloc<A = Global> + Abort),
-    row: &str,
-    scratch: &mut Scratch,
-) -> Result<(), Fail> {
+fn expect_over(rt: &(impl Alloc<A = Global> + Abort), row: &str, scratch: &mut Scratch) {
     let (text, wanted) = parts_of(rt, row);
-    let found = answer_over(rt, text.as_bytes(), scratch)?;
-    assert!(rt; found.as_str() == wanted, "{found}, and {wanted} is wanted");
-    Ok(())
+    let read = read_over(rt, text, scratch);
+    expect_words(rt, words_of(rt.alloc(), read), wanted);
 }
 
 /// Compares the answer of each text where a row's text is read before it, all over one room.
-fn expect_behind(rt: &(impl Alloc<A = Global> + Abort), before: &str) -> Result<(), Fail> {
+fn expect_behind(rt: &(impl Alloc<A = Global> + Abort), before: &str) {
     let mut scratch = Scratch::new(rt.alloc());
     for row in TEXTS.lines() {
-        expect_over(rt, before, &mut scratch)?;
-        expect_over(rt, row, &mut scratch)?;
+        expect_over(rt, before, &mut scratch);
+        expect_over(rt, row, &mut scratch);
     }
-    Ok(())
 }
 
 #[test]
-fn a_state_behind_a_long_one_is_read_as_it_is_alone(rt: HostRuntime) -> Result<(), Fail> {
-    let given = repeated(&rt, "\\u00e9\\n", 1_000)?;
-    let shown = repeated(&rt, "é\\n", 1_000)?;
+fn a_state_behind_a_long_one_is_read_as_it_is_alone(rt: HostRuntime) {
+    let given = copies(&rt, "\\u00e9\\n", 1_000);
+    let shown = copies(&rt, "é\\n", 1_000);
     let row = format!(in rt.alloc();
         "{{\"version\":4,\"serial\":9,\"lineage\":\"{given}\"}} => 9 \"{shown}\""
-    )?;
-    expect_behind(&rt, row.as_str())
+    );
+    expect_behind(&rt, row.expect(&rt, "memory").as_str());
 }
 
+/// A text that is refused within an escape.
+const REFUSED: &str = r#"{"version":4,"serial":9,"lineage":"\u00e9\u004d\t\u00 => NotJson"#;
+
 #[test]
-fn a_state_behind_a_refused_one_is_read_as_it_is_alone(rt: HostRuntime) -> Result<(), Fail> {
-    expect_behind(
-        &rt,
-        r#"{"version":4,"serial":9,"lineage":"\u00e9\u004d\t\u00 => NotJson"#,
-    )
+fn a_state_behind_a_refused_one_is_read_as_it_is_alone(rt: HostRuntime) {
+    expect_behind(&rt, REFUSED);
 }

@@ -1,64 +1,54 @@
 //! Texts of locks with their answers, by hand from RFC 8259 and from the limits of lock texts.
 
-use super::rows::{parts_of, repeated};
+use super::rows::{Judge, copies, expect_alike, expect_rows, expect_text};
 use serde_json::Value;
-use std::alloc::Global;
+use std::alloc::{AllocError, Global};
 use std::process::Abort;
-use std::test::Fail;
 use tfs_lock::LockInfo;
 
-/// What a text is read as: its identifier, or its fault.
-fn answer_of(rt: &(impl Alloc<A = Global> + Abort), text: &[u8]) -> Result<String, Fail> {
-    match LockInfo::read(rt.alloc(), text.to_vec(rt.alloc())?) {
-        Ok(info) => {
-            assert!(rt; info.bytes() == text, "the text is kept");
-            Ok(format!(in rt.alloc(); "{:?}", info.id().text())?)
-        }
-        Err(fault) => Ok(format!(in rt.alloc(); "{fault:?}")?),
+/// What a text is read as, in words: its identifier, or its fault.
+fn lock_words(alloc: Global, text: &[u8]) -> Result<String, AllocError> {
+    match LockInfo::read(alloc, text.to_vec(alloc)?) {
+        Ok(info) if info.bytes() == text => format!(in alloc; "{:?}", info.id().text()),
+        Ok(_) => String::from_str(alloc, "the text isn't kept"),
+        Err(fault) => format!(in alloc; "{fault:?}"),
     }
 }
 
-/// The same by the JSON value that `serde_json` reads of a text that isn't too long.
-fn plain_answer_of(rt: &impl Alloc<A = Global>, text: &[u8]) -> Result<String, Fail> {
-    let Ok(value) = Value::from_slice(rt.alloc(), text) else {
-        return Ok(String::from_str(rt.alloc(), "NotJson")?);
-    };
-    let id = value.get("ID").and_then(Value::as_str).unwrap_or("");
+/// The text of the identifier in a value, if there is one.
+fn id_of(value: &Value) -> &str {
+    match value.get("ID") {
+        Some(Value::String(text)) => text.as_str(),
+        _ => "",
+    }
+}
+
+/// What a value says, in words.
+fn value_words(alloc: Global, value: &Value) -> Result<String, AllocError> {
+    let id = id_of(value);
     let fault = match id.len() {
         _ if !value.is_object() => "NotObject",
         0 => "NoId",
-        1..=256 => return Ok(format!(in rt.alloc(); "{id:?}")?),
+        1..=256 => return format!(in alloc; "{id:?}"),
         _ => "TooLong",
     };
-    Ok(String::from_str(rt.alloc(), fault)?)
+    String::from_str(alloc, fault)
 }
 
-/// Compares the answer of a text with that of the plain reading.
-pub(crate) fn expect_both(
-    rt: &(impl Alloc<A = Global> + Abort),
-    text: &[u8],
-) -> Result<bool, Fail> {
-    let found = answer_of(rt, text)?;
-    let wanted = plain_answer_of(rt, text)?;
-    assert!(rt;
-        found == wanted,
-        "{found}, and {wanted} is wanted of {text:?}"
-    );
-    Ok(found.as_str().starts_with('"'))
+/// What a text that isn't too long is read as by the JSON value that `serde_json` reads, in words.
+fn plain_words(alloc: Global, text: &[u8]) -> Result<String, AllocError> {
+    match Value::from_slice(alloc, text) {
+        Ok(value) => value_words(alloc, &value),
+        Err(_) => String::from_str(alloc, "NotJson"),
+    }
 }
 
-/// Compares the answer of a text.
-fn expect(rt: &(impl Alloc<A = Global> + Abort), text: &[u8], wanted: &str) -> Result<(), Fail> {
-    let found = answer_of(rt, text)?;
-    assert!(rt; found.as_str() == wanted, "{found}, and {wanted} is wanted");
-    expect_both(rt, text)?;
-    Ok(())
-}
-
-/// Compares the answer of a row.
-fn expect_row(rt: &(impl Alloc<A = Global> + Abort), row: &str) -> Result<(), Fail> {
-    let (text, wanted) = parts_of(rt, row);
-    expect(rt, text.as_bytes(), wanted)
+/// What a text says, in words: its identifier in quotes, or its fault. Both ways say the same.
+pub(crate) fn words_of(rt: &(impl Alloc<A = Global> + Abort), text: &[u8]) -> String {
+    let wanted = plain_words(rt.alloc(), text).expect(rt, "memory");
+    let found = lock_words(rt.alloc(), text).expect(rt, "memory");
+    expect_alike(rt, text, found.as_str(), wanted.as_str());
+    found
 }
 
 /// A text each, with its answer: what is kept, what is no JSON text, what is no object, what is no identifier, escapes, which
@@ -111,51 +101,52 @@ true => NotObject
 {"ID":"A","ID":null} => NoId
 {"Who":7,"Info":[null,{}],"ID":"A","id":"B","Path":null,"more":{"ID":"C"}} => "A""#;
 
-#[test]
-fn a_text_is_read_or_has_its_first_fault(rt: HostRuntime) -> Result<(), Fail> {
-    for row in TEXTS.lines() {
-        expect_row(&rt, row)?;
+/// Texts.
+struct Texts;
+
+impl Judge for Texts {
+    fn judge(rt: &(impl Alloc<A = Global> + Abort), given: &str, wanted: &str) {
+        expect_text(rt, words_of(rt, given.as_bytes()).as_str(), wanted);
     }
-    Ok(())
-}
-
-/// Compares the answer of a text in whose midst a long filling stands.
-fn expect_filled(
-    rt: &(impl Alloc<A = Global> + Abort),
-    ends: (&str, &str),
-    filling: &str,
-    wanted: &str,
-) -> Result<(), Fail> {
-    let (front, back) = ends;
-    let text = format!(in rt.alloc(); "{front}{filling}{back}")?;
-    expect(rt, text.as_bytes(), wanted)
 }
 
 #[test]
-fn other_faults_are_told_before_a_long_id(rt: HostRuntime) -> Result<(), Fail> {
-    let filling = repeated(&rt, "a", 257)?;
-    expect_filled(&rt, ("{\"ID\":\"", "\""), filling.as_str(), "NotJson")?;
-    expect_filled(&rt, ("[{\"ID\":\"", "\"}]"), filling.as_str(), "NotObject")?;
-    expect_filled(&rt, ("{\"Who\":\"", "\"}"), filling.as_str(), "NoId")?;
-    expect_filled(&rt, ("{\"ID\":\"", "\"}"), filling.as_str(), "TooLong")
+fn a_text_is_read_or_has_its_first_fault(rt: HostRuntime) {
+    expect_rows::<Texts>(&rt, TEXTS);
+}
+
+/// A text each, in which `#` stands for 257 letters, and its answer.
+const FILLED: &str = r##"{"ID":"# => NotJson
+[{"ID":"#"}] => NotObject
+{"Who":"#"} => NoId
+{"ID":"#"} => TooLong"##;
+
+/// Texts in which `#` stands for 257 letters.
+struct Filled;
+
+impl Judge for Filled {
+    fn judge(rt: &(impl Alloc<A = Global> + Abort), given: &str, wanted: &str) {
+        let text = given.replace(rt.alloc(), '#', copies(rt, "a", 257).as_str());
+        Texts::judge(rt, text.expect(rt, "memory").as_str(), wanted);
+    }
+}
+
+#[test]
+fn other_faults_are_told_before_a_long_id(rt: HostRuntime) {
+    expect_rows::<Filled>(&rt, FILLED);
 }
 
 /// Compares the answer of a text whose identifier is an escape, so many times over.
-fn expect_escapes(
-    rt: &(impl Alloc<A = Global> + Abort),
-    escape: &str,
-    count: usize,
-    wanted: &str,
-) -> Result<(), Fail> {
-    let escapes = repeated(rt, escape, count)?;
-    expect_filled(rt, ("{\"ID\":\"", "\"}"), escapes.as_str(), wanted)
+fn expect_escapes(rt: &(impl Alloc<A = Global> + Abort), escape: &str, count: usize, wanted: &str) {
+    let text = format!(in rt.alloc(); "{{\"ID\":\"{}\"}}", copies(rt, escape, count));
+    Texts::judge(rt, text.expect(rt, "memory").as_str(), wanted);
 }
 
 #[test]
-fn the_length_of_an_id_is_that_after_decoding(rt: HostRuntime) -> Result<(), Fail> {
-    let letters = repeated(&rt, "A", 256)?;
-    let most = format!(in rt.alloc(); "{:?}", letters.as_str())?;
-    expect_escapes(&rt, "\\u0041", 256, most.as_str())?;
-    expect_escapes(&rt, "\\u0041", 257, "TooLong")?;
-    expect_escapes(&rt, "\\u00e9", 129, "TooLong")
+fn the_length_of_an_id_is_that_after_decoding(rt: HostRuntime) {
+    let most = format!(in rt.alloc(); "{:?}", copies(&rt, "A", 256).as_str());
+    let most = most.expect(&rt, "memory");
+    expect_escapes(&rt, "\\u0041", 256, most.as_str());
+    expect_escapes(&rt, "\\u0041", 257, "TooLong");
+    expect_escapes(&rt, "\\u00e9", 129, "TooLong");
 }

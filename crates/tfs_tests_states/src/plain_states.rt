@@ -1,24 +1,17 @@
 //! What a state says by the JSON value that `serde_json` reads of its text: what documents are compared with.
 
 use serde_json::Value;
-use std::alloc::Global;
+use std::alloc::{AllocError, Global};
 use tfs_addr::{AddrFault, Key, Mode, config_text, instance_text, strip};
 use tfs_state::StateFault;
 
-/// An instance as its text has it.
+/// What a state says of its instances.
 #[derive(Drop)]
-pub(crate) struct PlainInstance {
-    pub(crate) address: String,
-    pub(crate) config: String,
-    pub(crate) dependencies: Vec<String>,
-}
-
-/// What a state says.
-#[derive(Drop)]
-pub(crate) struct PlainState {
-    pub(crate) serial: u64,
-    pub(crate) lineage: String,
-    pub(crate) instances: Vec<PlainInstance>,
+struct Instances {
+    addresses: Vec<String>,
+    configs: Vec<String>,
+    /// The number of an instance, counted from 1, and a stripped address that it depends on.
+    dependencies: Vec<(usize, String)>,
 }
 
 /// The own members of a resource.
@@ -30,165 +23,255 @@ struct Resource<'v> {
     name: &'v str,
 }
 
-/// What a text says, or its first fault.
-pub(crate) fn read(alloc: Global, text: &[u8]) -> Result<PlainState, StateFault> {
-    let value = Value::from_slice(alloc, text).map_err(|_| StateFault::NotJson)?;
-    if value.get("version").and_then(Value::as_u64) != Some(4) {
+/// What a text says, in words: its serial and its lineage, and a line for each instance; or its first fault.
+pub(crate) fn words_of(alloc: Global, text: &[u8]) -> Result<String, StateFault> {
+    match Value::from_slice(alloc, text) {
+        Ok(value) => state_words(alloc, &value),
+        Err(_) => Err(StateFault::NotJson),
+    }
+}
+
+/// What the value of a text says.
+fn state_words(alloc: Global, value: &Value) -> Result<String, StateFault> {
+    if number_at(value, "version") != Some(4) {
         return Err(StateFault::Version);
     }
-    let Some(serial) = value.get("serial").and_then(Value::as_u64) else {
+    let Some(serial) = number_at(value, "serial") else {
         return Err(StateFault::Serial);
     };
-    let lineage = filled(value.get("lineage")).ok_or(StateFault::Lineage)?;
-    let list = list_at(&value, "resources").ok_or(StateFault::Resource(0))?;
-    let mut instances = Vec::new(alloc);
-    for (i, resource) in list.iter().enumerate() {
-        push_resource(alloc, &mut instances, resource, i)?;
+    let Some(lineage) = filled_at(value, "lineage") else {
+        return Err(StateFault::Lineage);
+    };
+    let Some(list) = list_at(value, "resources") else {
+        return Err(StateFault::Resource(0));
+    };
+    let front = format!(in alloc; "{serial} {lineage:?}\n")?;
+    instances_of(alloc, list)?.behind(front)
+}
+
+/// A whole number.
+fn number_at(value: &Value, name: &str) -> Option<u64> {
+    match value.get(name) {
+        Some(member) => member.as_u64(),
+        None => None,
     }
-    if 4096 < instances.len() {
-        return Err(StateFault::TooManyInstances);
-    }
-    Ok(PlainState {
-        serial,
-        lineage: String::from_str(alloc, lineage)?,
-        instances,
-    })
 }
 
 /// A text that isn't empty.
-fn filled(member: Option<&Value>) -> Option<&str> {
-    let text = member?.as_str()?;
-    if text.is_empty() { None } else { Some(text) }
-}
-
-/// What stands at a member. A null counts as nothing.
-fn member_at<'v>(value: &'v Value, name: &str) -> Option<&'v Value> {
-    let member = value.get(name)?;
-    if member.is_null() { None } else { Some(member) }
-}
-
-/// The elements of a list that may be absent.
-fn list_at<'v>(value: &'v Value, name: &str) -> Option<&'v [Value]> {
-    match member_at(value, name) {
-        Some(member) => Some(member.as_array()?.as_slice()),
-        None => Some(&[]),
+fn filled_at<'v>(value: &'v Value, name: &str) -> Option<&'v str> {
+    match value.get(name) {
+        Some(Value::String(text)) if !text.is_empty() => Some(text.as_str()),
+        _ => None,
     }
 }
 
-/// A text that may be absent.
+/// The elements of a list that may be absent. A null counts as nothing.
+fn list_at<'v>(value: &'v Value, name: &str) -> Option<&'v [Value]> {
+    match value.get(name) {
+        None | Some(Value::Null) => Some(&[]),
+        Some(Value::Array(list)) => Some(list.as_slice()),
+        Some(_) => None,
+    }
+}
+
+/// A text that may be absent. A null counts as nothing.
 fn text_at<'v>(value: &'v Value, name: &str) -> Option<Option<&'v str>> {
-    match member_at(value, name) {
-        Some(member) => Some(Some(member.as_str()?)),
-        None => Some(None),
+    match value.get(name) {
+        None | Some(Value::Null) => Some(None),
+        Some(Value::String(text)) => Some(Some(text.as_str())),
+        Some(_) => None,
+    }
+}
+
+/// The key of an instance, which may be absent. A null counts as nothing.
+fn key_of(value: &Value) -> Option<Option<Key<'_>>> {
+    match value.get("index_key") {
+        None | Some(Value::Null) => Some(None),
+        Some(Value::String(text)) => Some(Some(Key::Text(text.as_str()))),
+        Some(member) => Some(Some(Key::Number(member.as_u64()?))),
+    }
+}
+
+/// The mode of a resource.
+fn mode_of(value: &Value) -> Option<Mode> {
+    match filled_at(value, "mode") {
+        Some("managed") => Some(Mode::Managed),
+        Some("data") => Some(Mode::DataSource),
+        _ => None,
     }
 }
 
 /// The own members of a resource.
 fn resource_of(value: &Value) -> Option<Resource<'_>> {
-    let module = text_at(value, "module")?.unwrap_or("");
-    let mode = match value.get("mode")?.as_str()? {
-        "managed" => Mode::Managed,
-        "data" => Mode::DataSource,
-        _ => return None,
-    };
-    let kind = filled(value.get("type"))?;
-    let name = filled(value.get("name"))?;
     Some(Resource {
-        module,
-        mode,
-        kind,
-        name,
+        module: text_at(value, "module")?.unwrap_or(""),
+        mode: mode_of(value)?,
+        kind: filled_at(value, "type")?,
+        name: filled_at(value, "name")?,
     })
 }
 
-/// Reads the instances of resource i.
-fn push_resource(
-    alloc: Global,
-    instances: &mut Vec<PlainInstance>,
-    value: &Value,
-    i: usize,
-) -> Result<(), StateFault> {
-    let resource = resource_of(value).ok_or(StateFault::Resource(i))?;
-    let list = list_at(value, "instances").ok_or(StateFault::Resource(i))?;
-    let config = config_of(alloc, resource, i)?;
-    for (j, instance) in list.iter().enumerate() {
-        let config = config.clone()?;
-        let instance = instance_of(alloc, resource, config, instance, (i, j))?;
-        instances.push(instance).map_err(|_| StateFault::NoMemory)?;
+/// The instances of the resources.
+fn instances_of(alloc: Global, list: &[Value]) -> Result<Instances, StateFault> {
+    let mut instances = Instances {
+        addresses: Vec::new(alloc),
+        configs: Vec::new(alloc),
+        dependencies: Vec::new(alloc),
+    };
+    for (i, value) in list.iter().enumerate() {
+        instances.push_resource(alloc, value, i)?;
     }
-    Ok(())
+    if 4096 < instances.addresses.len() {
+        return Err(StateFault::TooManyInstances);
+    }
+    Ok(instances)
+}
+
+/// The fault of an address: that of the place where it stands.
+fn fault_of(fault: AddrFault, of_place: StateFault) -> StateFault {
+    match fault {
+        AddrFault::NoMemory => StateFault::NoMemory,
+        _ => of_place,
+    }
 }
 
 /// The configuration address of resource i.
 fn config_of(alloc: Global, resource: Resource<'_>, i: usize) -> Result<String, StateFault> {
-    let Resource {
-        module,
-        mode,
-        kind,
-        name,
-    } = resource;
-    match config_text(alloc, module, mode, kind, name) {
+    match config_text(
+        alloc,
+        resource.module,
+        resource.mode,
+        resource.kind,
+        resource.name,
+    ) {
         Ok(text) => Ok(text),
-        Err(AddrFault::NoMemory) => Err(StateFault::NoMemory),
-        Err(_) => Err(StateFault::Resource(i)),
+        Err(fault) => Err(fault_of(fault, StateFault::Resource(i))),
     }
 }
 
-/// Instance j of resource i.
-fn instance_of(
+/// The address of instance j of resource i.
+fn address_of(
     alloc: Global,
     resource: Resource<'_>,
-    config: String,
     value: &Value,
     place: (usize, usize),
-) -> Result<PlainInstance, StateFault> {
+) -> Result<String, StateFault> {
     let fault = StateFault::Instance(place.0, place.1);
     if !value.is_object() {
         return Err(fault);
     }
     let key = key_of(value).ok_or(fault)?;
     let deposed = text_at(value, "deposed").ok_or(fault)?;
-    let list = list_at(value, "dependencies").ok_or(fault)?;
-    let Resource {
-        module,
-        mode,
-        kind,
-        name,
-    } = resource;
-    let deposed = deposed.filter(|text| !text.is_empty());
-    Ok(PlainInstance {
-        address: instance_text(alloc, module, mode, kind, name, key, deposed)?,
-        config,
-        dependencies: dependencies_of(alloc, list, place)?,
-    })
+    Ok(instance_text(
+        alloc,
+        resource.module,
+        resource.mode,
+        resource.kind,
+        resource.name,
+        key,
+        filled(deposed),
+    )?)
 }
 
-/// The key of an instance.
-fn key_of(value: &Value) -> Option<Option<Key<'_>>> {
-    let Some(member) = member_at(value, "index_key") else {
-        return Some(None);
-    };
-    match member.as_u64() {
-        Some(number) => Some(Some(Key::Number(number))),
-        None => Some(Some(Key::Text(member.as_str()?))),
+/// A text that isn't empty.
+fn filled(text: Option<&str>) -> Option<&str> {
+    match text {
+        Some("") => None,
+        _ => text,
     }
 }
 
-/// The dependencies of an instance, stripped.
-fn dependencies_of(
-    alloc: Global,
-    list: &[Value],
-    place: (usize, usize),
-) -> Result<Vec<String>, StateFault> {
-    let mut dependencies = Vec::new(alloc);
-    for (k, value) in list.iter().enumerate() {
-        let fault = StateFault::Dependency(place.0, place.1, k);
-        let text = value.as_str().ok_or(fault)?;
-        match strip(alloc, text) {
-            Ok(bare) => dependencies.push(bare).map_err(|_| StateFault::NoMemory)?,
-            Err(AddrFault::NoMemory) => return Err(StateFault::NoMemory),
-            Err(_) => return Err(fault),
+impl Instances {
+    /// Reads the instances of resource i.
+    fn push_resource(&mut self, alloc: Global, value: &Value, i: usize) -> Result<(), StateFault> {
+        let resource = resource_of(value).ok_or(StateFault::Resource(i))?;
+        let list = list_at(value, "instances").ok_or(StateFault::Resource(i))?;
+        config_of(alloc, resource, i)?;
+        for (j, instance) in list.iter().enumerate() {
+            self.push_instance(alloc, resource, instance, (i, j))?;
         }
+        Ok(())
     }
-    Ok(dependencies)
+
+    /// Reads instance j of resource i.
+    fn push_instance(
+        &mut self,
+        alloc: Global,
+        resource: Resource<'_>,
+        value: &Value,
+        place: (usize, usize),
+    ) -> Result<(), StateFault> {
+        let fault = StateFault::Instance(place.0, place.1);
+        push(
+            &mut self.addresses,
+            address_of(alloc, resource, value, place)?,
+        )?;
+        push(&mut self.configs, config_of(alloc, resource, place.0)?)?;
+        let list = list_at(value, "dependencies").ok_or(fault)?;
+        for (k, value) in list.iter().enumerate() {
+            let fault = StateFault::Dependency(place.0, place.1, k);
+            self.push_dependency(alloc, value, fault)?;
+        }
+        Ok(())
+    }
+
+    /// Reads a dependency of the last instance.
+    fn push_dependency(
+        &mut self,
+        alloc: Global,
+        value: &Value,
+        fault: StateFault,
+    ) -> Result<(), StateFault> {
+        let bare = match strip(alloc, value.as_str().ok_or(fault)?) {
+            Ok(bare) => bare,
+            Err(of_text) => return Err(fault_of(of_text, fault)),
+        };
+        Ok(push(&mut self.dependencies, (self.configs.len(), bare))?)
+    }
+
+    /// Writes a line for each instance behind a text.
+    fn behind(&self, mut text: String) -> Result<String, StateFault> {
+        for u in 0..self.addresses.len() {
+            self.push_line(&mut text, u)?;
+        }
+        Ok(text)
+    }
+
+    /// Writes the line of an instance.
+    fn push_line(&self, text: &mut String, u: usize) -> Result<(), AllocError> {
+        let (Some(address), Some(config)) = (self.addresses.get(u), self.configs.get(u)) else {
+            return Ok(());
+        };
+        if 0 < u {
+            text.push('\n')?;
+        }
+        write!(text, "{address} of {config}:")?;
+        for (v, config) in self.configs.iter().enumerate() {
+            if self.depends(u, config) {
+                write!(text, " {v}")?;
+            }
+        }
+        Ok(())
+    }
+
+    /// Whether an instance depends on those of a configuration address.
+    fn depends(&self, u: usize, config: &String) -> bool {
+        for (of, text) in self.dependencies.iter() {
+            if *of == u.wrapping_add(1) && text == config {
+                return true;
+            }
+        }
+        false
+    }
+}
+
+/// Adds an element to a list.
+fn push<T>(list: &mut Vec<T>, element: T) -> Result<(), AllocError>
+where
+    T: Drop,
+{
+    match list.push(element) {
+        Ok(()) => Ok(()),
+        Err(_) => Err(AllocError),
+    }
 }

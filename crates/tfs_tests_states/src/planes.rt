@@ -2,7 +2,7 @@
 ghost use Rattle.std.specs.Prelude.{◌≡◌, ◌≤◌, IfOk};
 
 use super::plain_walks::reached;
-use super::shapes::{ACYCLIC, CYCLIC, Shape, has, pairs_of, plane_of, relate};
+use super::shapes::{NAMED, Shape, has, pairs_of, plane_of, relate};
 use std::alloc::{AllocError, Global};
 use std::process::Abort;
 use tfs_planes::{MAX, Plane, Row, count_words, equal_words, is_size, meet_words, union_words};
@@ -55,32 +55,27 @@ fn row_of(alloc: Global, size: usize, members: &[usize]) -> Result<Row, AllocErr
 }
 
 /// Compares the members of a row with a list, and their number.
-fn expect_members(
-    rt: &(impl Alloc<A = Global> + Abort),
-    row: &Row,
-    wanted: &[usize],
-) -> Result<(), AllocError> {
-    let members = row.members(rt.alloc())?;
+fn expect_members(rt: &(impl Alloc<A = Global> + Abort), row: &Row, wanted: &[usize]) {
+    let members = row.members(rt.alloc()).expect(rt, "memory");
     assert!(rt; members.as_slice() == wanted && row.count() == wanted.len());
-    Ok(())
 }
 
 #[test]
-fn a_row_is_a_set_of_numbers(rt: HostRuntime) -> Result<(), AllocError> {
-    let mut row = row_of(rt.alloc(), 65, &[64])?;
+fn a_row_is_a_set_of_numbers(rt: HostRuntime) {
+    let mut row = row_of(rt.alloc(), 65, &[64]).expect(&rt, "memory");
     assert!(rt; row.size() == 65);
-    expect_members(&rt, &row, &[64])?;
-    row.union_with(&row_of(rt.alloc(), 65, &[64, 0])?);
-    expect_members(&rt, &row, &[0, 64])?;
-    row.meet_with(&row_of(rt.alloc(), 65, &[0, 1])?);
-    expect_members(&rt, &row, &[0])?;
+    expect_members(&rt, &row, &[64]);
+    row.union_with(&row_of(rt.alloc(), 65, &[64, 0]).expect(&rt, "memory"));
+    expect_members(&rt, &row, &[0, 64]);
+    row.meet_with(&row_of(rt.alloc(), 65, &[0, 1]).expect(&rt, "memory"));
+    expect_members(&rt, &row, &[0]);
     row.clear();
-    expect_members(&rt, &row, &[])
+    expect_members(&rt, &row, &[]);
 }
 
 #[test]
-fn the_next_member_is_the_first_from_a_number_on(rt: HostRuntime) -> Result<(), AllocError> {
-    let row = row_of(rt.alloc(), 200, &[0, 1, 63, 64, 130, 199])?;
+fn the_next_member_is_the_first_from_a_number_on(rt: HostRuntime) {
+    let row = row_of(rt.alloc(), 200, &[0, 1, 63, 64, 130, 199]).expect(&rt, "memory");
     for (from, member) in [
         (0, 0),
         (1, 1),
@@ -95,28 +90,27 @@ fn the_next_member_is_the_first_from_a_number_on(rt: HostRuntime) -> Result<(), 
     for from in [200, 511, 512, 4096, usize::MAX] {
         assert!(rt; row.next_member(from) == None, "from {from}");
     }
-    Ok(())
 }
 
 #[test]
-fn rows_of_a_plane_are_copied_and_united(rt: HostRuntime) -> Result<(), AllocError> {
-    let mut plane = plane_of(rt.alloc(), 100, &[(3, 70), (4, 5)])?;
-    let mut row = Row::new(rt.alloc(), 100)?;
+fn rows_of_a_plane_are_copied_and_united(rt: HostRuntime) {
+    let mut plane = plane_of(rt.alloc(), 100, &[(3, 70), (4, 5)]).expect(&rt, "memory");
+    let mut row = Row::new(rt.alloc(), 100).expect(&rt, "memory");
     plane.row_into(3, &mut row);
-    expect_members(&rt, &row, &[70])?;
+    expect_members(&rt, &row, &[70]);
     plane.union_row_into(4, &mut row);
-    expect_members(&rt, &row, &[5, 70])?;
+    expect_members(&rt, &row, &[5, 70]);
     plane.clear();
     plane.row_into(3, &mut row);
-    expect_members(&rt, &row, &[])
+    expect_members(&rt, &row, &[]);
 }
 
 #[test]
-fn the_largest_plane_has_its_last_row(rt: HostRuntime) -> Result<(), AllocError> {
-    let plane = plane_of(rt.alloc(), MAX, &[(MAX - 1, MAX - 1)])?;
-    let mut row = Row::new(rt.alloc(), MAX)?;
+fn the_largest_plane_has_its_last_row(rt: HostRuntime) {
+    let plane = plane_of(rt.alloc(), MAX, &[(MAX - 1, MAX - 1)]).expect(&rt, "memory");
+    let mut row = Row::new(rt.alloc(), MAX).expect(&rt, "memory");
     plane.row_into(MAX - 1, &mut row);
-    expect_members(&rt, &row, &[MAX - 1])
+    expect_members(&rt, &row, &[MAX - 1]);
 }
 
 /// A plane in which each number is related to the next.
@@ -141,31 +135,43 @@ fn expect_link(rt: &impl Abort, plane: &Plane, i: usize) {
     );
 }
 
+/// Looks at the first number of a closed chain of this size, the one in its midst and the last one.
+fn expect_links(rt: &(impl Alloc<A = Global> + Abort), size: usize)
+    requires { size ≤ 4096 }
+{
+    let mut plane = chain(rt.alloc(), size).expect(rt, "memory");
+    plane.close();
+    expect_link(rt, &plane, 0);
+    expect_link(rt, &plane, size / 2);
+    expect_link(rt, &plane, size.saturating_sub(1));
+}
+
 #[test]
-fn a_closed_chain_leads_from_each_to_the_last(rt: HostRuntime) -> Result<(), AllocError> {
+fn a_closed_chain_leads_from_each_to_the_last(rt: HostRuntime) {
     for size in [1, 63, 64, 65, 511, 512, 513, 2048, 2049, 4096] {
-        let mut plane = chain(rt.alloc(), size)?;
-        plane.close();
-        expect_link(&rt, &plane, 0);
-        expect_link(&rt, &plane, size / 2);
-        expect_link(&rt, &plane, size - 1);
+        expect_links(&rt, size);
     }
-    Ok(())
+}
+
+/// Whether a row of a plane has these numbers and no others.
+fn has_only(plane: &Plane, i: usize, numbers: &[usize]) -> bool {
+    for j in 0..plane.size() {
+        if has(plane, i, j) != numbers.contains(&j) {
+            return false;
+        }
+    }
+    true
 }
 
 /// Whether a row of a plane has the numbers that the plain search finds from it.
 fn row_agrees(
-    alloc: Global,
+    rt: &(impl Alloc<A = Global> + Abort),
     plane: &Plane,
     pairs: &[(usize, usize)],
     i: usize,
-) -> Result<bool, AllocError> {
-    let found = reached(alloc, pairs, i)?;
-    let mut agrees = true;
-    for j in 0..plane.size() {
-        agrees &= has(plane, i, j) == found.contains(&j);
-    }
-    Ok(agrees)
+) -> bool {
+    let found = reached(rt.alloc(), pairs, i).expect(rt, "memory");
+    has_only(plane, i, &found)
 }
 
 /// The closure of a list of pairs.
@@ -178,66 +184,46 @@ fn closure_of(alloc: Global, size: usize, pairs: &[(usize, usize)]) -> Result<Pl
 }
 
 /// Compares the closure of a relation with what the plain search finds, from the last number and from each multiple of `step`.
-fn expect_closure(
-    rt: &(impl Alloc<A = Global> + Abort),
-    shape: Shape,
-    size: usize,
-    step: usize,
-) -> Result<(), AllocError>
+fn expect_closure(rt: &(impl Alloc<A = Global> + Abort), shape: Shape, size: usize, step: usize)
     requires { size ≤ 4096 }
 {
-    let pairs = pairs_of(rt.alloc(), shape, size)?;
-    let plane = closure_of(rt.alloc(), size, &pairs)?;
+    let pairs = pairs_of(rt.alloc(), shape, size).expect(rt, "memory");
+    let plane = closure_of(rt.alloc(), size, &pairs).expect(rt, "memory");
     for i in 0..size {
         if i % step.max(1) == 0 || i + 1 == size {
-            let agrees = row_agrees(rt.alloc(), &plane, &pairs, i)?;
+            let agrees = row_agrees(rt, &plane, &pairs, i);
             assert!(rt; agrees, "{shape:?} of {size} from {i}");
         }
     }
-    Ok(())
 }
 
 #[test]
-fn the_closure_of_small_random_relations_is_what_the_plain_search_finds(
-    rt: HostRuntime,
-) -> Result<(), AllocError> {
+fn the_closure_of_small_random_relations_is_what_the_plain_search_finds(rt: HostRuntime) {
     for size in 1..41 {
-        expect_closure(&rt, Shape::Random, size, 1)?;
+        expect_closure(&rt, Shape::Random, size, 1);
     }
-    Ok(())
 }
 
 #[test]
-fn the_closure_of_larger_random_relations_is_what_the_plain_search_finds(
-    rt: HostRuntime,
-) -> Result<(), AllocError> {
+fn the_closure_of_larger_random_relations_is_what_the_plain_search_finds(rt: HostRuntime) {
     for size in 41..201 {
-        expect_closure(&rt, Shape::Random, size, size / 2)?;
+        expect_closure(&rt, Shape::Random, size, size / 2);
     }
-    Ok(())
 }
 
 /// The same of relations of six sizes.
-fn expect_closures(
-    rt: &(impl Alloc<A = Global> + Abort),
-    shapes: &[Shape],
-) -> Result<(), AllocError> {
-    for shape in shapes {
-        for size in [0, 1, 2, 63, 64, 65] {
-            expect_closure(rt, *shape, size, size / 2)?;
-        }
+fn expect_closures(rt: &(impl Alloc<A = Global> + Abort), shape: Shape) {
+    for size in [0, 1, 2, 63, 64, 65] {
+        expect_closure(rt, shape, size, size / 2);
     }
-    Ok(())
 }
 
 #[test]
-fn the_closure_of_each_named_relation_is_what_the_plain_search_finds(
-    rt: HostRuntime,
-) -> Result<(), AllocError> {
-    expect_closures(&rt, &ACYCLIC)?;
-    expect_closures(&rt, &CYCLIC)?;
-    for shape in [Shape::Chain, Shape::FallingChain, Shape::Layered] {
-        expect_closure(&rt, shape, 130, 43)?;
+fn the_closure_of_each_named_relation_is_what_the_plain_search_finds(rt: HostRuntime) {
+    for shape in NAMED {
+        expect_closures(&rt, shape);
     }
-    Ok(())
+    for shape in [Shape::Chain, Shape::FallingChain, Shape::Layered] {
+        expect_closure(&rt, shape, 130, 43);
+    }
 }

@@ -1,40 +1,57 @@
-//! Rows of tests: a text has one in each line.
+//! Rows of tests: a text has one in each line, `GIVEN => WANTED`.
 
-use std::alloc::Global;
+use std::alloc::{AllocError, Global};
 use std::process::Abort;
-use std::test::Fail;
 
-/// What a row gives, and what is wanted of it, between which ` => ` stands.
+/// What judges the rows of a table.
+pub(crate) trait Judge {
+    /// Compares the answer to what a row gives with what is wanted of it.
+    fn judge(rt: &(impl Alloc<A = Global> + Abort), given: &str, wanted: &str);
+}
+
+/// Judges each row of a table.
+pub(crate) fn expect_rows<J: Judge>(rt: &(impl Alloc<A = Global> + Abort), rows: &str) {
+    for row in rows.lines() {
+        let (given, wanted) = parts_of(rt, row);
+        J::judge(rt, given, wanted);
+    }
+}
+
+/// Judges each line of a text, of which the same is wanted.
+pub(crate) fn expect_each<J: Judge>(
+    rt: &(impl Alloc<A = Global> + Abort),
+    lines: &str,
+    wanted: &str,
+) {
+    for line in lines.lines() {
+        J::judge(rt, line, wanted);
+    }
+}
+
+/// What a row gives, and what is wanted of it.
 pub(crate) fn parts_of<'t>(rt: &impl Abort, row: &'t str) -> (&'t str, &'t str) {
-    match row.split_once(" => ") {
-        Some(parts) => parts,
-        None => panic!(rt; "a row has two parts: {row}"),
-    }
+    row.split_once(" => ").expect(rt, "a row has two parts")
 }
 
-/// The text with so many copies of a character behind it.
-pub(crate) fn followed_by(
-    rt: &impl Alloc<A = Global>,
-    text: &str,
-    count: usize,
-    character: char,
-) -> Result<String, Fail> {
-    let mut text = String::from_str(rt.alloc(), text)?;
-    for _ in 0..count {
-        text.push(character)?;
-    }
-    Ok(text)
+/// So many copies of a text.
+pub(crate) fn copies(rt: &(impl Alloc<A = Global> + Abort), text: &str, count: usize) -> String {
+    text.repeat(rt.alloc(), count).expect(rt, "memory")
 }
 
-/// The text that a piece gives, so many times over.
-pub(crate) fn repeated(
-    rt: &impl Alloc<A = Global>,
-    piece: &str,
-    count: usize,
-) -> Result<String, Fail> {
-    let mut text = String::new(rt.alloc());
-    for _ in 0..count {
-        text.push_str(piece)?;
-    }
-    Ok(text)
+/// Compares two texts.
+pub(crate) fn expect_text(rt: &impl Abort, found: &str, wanted: &str) {
+    assert!(rt; found == wanted, "{found}, and {wanted} is wanted");
+}
+
+/// Compares an answer in words.
+pub(crate) fn expect_words(rt: &impl Abort, found: Result<String, AllocError>, wanted: &str) {
+    expect_text(rt, found.expect(rt, "memory").as_str(), wanted);
+}
+
+/// Compares what a text is read as with what `serde_json` reads of it.
+pub(crate) fn expect_alike(rt: &impl Abort, text: &[u8], found: &str, wanted: &str) {
+    assert!(rt;
+        found == wanted,
+        "{found}\nand wanted is\n{wanted}\nof {text:?}"
+    );
 }

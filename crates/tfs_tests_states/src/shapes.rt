@@ -27,17 +27,17 @@ pub(crate) enum Shape {
     Random,
 }
 
-/// The relations that have no cycle but for a number that is related to itself.
-pub(crate) const ACYCLIC: [Shape; 5] = [
+/// The relations with a name of their own: five that have no cycle but for a number that is related to itself, and three that have one.
+pub(crate) const NAMED: [Shape; 8] = [
     Shape::Chain,
     Shape::FallingChain,
     Shape::Layered,
     Shape::Groups,
     Shape::GroupsWithSelfPairs,
+    Shape::Dense,
+    Shape::GroupsWithCycle,
+    Shape::CycleOfTwo,
 ];
-
-/// The relations that have a cycle of two numbers or more.
-pub(crate) const CYCLIC: [Shape; 3] = [Shape::Dense, Shape::GroupsWithCycle, Shape::CycleOfTwo];
 
 /// A number without pattern.
 fn mixed(i: usize, j: usize, size: usize) -> u64

@@ -1,46 +1,29 @@
 //! Texts of states with their answers, by hand from RFC 8259 and from Terraform's state format, version 4.
 
-use super::both_ways::expect_both;
-use super::rows::{parts_of, repeated};
+use super::both_ways::words_of;
+use super::rows::{Judge, expect_each, expect_rows, expect_text, expect_words};
 use std::alloc::Global;
 use std::process::Abort;
-use std::test::Fail;
+use tfs_state::StateFault;
 use tfs_state::StateFault::{Dependency, Instance, Resource, TooManyInstances};
-use tfs_state::{Doc, MAX_STATE_BYTES, StateFault};
 
-/// Reads a text.
-pub(crate) fn read(
-    rt: &(impl Alloc<A = Global> + Abort),
-    text: &[u8],
-) -> Result<Result<Doc, StateFault>, Fail> {
-    assert!(rt; text.len() <= MAX_STATE_BYTES);
-    Ok(Doc::read(rt.alloc(), text.to_vec(rt.alloc())?))
+/// Compares the serial and the lineage of a text, or its fault.
+pub(crate) fn expect(rt: &(impl Alloc<A = Global> + Abort), text: &str, wanted: &str) {
+    let words = words_of(rt, text.as_bytes());
+    let front = words.lines().next().expect(rt, "words");
+    expect_text(rt, front, wanted);
 }
 
-/// What a text is read as: its serial and its lineage, or its fault.
-fn answer_of(rt: &(impl Alloc<A = Global> + Abort), text: &[u8]) -> Result<String, Fail> {
-    match read(rt, text)? {
-        Ok(doc) => Ok(format!(in rt.alloc(); "{} {:?}", doc.serial(), doc.lineage())?),
-        Err(fault) => Ok(format!(in rt.alloc(); "{fault:?}")?),
-    }
-}
-
-/// Compares the answer of a text.
-pub(crate) fn expect(
+/// The same of a text whose midst is given.
+fn expect_between(
     rt: &(impl Alloc<A = Global> + Abort),
-    text: &[u8],
+    ends: (&str, &str),
+    given: &str,
     wanted: &str,
-) -> Result<(), Fail> {
-    let found = answer_of(rt, text)?;
-    assert!(rt; found.as_str() == wanted, "{found}, and {wanted} is wanted");
-    expect_both(rt, text)?;
-    Ok(())
-}
-
-/// Compares the answer of a row.
-fn expect_row(rt: &(impl Alloc<A = Global> + Abort), row: &str) -> Result<(), Fail> {
-    let (text, wanted) = parts_of(rt, row);
-    expect(rt, text.as_bytes(), wanted)
+) {
+    let (front, back) = ends;
+    let text = format!(in rt.alloc(); "{front}{given}{back}").expect(rt, "memory");
+    expect(rt, text.as_str(), wanted);
 }
 
 /// A text each, with its answer: the version, the serial, the lineage, which fault comes first, which of two members counts,
@@ -98,66 +81,36 @@ abc => NotJson
 {"version":04,"serial":1,"lineage":"L1"} => NotJson
 {"version":4,"serial":1,"lineage":"\ud800"} => NotJson"#;
 
-#[test]
-fn a_text_is_read_or_has_its_first_fault(rt: HostRuntime) -> Result<(), Fail> {
-    for row in TEXTS.lines() {
-        expect_row(&rt, row)?;
+/// Texts.
+struct Texts;
+
+impl Judge for Texts {
+    fn judge(rt: &(impl Alloc<A = Global> + Abort), given: &str, wanted: &str) {
+        expect(rt, given, wanted);
     }
-    Ok(())
 }
+
+#[test]
+fn a_text_is_read_or_has_its_first_fault(rt: HostRuntime) {
+    expect_rows::<Texts>(&rt, TEXTS);
+}
+
+/// What stands before and behind a further member of a state.
+const MEMBER: (&str, &str) = (r#"{"version":4,"serial":1,"lineage":"L1","x":"#, "}");
 
 /// Compares the answer of a state with a member in which so many lists stand one in another.
-fn expect_lists(
-    rt: &(impl Alloc<A = Global> + Abort),
-    count: usize,
-    wanted: &str,
-) -> Result<(), Fail> {
-    let open = repeated(rt, "[", count)?;
-    let close = repeated(rt, "]", count)?;
-    let text = format!(in rt.alloc();
-        "{{\"version\":4,\"serial\":1,\"lineage\":\"L1\",\"x\":{open}{close}}}"
-    )?;
-    expect(rt, text.as_bytes(), wanted)
+fn expect_lists(rt: &(impl Alloc<A = Global> + Abort), count: usize, wanted: &str) {
+    let mut lists = "[".repeat(rt.alloc(), count).expect(rt, "memory");
+    for _ in 0..count {
+        lists.push(']').expect(rt, "memory");
+    }
+    expect_between(rt, MEMBER, lists.as_str(), wanted);
 }
 
 #[test]
-fn values_nest_at_most_127_deep(rt: HostRuntime) -> Result<(), Fail> {
-    expect_lists(&rt, 126, "1 \"L1\"")?;
-    expect_lists(&rt, 127, "NotJson")
-}
-
-/// A state with these resources.
-pub(crate) fn with_resources(rt: &impl Alloc<A = Global>, resources: &str) -> Result<String, Fail> {
-    Ok(format!(in rt.alloc();
-        "{{\"version\":4,\"serial\":1,\"lineage\":\"L1\",\"resources\":{resources}}}"
-    )?)
-}
-
-/// A list of one resource, `t.n`, of these instances.
-pub(crate) fn one_resource(rt: &impl Alloc<A = Global>, instances: &str) -> Result<String, Fail> {
-    Ok(format!(in rt.alloc();
-        "[{{\"mode\":\"managed\",\"type\":\"t\",\"name\":\"n\",\"instances\":{instances}}}]"
-    )?)
-}
-
-/// Compares the answer of a state with these resources.
-fn expect_of_resources(
-    rt: &(impl Alloc<A = Global> + Abort),
-    resources: &str,
-    wanted: &str,
-) -> Result<(), Fail> {
-    let text = with_resources(rt, resources)?;
-    expect(rt, text.as_bytes(), wanted)
-}
-
-/// Compares the answer of a state with one resource of these instances.
-fn expect_of_instances(
-    rt: &(impl Alloc<A = Global> + Abort),
-    instances: &str,
-    wanted: &str,
-) -> Result<(), Fail> {
-    let resources = one_resource(rt, instances)?;
-    expect_of_resources(rt, resources.as_str(), wanted)
+fn values_nest_at_most_127_deep(rt: HostRuntime) {
+    expect_lists(&rt, 126, "1 \"L1\"");
+    expect_lists(&rt, 127, "NotJson");
 }
 
 /// A list of resources each, or what is no such list, with its first fault.
@@ -188,18 +141,24 @@ false => Resource(0)
 [{"mode":"managed","type":"t","name":"n","instances":[{"dependencies":["a["]},{"index_key":-1}]},{"mode":"x"}] => Dependency(0, 0, 0)
 [{"mode":"managed","type":"t","name":"","instances":[{"dependencies":["a["]},{"index_key":-1}]},{"mode":"x"}] => Resource(0)"#;
 
-/// Compares the answer of a state with a row's resources.
-fn expect_resources(rt: &(impl Alloc<A = Global> + Abort), row: &str) -> Result<(), Fail> {
-    let (resources, wanted) = parts_of(rt, row);
-    expect_of_resources(rt, resources, wanted)
+/// What stands before and behind the resources of a state.
+const STATE: (&str, &str) = (
+    r#"{"version":4,"serial":1,"lineage":"L1","resources":"#,
+    "}",
+);
+
+/// The resources of a state.
+struct Resources;
+
+impl Judge for Resources {
+    fn judge(rt: &(impl Alloc<A = Global> + Abort), given: &str, wanted: &str) {
+        expect_between(rt, STATE, given, wanted);
+    }
 }
 
 #[test]
-fn the_first_fault_of_the_resources_has_its_numbers(rt: HostRuntime) -> Result<(), Fail> {
-    for row in RESOURCES.lines() {
-        expect_resources(&rt, row)?;
-    }
-    Ok(())
+fn the_first_fault_of_the_resources_has_its_numbers(rt: HostRuntime) {
+    expect_rows::<Resources>(&rt, RESOURCES);
 }
 
 /// What is no instance, one each.
@@ -222,18 +181,25 @@ true
 {"dependencies":"t.a"}
 {"dependencies":["a["],"deposed":1}"#;
 
-/// Compares the answer where what is no instance stands third.
-fn expect_no_instance(rt: &(impl Alloc<A = Global> + Abort), instance: &str) -> Result<(), Fail> {
-    let instances = format!(in rt.alloc(); "[{{}},{{\"dependencies\":null}},{instance},null]")?;
-    expect_of_instances(rt, instances.as_str(), "Instance(0, 2)")
+/// What stands before and behind the third instance of a resource.
+const INSTANCES: (&str, &str) = (
+    r#"{"version":4,"serial":1,"lineage":"L1","resources":[
+{"mode":"managed","type":"t","name":"n","instances":[{},{"dependencies":null},"#,
+    ",null]}]}",
+);
+
+/// The third instance of a resource.
+struct Instances;
+
+impl Judge for Instances {
+    fn judge(rt: &(impl Alloc<A = Global> + Abort), given: &str, wanted: &str) {
+        expect_between(rt, INSTANCES, given, wanted);
+    }
 }
 
 #[test]
-fn a_fault_of_an_instance_has_its_numbers(rt: HostRuntime) -> Result<(), Fail> {
-    for instance in NO_INSTANCES.lines() {
-        expect_no_instance(&rt, instance)?;
-    }
-    Ok(())
+fn a_fault_of_an_instance_has_its_numbers(rt: HostRuntime) {
+    expect_each::<Instances>(&rt, NO_INSTANCES, "Instance(0, 2)");
 }
 
 /// What is no dependency, one each.
@@ -249,52 +215,39 @@ false
 "a[1x]"
 "a[\"x\"""#;
 
-/// Compares the answer where what is no dependency stands third.
-fn expect_no_dependency(
-    rt: &(impl Alloc<A = Global> + Abort),
-    dependency: &str,
-) -> Result<(), Fail> {
-    let instances = format!(in rt.alloc();
-        "[{{}},{{\"dependencies\":[\"a\",\"a[0]\",{dependency},7]}},7]"
-    )?;
-    expect_of_instances(rt, instances.as_str(), "Dependency(0, 1, 2)")
+/// What stands before and behind the third dependency of an instance.
+const DEPENDENCIES: (&str, &str) = (
+    r#"{"version":4,"serial":1,"lineage":"L1","resources":[
+{"mode":"managed","type":"t","name":"n","instances":[{},{"dependencies":["a","a[0]","#,
+    ",7]},7]}]}",
+);
+
+/// The third dependency of an instance.
+struct Dependencies;
+
+impl Judge for Dependencies {
+    fn judge(rt: &(impl Alloc<A = Global> + Abort), given: &str, wanted: &str) {
+        expect_between(rt, DEPENDENCIES, given, wanted);
+    }
 }
 
 #[test]
-fn a_fault_of_a_dependency_has_its_numbers(rt: HostRuntime) -> Result<(), Fail> {
-    for dependency in NO_DEPENDENCIES.lines() {
-        expect_no_dependency(&rt, dependency)?;
-    }
-    Ok(())
+fn a_fault_of_a_dependency_has_its_numbers(rt: HostRuntime) {
+    expect_each::<Dependencies>(&rt, NO_DEPENDENCIES, "Dependency(0, 1, 2)");
 }
 
 /// Compares the words of a fault.
-fn expect_words(
-    rt: &(impl Alloc<A = Global> + Abort),
-    fault: StateFault,
-    wanted: &str,
-) -> Result<(), Fail> {
-    let words = format!(in rt.alloc(); "{fault}")?;
-    assert!(rt; words.as_str() == wanted, "{words}");
-    Ok(())
+fn expect_fault(rt: &(impl Alloc<A = Global> + Abort), fault: StateFault, wanted: &str) {
+    expect_words(rt, format!(in rt.alloc(); "{fault}"), wanted);
 }
 
 #[test]
-fn faults_are_told_in_words(rt: HostRuntime) -> Result<(), Fail> {
-    expect_words(&rt, Resource(3), "resource 3 of the state isn't one")?;
-    expect_words(
-        &rt,
-        Instance(3, 1),
-        "instance 1 of resource 3 of the state isn't one",
-    )?;
-    expect_words(
-        &rt,
-        Dependency(3, 1, 2),
-        "dependency 2 of instance 1 of resource 3 of the state is no address",
-    )?;
-    expect_words(
-        &rt,
-        TooManyInstances,
-        "the state has more than 4096 instances",
-    )
+fn faults_are_told_in_words(rt: HostRuntime) {
+    expect_fault(&rt, Resource(3), "resource 3 of the state isn't one");
+    let instance = "instance 1 of resource 3 of the state isn't one";
+    expect_fault(&rt, Instance(3, 1), instance);
+    let dependency = "dependency 2 of instance 1 of resource 3 of the state is no address";
+    expect_fault(&rt, Dependency(3, 1, 2), dependency);
+    let many = "the state has more than 4096 instances";
+    expect_fault(&rt, TooManyInstances, many);
 }

@@ -1,11 +1,11 @@
 //! A state as Terraform writes it, after its published layout, with each address and each dependency by hand.
+ghost use Rattle.std.specs.Prelude.{◌<◌, length};
 
+use super::both_ways::read;
 use super::instances::expect_listing;
 use super::states::expect;
-use std::alloc::Global;
 use std::process::Abort;
-use std::test::Fail;
-use tfs_state::{Doc, MAX_STATE_BYTES, text_digest};
+use tfs_state::{Doc, text_digest};
 
 /// The state: a network module for each of two zones, servers by `count` and by `for_each`, and data sources.
 const STATE: &str = r#"{
@@ -129,28 +129,11 @@ module.tail.cloud_key.ssh[""] of module.tail.cloud_key.ssh:
 module.tail.cloud_key.ssh[18446744073709551615] of module.tail.cloud_key.ssh:
 module.tail.cloud_key.ssh of module.tail.cloud_key.ssh: 27 28 29"#;
 
-/// Reads the state.
-fn read_state(rt: &(impl Alloc<A = Global> + Abort)) -> Result<Doc, Fail> {
-    assert!(rt; STATE.len() <= MAX_STATE_BYTES);
-    Ok(Doc::read(rt.alloc(), STATE.as_bytes().to_vec(rt.alloc())?)?)
-}
-
-/// The address in a line.
-fn address_in<'t>(rt: &impl Abort, line: &'t str) -> &'t str {
-    match line.split_once(" of ") {
-        Some((address, _)) => address,
-        None => panic!(rt; "a line has an address: {line}"),
-    }
-}
-
 #[test]
-fn each_instance_has_its_addresses_and_dependencies(rt: HostRuntime) -> Result<(), Fail> {
-    expect(
-        &rt,
-        STATE.as_bytes(),
-        "42 \"9b1c7f1e-2f0a-4b8e-9d55-0c8a6d1f7e21\"",
-    )?;
-    expect_listing(&rt, STATE, LINES)
+fn each_instance_has_its_addresses_and_dependencies(rt: HostRuntime) {
+    let front = "42 \"9b1c7f1e-2f0a-4b8e-9d55-0c8a6d1f7e21\"";
+    expect(&rt, STATE, front);
+    expect_listing(&rt, STATE, LINES);
 }
 
 /// The address that each one's order is compared with.
@@ -159,33 +142,41 @@ const OTHER: &str = "cloud_server.web[0]";
 /// The number of the instance with that address.
 const OTHERS_NUMBER: usize = 10;
 
-/// Looks at an instance's address as a text, its digests, and its order.
-fn expect_address(rt: &impl Abort, doc: &Doc, i: usize, address: &str) {
+/// Looks at an instance's address as a text, and at its digests.
+fn expect_address(rt: &impl Abort, doc: &Doc, i: usize, address: &str)
+    requires { i < length doc.now.instances }
+{
+    let found = doc.address(i);
+    let is_it = found.is(address) && !found.is("cloud_server.web[");
+    let is_digested = found.digest() == text_digest(address);
+    assert!(rt; is_it && is_digested, "{address}");
+    let config = text_digest(doc.config(i));
+    assert!(rt; doc.config_digest(i) == config, "{address}");
+}
+
+/// Looks at the order of an instance's address.
+fn expect_order(rt: &impl Abort, doc: &Doc, i: usize, address: &str)
+    requires { i < length doc.now.instances }
+{
+    assert!(rt; OTHERS_NUMBER < doc.len());
     let order = address.as_bytes().cmp(&OTHER.as_bytes());
-    if i < doc.len() && OTHERS_NUMBER < doc.len() {
-        assert!(rt; doc.address(i).is(address), "{address}");
-        assert!(rt; !doc.address(i).is("cloud_server.web["), "{address}");
-        assert!(rt;
-            doc.address(i).digest() == text_digest(address),
-            "{address}"
-        );
-        assert!(rt;
-            doc.config_digest(i) == text_digest(doc.config(i)),
-            "{address}"
-        );
-        assert!(rt; doc.address(i).cmp_text(OTHER) == order, "{address}");
-        assert!(rt;
-            doc.address(i).cmp(&doc.address(OTHERS_NUMBER)) == order,
-            "{address}"
-        );
-    }
+    let by_text = doc.address(i).cmp_text(OTHER);
+    let by_other = doc.address(i).cmp(&doc.address(OTHERS_NUMBER));
+    assert!(rt; by_text == order && by_other == order, "{address}");
+}
+
+/// Looks at the address of a line.
+fn expect_line(rt: &impl Abort, doc: &Doc, i: usize, line: &str) {
+    let (address, _) = line.split_once(" of ").expect(rt, "a line has an address");
+    assert!(rt; i < doc.len(), "{address}");
+    expect_address(rt, doc, i, address);
+    expect_order(rt, doc, i, address);
 }
 
 #[test]
-fn each_address_is_its_text_and_has_its_digest_and_order(rt: HostRuntime) -> Result<(), Fail> {
-    let doc = read_state(&rt)?;
+fn each_address_is_its_text_and_has_its_digest_and_order(rt: HostRuntime) {
+    let doc = read(&rt, STATE.as_bytes()).expect(&rt, "a state");
     for (i, line) in LINES.lines().enumerate() {
-        expect_address(&rt, &doc, i, address_in(&rt, line));
+        expect_line(&rt, &doc, i, line);
     }
-    Ok(())
 }

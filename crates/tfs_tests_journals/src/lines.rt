@@ -1,0 +1,43 @@
+//! Lines of tests: a text has one case in each, `GIVEN = WANTED`.
+
+use std::alloc::{AllocError, Global};
+use std::process::Abort;
+
+/// What judges the lines of a table.
+pub(crate) trait Judge {
+    /// Compares the answer to what a line gives with what is wanted of it.
+    fn judge(rt: &(impl Alloc<A = Global> + Abort), given: &str, wanted: &str);
+}
+
+/// Judges each line of a table.
+pub(crate) fn expect_lines<J: Judge>(rt: &(impl Alloc<A = Global> + Abort), lines: &str) {
+    for line in lines.lines() {
+        let (given, wanted) = parts_of(rt, line);
+        J::judge(rt, given, wanted);
+    }
+}
+
+/// What a line gives, and what is wanted of it.
+pub(crate) fn parts_of<'t>(rt: &impl Abort, line: &'t str) -> (&'t str, &'t str) {
+    line.split_once(" = ").expect(rt, "a line has two parts")
+}
+
+/// A word, and what follows it behind a space.
+pub(crate) fn split(line: &str) -> (&str, &str) {
+    line.split_once(' ').unwrap_or((line, ""))
+}
+
+/// The number that a word spells.
+pub(crate) fn number_in(rt: &impl Abort, word: &str) -> u64 {
+    word.parse::<u64>().ok().expect(rt, "a number")
+}
+
+/// Compares two texts.
+pub(crate) fn expect_text(rt: &impl Abort, found: &str, wanted: &str) {
+    assert!(rt; found == wanted, "{found}, and {wanted} is wanted");
+}
+
+/// Compares an answer in words.
+pub(crate) fn expect_words(rt: &impl Abort, found: Result<String, AllocError>, wanted: &str) {
+    expect_text(rt, found.expect(rt, "memory").as_str(), wanted);
+}
