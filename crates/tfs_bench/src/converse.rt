@@ -2,7 +2,8 @@
 
 ghost use Rattle.std.specs.Prelude.{◌≡◌, ◌≤◌};
 
-use crate::measure::{Calls, Measured};
+use crate::input::new_table;
+use crate::measure::Measured;
 use anyhow::{Result, bail};
 use std::alloc::Global;
 use std::io;
@@ -10,20 +11,26 @@ use std::io::{Read, Write};
 use std::time::{Clock, Instant};
 use tfs_calls::{Call, Refusal, Reply};
 use tfs_conversation::{Desk, Reads, TableDesk, Watched, converse};
-use tfs_records::Discard;
-use tfs_table::Table;
 
 /// Requests, and how many bytes of them come at once.
 #[derive(Clone, Copy)]
 pub(crate) struct Talk<'a> {
-    requests: &'a [u8],
-    piece: usize,
+    pub(crate) requests: &'a [u8],
+    pub(crate) piece: usize,
 }
 
-impl<'a> Talk<'a> {
-    /// Requests that come in pieces.
-    pub(crate) fn new(requests: &'a [u8], piece: usize) -> Talk<'a> {
-        Talk { requests, piece }
+impl Talk<'_> {
+    /// Makes the call of a name once.
+    pub(crate) fn call(&self, rt: &(impl AllocGlobal + Clock), name: &str) -> Result<Measured> {
+        match name {
+            "still" => self.over(rt, &mut Still),
+            "table" => {
+                let alloc = rt.alloc();
+                let table = &mut new_table(alloc)?;
+                self.over(rt, &mut TableDesk { alloc, table })
+            }
+            _ => bail!("the calls are still and table"),
+        }
     }
 
     /// Has the conversation with a desk: how many bytes are written.
@@ -36,21 +43,7 @@ impl<'a> Talk<'a> {
         let mut reads = Reads::new();
         let start = Instant::now(rt)?;
         converse(rt.alloc(), &mut reader, &mut writer, desk, &mut reads)?;
-        Ok(Measured::new(start.elapsed(rt)?, writer.inner.bytes))
-    }
-}
-
-impl Calls for Talk<'_> {
-    fn call<R: Clock + Print + AllocGlobal>(&self, rt: &R, name: &str) -> Result<Measured> {
-        match name {
-            "still" => self.over(rt, &mut Still),
-            "table" => {
-                let alloc = rt.alloc();
-                let table = &mut Table::new(alloc, Discard)?;
-                self.over(rt, &mut TableDesk { alloc, table })
-            }
-            _ => bail!("the calls are still and table"),
-        }
+        Measured::since(rt, start, writer.inner.bytes)
     }
 }
 

@@ -2,35 +2,58 @@
 
 ghost use Rattle.std.specs.Prelude.{◌<◌, ◌≤◌, length};
 
-use crate::input::{doc_of, state_of, text_of};
-use crate::measure::{Calls, Measured};
-use crate::planes::{pair_count, relate};
+use crate::input::{doc_of, lines_of, split_state};
+use crate::measure::Measured;
+use crate::planes::{counted, relate};
 use anyhow::{Result, bail};
 use std::alloc::{AllocError, Global};
 use std::sync::Arc;
 use std::time::{Clock, Instant};
-use tfs_index::Version;
+use tfs_index::{ImpactFault, Version};
 use tfs_planes::Plane;
 use tfs_state::Doc;
 
 /// A state with its index, its pairs of instances of which the second depends on the first, and addresses of a query.
 #[derive(Drop)]
 pub(crate) struct Impacts<'a> {
+    texts: Vec<&'a str>,
     version: Version,
     pairs: Vec<(u32, u32)>,
-    texts: Vec<&'a str>,
 }
 
 impl<'a> Impacts<'a> {
     /// The state of the first line, and the addresses of the others.
     pub(crate) fn read(alloc: Global, input: &'a [u8]) -> Result<Impacts<'a>> {
-        let version = version_of(alloc, input)?;
+        let (state, addresses) = split_state(input)?;
+        let texts = lines_of(alloc, addresses)?;
+        let version = version_of(alloc, state)?;
         let pairs = pairs_of(alloc, version.doc())?;
         Ok(Impacts {
+            texts,
             version,
             pairs,
-            texts: addresses_of(alloc, input)?,
         })
+    }
+
+    /// Makes the call of a name once.
+    pub(crate) fn call(&self, rt: &(impl AllocGlobal + Clock), name: &str) -> Result<Measured> {
+        match name {
+            "build" => self.build(rt),
+            "plane" => self.plane(rt),
+            "any" => self.ask(rt, true),
+            "all" => self.ask(rt, false),
+            "any_listed" => list(
+                rt,
+                self.version.doc(),
+                self.chosen(rt.alloc(), true)?.as_slice(),
+            ),
+            "all_listed" => list(
+                rt,
+                self.version.doc(),
+                self.chosen(rt.alloc(), false)?.as_slice(),
+            ),
+            _ => bail!("the calls are build, plane, any, all, any_listed and all_listed"),
+        }
     }
 
     /// Builds the index: how many instances the state has.
@@ -38,71 +61,44 @@ impl<'a> Impacts<'a> {
         let doc = self.version.doc().clone()?;
         let start = Instant::now(rt)?;
         let version = Version::build(rt.alloc(), doc)?;
-        let time = start.elapsed(rt)?;
-        Ok(Measured::new(time, version.doc().len()))
+        Measured::since(rt, start, version.doc().len())
     }
 
     /// Makes a plane, fills it from the pairs, and closes it: how many pairs it has.
     fn plane(&self, rt: &(impl AllocGlobal + Clock)) -> Result<Measured> {
         let start = Instant::now(rt)?;
         let plane = closed_plane(rt.alloc(), self.version.doc().len(), self.pairs.as_slice())?;
-        let time = start.elapsed(rt)?;
-        Ok(Measured::new(time, pair_count(rt.alloc(), &plane)?))
+        counted(rt, start, &plane)
     }
 
     /// The instances of a query.
-    fn chosen(&self, alloc: Global, is_any: bool) -> Result<Vec<usize>> {
-        let texts = self.texts.as_slice();
+    fn chosen(&self, alloc: Global, is_any: bool) -> Result<Vec<usize>, ImpactFault> {
         if is_any {
-            return Ok(self.version.any(alloc, texts)?);
+            return self.version.any(alloc, self.texts.as_slice());
         }
-        Ok(self.version.all(alloc, texts)?)
+        self.version.all(alloc, self.texts.as_slice())
     }
 
     /// Asks: how many instances are chosen.
     fn ask(&self, rt: &(impl AllocGlobal + Clock), is_any: bool) -> Result<Measured> {
         let start = Instant::now(rt)?;
         let chosen = self.chosen(rt.alloc(), is_any)?;
-        Ok(Measured::new(start.elapsed(rt)?, chosen.len()))
-    }
-
-    /// Writes the addresses that a query gives one after the other: how many bytes they have.
-    fn list(&self, rt: &(impl AllocGlobal + Clock), is_any: bool) -> Result<Measured> {
-        let chosen = self.chosen(rt.alloc(), is_any)?;
-        let mut text = String::with_capacity(rt.alloc(), 65_536)?;
-        let start = Instant::now(rt)?;
-        push_addresses(&mut text, self.version.doc(), chosen.as_slice())?;
-        Ok(Measured::new(start.elapsed(rt)?, text.len()))
+        Measured::since(rt, start, chosen.len())
     }
 }
 
-impl Calls for Impacts<'_> {
-    fn call<R: Clock + Print + AllocGlobal>(&self, rt: &R, name: &str) -> Result<Measured> {
-        match name {
-            "build" => self.build(rt),
-            "plane" => self.plane(rt),
-            "any" => self.ask(rt, true),
-            "all" => self.ask(rt, false),
-            "any_listed" => self.list(rt, true),
-            "all_listed" => self.list(rt, false),
-            _ => bail!("the calls are build, plane, any, all, any_listed and all_listed"),
-        }
-    }
+/// Writes the addresses that a query gave one after the other: how many bytes they have.
+fn list(rt: &(impl AllocGlobal + Clock), doc: &Doc, chosen: &[usize]) -> Result<Measured> {
+    let mut text = String::with_capacity(rt.alloc(), 65_536)?;
+    let start = Instant::now(rt)?;
+    push_addresses(&mut text, doc, chosen)?;
+    Measured::since(rt, start, text.len())
 }
 
-/// The version of the state that is the first line.
-fn version_of(alloc: Global, input: &[u8]) -> Result<Version> {
-    let doc = Arc::new(alloc, doc_of(alloc, state_of(input)?)?)?;
-    Ok(Version::build(alloc, doc)?)
-}
-
-/// The addresses on the lines behind the first.
-fn addresses_of(alloc: Global, input: &[u8]) -> Result<Vec<&str>> {
-    let mut addresses = Vec::new(alloc);
-    for line in text_of(input)?.lines().skip(1) {
-        addresses.push(line)?;
-    }
-    Ok(addresses)
+/// The version of a state.
+fn version_of(alloc: Global, state: &str) -> Result<Version> {
+    let doc = doc_of(alloc, state.as_bytes())?;
+    Ok(Version::build(alloc, Arc::new(alloc, doc)?)?)
 }
 
 /// The pairs (v, u) of instances of which u depends on v.

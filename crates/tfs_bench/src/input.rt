@@ -3,10 +3,12 @@
 ghost use Rattle.std.specs.Prelude.{◌≤◌, length, IfOk};
 
 use anyhow::{Result, bail};
-use std::alloc::Global;
+use std::alloc::{AllocError, Global};
 use tfs_calls::{Bytes, Draft, Raw};
+use tfs_records::Discard;
 use tfs_rules::Name;
 use tfs_state::{Doc, MAX_STATE_BYTES};
+use tfs_table::Table;
 
 /// The text of bytes.
 pub(crate) fn text_of(bytes: &[u8]) -> Result<&str> {
@@ -17,19 +19,19 @@ pub(crate) fn text_of(bytes: &[u8]) -> Result<&str> {
 }
 
 /// The lines of a text.
-pub(crate) fn lines_of(alloc: Global, input: &[u8]) -> Result<Vec<&str>> {
+pub(crate) fn lines_of(alloc: Global, text: &str) -> Result<Vec<&str>, AllocError> {
     let mut lines = Vec::new(alloc);
-    for line in text_of(input)?.lines() {
+    for line in text.lines() {
         lines.push(line)?;
     }
     Ok(lines)
 }
 
-/// The state that is the first line.
-pub(crate) fn state_of(input: &[u8]) -> Result<&[u8]> {
-    match text_of(input)?.lines().next() {
-        Some(line) => Ok(line.as_bytes()),
-        None => bail!("there is no state"),
+/// The state that is the first line, and the text behind it.
+pub(crate) fn split_state(input: &[u8]) -> Result<(&str, &str)> {
+    match text_of(input)? {
+        "" => bail!("there is no state"),
+        text => Ok(text.split_once('\n').unwrap_or((text, ""))),
     }
 }
 
@@ -41,12 +43,18 @@ pub(crate) fn doc_of(alloc: Global, state: &[u8]) -> Result<Doc> {
     Ok(Doc::read(alloc, state.to_vec(alloc)?)?)
 }
 
-/// The push of a state.
-pub(crate) fn push_of(alloc: Global, state: &[u8]) -> Result<Draft> {
+/// The push of a state to the name of a number.
+pub(crate) fn push_of(alloc: Global, number: usize, state: &str) -> Result<(Name, Draft)> {
+    let name = name_of(alloc, number)?;
+    Ok((name, draft_of(alloc, state)?))
+}
+
+/// The draft of the push of a state.
+fn draft_of(alloc: Global, state: &str) -> Result<Draft> {
     if MAX_STATE_BYTES < state.len() {
         bail!("the state is too long");
     }
-    let body = Bytes::new(state.to_vec(alloc)?);
+    let body = Bytes::new(state.as_bytes().to_vec(alloc)?);
     match Draft::read(alloc, Raw::Push(None, body)) {
         Ok(draft) => Ok(draft),
         Err(refusal) => bail!("the push is no draft: {}", refusal.name()),
@@ -59,4 +67,9 @@ pub(crate) fn name_of(alloc: Global, number: usize) -> Result<Name> {
         Some(name) => Ok(name),
         None => bail!("there is no name"),
     }
+}
+
+/// A new table that keeps no bytes.
+pub(crate) fn new_table(alloc: Global) -> Result<Table<Discard>> {
+    Ok(Table::new(alloc, Discard)?)
 }

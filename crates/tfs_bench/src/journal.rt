@@ -1,11 +1,11 @@
 //! The reading and opening of a journal, beside the reading of its states; and the writing of a record, beside a copy of its bytes.
 
-use crate::input::{doc_of, name_of, push_of};
-use crate::measure::{Calls, Measured};
+use crate::input::{doc_of, push_of};
+use crate::measure::Measured;
 use anyhow::{Result, bail};
 use md5::{Digest, Md5};
 use std::alloc::Global;
-use std::time::{Clock, Duration, Instant};
+use std::time::{Clock, Instant};
 use tfs_journal::{Decoded, decode};
 use tfs_records::{Base, Discard, Entry, MemorySink, Out, encode, encode_base};
 use tfs_rules::Act;
@@ -26,10 +26,28 @@ impl<'a> Journal<'a> {
         Ok(Journal { bytes, read })
     }
 
-    /// The first entry.
-    fn first(&self) -> Result<&Entry> {
+    /// Makes the call of a name once.
+    pub(crate) fn call(
+        &self,
+        rt: &(impl AllocGlobal + Clock + Print),
+        name: &str,
+    ) -> Result<Measured> {
+        match name {
+            "decode" => self.decode(rt),
+            "keep" => self.keep(rt),
+            "parts" => self.parts(rt),
+            "open" => self.open(rt),
+            "encode" => self.encode(rt),
+            "copy" => copy(rt, self.record(rt.alloc())?.as_slice()),
+            "append" => append(rt, self.record(rt.alloc())?.as_slice()),
+            _ => bail!("the calls are decode, keep, parts, open, encode, copy and append"),
+        }
+    }
+
+    /// The record of the first entry.
+    fn record(&self, alloc: Global) -> Result<Vec<u8>> {
         match self.read.entries.as_slice().first() {
-            Some(entry) => Ok(entry),
+            Some(entry) => Ok(encode(alloc, entry)?),
             None => bail!("the journal has no entry"),
         }
     }
@@ -38,16 +56,14 @@ impl<'a> Journal<'a> {
     fn decode(&self, rt: &(impl AllocGlobal + Clock)) -> Result<Measured> {
         let start = Instant::now(rt)?;
         let read = decode(rt.alloc(), self.bytes)?;
-        Ok(Measured::new(start.elapsed(rt)?, read.entries.as_slice().len()))
+        Measured::since(rt, start, read.entries.as_slice().len())
     }
 
     /// Prints a line before the journal is read, with its bytes, and one while what was read is kept, with its entries.
     fn keep(&self, rt: &(impl AllocGlobal + Print)) -> Result<Measured> {
-        println!(rt; "journal {}", self.bytes.len())?;
+        Measured::told(rt, "journal", self.bytes.len())?;
         let read = decode(rt.alloc(), self.bytes)?;
-        let count = read.entries.as_slice().len();
-        println!(rt; "journal {count}")?;
-        Ok(Measured::new(Duration::ZERO, count))
+        Measured::told(rt, "journal", read.entries.as_slice().len())
     }
 
     /// Reads a copy of each state, and makes one MD5 of the journal's bytes: how many states there are.
@@ -55,56 +71,38 @@ impl<'a> Journal<'a> {
         let start = Instant::now(rt)?;
         let docs = docs_of(rt.alloc(), self.read.entries.as_slice())?;
         let _digest = Md5::digest(self.bytes);
-        Ok(Measured::new(start.elapsed(rt)?, docs.len()))
+        Measured::since(rt, start, docs.len())
     }
 
     /// Opens a table of the journal that keeps no bytes: how many entries it has.
     fn open(&self, rt: &(impl AllocGlobal + Clock)) -> Result<Measured> {
         let start = Instant::now(rt)?;
         let (table, _end) = Table::open(rt.alloc(), self.bytes, Discard)?;
-        Ok(Measured::new(start.elapsed(rt)?, table.len()))
+        Measured::since(rt, start, table.len())
     }
 
     /// Writes the record of the first entry: how many bytes it has.
     fn encode(&self, rt: &(impl AllocGlobal + Clock)) -> Result<Measured> {
-        let entry = self.first()?;
         let start = Instant::now(rt)?;
-        let record = encode(rt.alloc(), entry)?;
-        Ok(Measured::new(start.elapsed(rt)?, record.len()))
-    }
-
-    /// Makes a copy of this record, and its MD5: how many bytes it has.
-    fn copy(&self, rt: &(impl AllocGlobal + Clock)) -> Result<Measured> {
-        let record = encode(rt.alloc(), self.first()?)?;
-        let start = Instant::now(rt)?;
-        let copy = record.as_slice().to_vec(rt.alloc())?;
-        let _digest = Md5::digest(copy.as_slice());
-        Ok(Measured::new(start.elapsed(rt)?, copy.len()))
-    }
-
-    /// Appends this record to a new sink in memory: how many bytes that has.
-    fn append(&self, rt: &(impl AllocGlobal + Clock)) -> Result<Measured> {
-        let record = encode(rt.alloc(), self.first()?)?;
-        let mut out = Out::new(MemorySink::new(rt.alloc(), usize::MAX, u64::MAX));
-        let start = Instant::now(rt)?;
-        out.append(record.as_slice())?;
-        Ok(Measured::new(start.elapsed(rt)?, out.sink().bytes().len()))
+        let record = self.record(rt.alloc())?;
+        Measured::since(rt, start, record.len())
     }
 }
 
-impl Calls for Journal<'_> {
-    fn call<R: Clock + Print + AllocGlobal>(&self, rt: &R, name: &str) -> Result<Measured> {
-        match name {
-            "decode" => self.decode(rt),
-            "keep" => self.keep(rt),
-            "parts" => self.parts(rt),
-            "open" => self.open(rt),
-            "encode" => self.encode(rt),
-            "copy" => self.copy(rt),
-            "append" => self.append(rt),
-            _ => bail!("the calls are decode, keep, parts, open, encode, copy and append"),
-        }
-    }
+/// Makes a copy of a record, and its MD5: how many bytes it has.
+fn copy(rt: &(impl AllocGlobal + Clock), record: &[u8]) -> Result<Measured> {
+    let start = Instant::now(rt)?;
+    let copy = record.to_vec(rt.alloc())?;
+    let _digest = Md5::digest(copy.as_slice());
+    Measured::since(rt, start, copy.len())
+}
+
+/// Appends a record to a new sink in memory: how many bytes that has.
+fn append(rt: &(impl AllocGlobal + Clock), record: &[u8]) -> Result<Measured> {
+    let mut out = Out::new(MemorySink::new(rt.alloc(), usize::MAX, u64::MAX));
+    let start = Instant::now(rt)?;
+    out.append(record)?;
+    Measured::since(rt, start, out.sink().bytes().len())
 }
 
 /// The documents of pushes, each read anew.
@@ -119,14 +117,17 @@ fn docs_of(alloc: Global, entries: &[Entry]) -> Result<Vec<Doc>> {
 }
 
 /// The text of a journal that has the push of a state.
-pub(crate) fn text_of(alloc: Global, state: &[u8]) -> Result<Vec<u8>> {
+pub(crate) fn text_of(alloc: Global, state: &str) -> Result<Vec<u8>> {
     let mut text = Vec::new(alloc);
     text.extend_from_slice(b"TFJ2\n")?;
     text.extend_from_slice(encode_base(alloc, &Base::empty(alloc))?.as_slice())?;
-    let entry = Entry {
-        name: name_of(alloc, 0)?,
-        act: push_of(alloc, state)?.into_act(),
-    };
-    text.extend_from_slice(encode(alloc, &entry)?.as_slice())?;
+    text.extend_from_slice(record_of(alloc, state)?.as_slice())?;
     Ok(text)
+}
+
+/// The record of the push of a state.
+fn record_of(alloc: Global, state: &str) -> Result<Vec<u8>> {
+    let (name, draft) = push_of(alloc, 0, state)?;
+    let act = draft.into_act();
+    Ok(encode(alloc, &Entry { name, act })?)
 }

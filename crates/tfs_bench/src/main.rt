@@ -12,154 +12,165 @@ mod planes;
 mod shared;
 mod sharing;
 mod state;
+mod subject;
 mod table;
 mod worker;
 
 use crate::converse::Talk;
 use crate::index::Impacts;
-use crate::input::{lines_of, state_of};
+use crate::input::{lines_of, split_state, text_of};
 use crate::journal::Journal;
-use crate::measure::{Calls, print_counts, print_times};
 use crate::planes::Relation;
 use crate::shared::Sessions;
 use crate::state::StateText;
-use crate::table::Pushes;
+use crate::subject::{Subject, print_calls};
+use crate::table::{Pushes, requests_of};
 use anyhow::{Result, bail};
-use std::env;
 use std::io::Read;
 use std::sync::Wait;
 use std::thread::Threads;
 use std::time::Clock;
+use std::{env, thread};
 
 fn main(rt: HostRuntime) -> Result<()> {
     let mut input = Vec::new(rt.alloc());
     rt.reader().read_to_end(&mut input)?;
-    let mut words = Vec::new(rt.alloc());
-    for word in env::args(&rt)?.skip(1) {
-        words.push(word)?;
-    }
-    match words.as_slice() {
-        [] => counts(&rt, input.as_slice()),
-        [subject, rounds, rest @ ..] => {
-            let asked = Asked {
-                rounds: rounds.parse()?,
-                words: rest,
-            };
-            measure_calls(&rt, subject.as_str(), asked, input.as_slice())
-        }
-        _ => bail!("the words are a subject, a number of rounds, and calls"),
-    }
+    let words = words_of(&rt)?;
+    run(&rt, words.as_str(), input.as_slice())
 }
 
-/// How often calls are made, and their names. Of two subjects a number stands before the names.
-#[derive(Clone, Copy)]
-struct Asked<'a> {
-    rounds: usize,
-    words: &'a [String],
+/// The words that the program was called with, a line each.
+fn words_of(rt: &HostRuntime) -> Result<String> {
+    let mut words = String::new(rt.alloc());
+    for word in env::args(rt)?.skip(1) {
+        writeln!(words, "{word}")?;
+    }
+    Ok(words)
 }
 
-impl Asked<'_> {
-    /// The number before the names.
-    fn number(&self) -> Result<usize> {
-        match self.words.first() {
-            Some(word) => Ok(word.parse()?),
-            None => bail!("a number is missing before the calls"),
-        }
-    }
-
-    /// Measures the calls of these names.
-    fn times<C: Calls, R: Clock + Print + AllocGlobal>(&self, rt: &R, calls: &C) -> Result<()> {
-        print_times(rt, calls, self.words, self.rounds)
-    }
-
-    /// The names behind the number.
-    fn names(&self) -> &[String] {
-        match self.words.split_first() {
-            Some((_, names)) => names,
-            None => &[],
-        }
-    }
-}
-
-/// Measures calls of a subject.
-fn measure_calls<R: Threads + Wait + Clock + Print + AllocGlobal + Sync>(
+/// Measures calls of a subject; without a word, all calls are made once.
+fn run<R: Threads + Wait + Clock + Print + AllocGlobal + Sync>(
     rt: &R,
-    subject: &str,
-    asked: Asked,
+    words: &str,
     input: &[u8],
 ) -> Result<()> {
+    if words.is_empty() {
+        return make_all(rt, input);
+    }
+    let (subject, rest) = words.split_once('\n').unwrap_or((words, ""));
+    let Some((rounds, names)) = rest.split_once('\n') else {
+        bail!("the words are a subject, a number of rounds, and calls");
+    };
+    measure_subject(rt, subject, input, Some(rounds.parse()?), names)
+}
+
+/// Measures calls of a subject in so many rounds, or makes them once. Of two subjects a number stands before the names of the calls.
+fn measure_subject<R: Threads + Wait + Clock + Print + AllocGlobal + Sync>(
+    rt: &R,
+    subject: &str,
+    input: &[u8],
+    rounds: Option<usize>,
+    names: &str,
+) -> Result<()> {
     match subject {
-        "planes" => asked.times(rt, &Relation::new(input)),
-        "index" => asked.times(rt, &Impacts::read(rt.alloc(), input)?),
-        "state" => asked.times(rt, &StateText::read(input)?),
-        "journal" => asked.times(rt, &Journal::read(rt.alloc(), input)?),
-        "table" => asked.times(rt, &Pushes::read(rt.alloc(), input)?),
-        "converse" => {
-            let talk = Talk::new(input, asked.number()?);
-            print_times(rt, &talk, asked.names(), asked.rounds)
+        "planes" => {
+            let relation = Relation { bytes: input };
+            print_calls(rt, Subject::Planes(relation), rounds, names)
         }
-        "shared" => measure_shared(rt, asked, input),
+        "index" => {
+            let impacts = Impacts::read(rt.alloc(), input)?;
+            print_calls(rt, Subject::Index(&impacts), rounds, names)
+        }
+        "state" => {
+            let text = text_of(input)?;
+            print_calls(rt, Subject::State(StateText { text }), rounds, names)
+        }
+        "journal" => {
+            let journal = Journal::read(rt.alloc(), input)?;
+            print_calls(rt, Subject::Journal(&journal), rounds, names)
+        }
+        "table" => {
+            let pushes = Pushes::read(rt.alloc(), input)?;
+            print_calls(rt, Subject::Table(&pushes), rounds, names)
+        }
+        "converse" => {
+            let (piece, names) = numbered(names)?;
+            let talk = Talk {
+                requests: input,
+                piece,
+            };
+            print_calls(rt, Subject::Converse(talk), rounds, names)
+        }
+        "shared" => measure_shared(rt, input, rounds, names),
         _ => bail!("the subjects are planes, index, state, journal, table, converse and shared"),
     }
 }
 
-/// Measures calls of a shared table.
+/// Measures calls of a shared table, with as many sessions as there are cores.
 fn measure_shared<R: Threads + Wait + Clock + Print + AllocGlobal + Sync>(
     rt: &R,
-    asked: Asked,
     input: &[u8],
+    rounds: Option<usize>,
+    names: &str,
 ) -> Result<()> {
-    let states = lines_of(rt.alloc(), input)?;
-    let turns = asked.number()? as u64;
-    let sessions = Sessions::new(rt, states.as_slice(), turns)?;
-    sessions.print_times(rt, asked.names(), asked.rounds)
+    let (turns, names) = numbered(names)?;
+    let sessions = thread::available_parallelism(rt)?.get().clamp(2, 16);
+    let states = lines_of(rt.alloc(), text_of(input)?)?;
+    let sessions = Sessions {
+        states: states.as_slice(),
+        turns,
+        sessions,
+    };
+    print_calls(rt, Subject::Shared(sessions), rounds, names)
+}
+
+/// The number before the names of calls, and these.
+fn numbered(words: &str) -> Result<(usize, &str)> {
+    match words.split_once('\n') {
+        Some((number, names)) => Ok((number.parse()?, names)),
+        None => bail!("a number is missing before the calls"),
+    }
 }
 
 /// A relation of four numbers in a row, as `planes` takes it.
 const ROW: &[u8] = &[4, 0, 0, 0, 0, 0, 1, 0, 1, 0, 2, 0, 2, 0, 3, 0];
 
 /// Makes each call once over input that is as small: the first line is a state, the others are its addresses.
-fn counts<R: Threads + Wait + Clock + Print + AllocGlobal + Sync>(
+fn make_all<R: Threads + Wait + Clock + Print + AllocGlobal + Sync>(
     rt: &R,
     input: &[u8],
 ) -> Result<()> {
-    let state = state_of(input)?;
-    print_counts(rt, &Relation::new(ROW), &["close"])?;
-    print_counts(rt, &StateText::read(state)?, &["document", "value", "tree"])?;
-    count_index(rt, input)?;
-    count_journal(rt, state)?;
-    count_pushes(rt, state)
-}
-
-fn count_index<R: Clock + Print + AllocGlobal>(rt: &R, input: &[u8]) -> Result<()> {
-    let impacts = Impacts::read(rt.alloc(), input)?;
-    print_counts(
+    let (state, _) = split_state(input)?;
+    measure_subject(rt, "planes", ROW, None, "close")?;
+    measure_subject(rt, "state", state.as_bytes(), None, "document\nvalue\ntree")?;
+    measure_subject(
         rt,
-        &impacts,
-        &["build", "plane", "any", "all", "any_listed", "all_listed"],
-    )
-}
-
-fn count_journal<R: Clock + Print + AllocGlobal>(rt: &R, state: &[u8]) -> Result<()> {
-    let text = journal::text_of(rt.alloc(), state)?;
-    let journal = Journal::read(rt.alloc(), text.as_slice())?;
-    print_counts(
+        "index",
+        input,
+        None,
+        "build\nplane\nany\nall\nany_listed\nall_listed",
+    )?;
+    let journal = journal::text_of(rt.alloc(), state)?;
+    let calls = "decode\nparts\nopen\nencode\ncopy\nappend";
+    measure_subject(rt, "journal", journal.as_slice(), None, calls)?;
+    measure_subject(rt, "table", state.as_bytes(), None, "converse\napply")?;
+    let requests = requests_of(rt.alloc(), &[state])?;
+    measure_subject(
         rt,
-        &journal,
-        &["decode", "parts", "open", "encode", "copy", "append"],
-    )
-}
-
-fn count_pushes<R: Threads + Wait + Clock + Print + AllocGlobal + Sync>(
-    rt: &R,
-    state: &[u8],
-) -> Result<()> {
-    let pushes = Pushes::read(rt.alloc(), state)?;
-    print_counts(rt, &pushes, &["converse", "apply"])?;
-    print_counts(rt, &Talk::new(pushes.requests(), 64), &["still", "table"])?;
-    let sessions = Sessions::of(pushes.states(), 100, 4);
-    sessions.print_counts(
+        "converse",
+        requests.as_bytes(),
+        None,
+        "64\nstill\ntable",
+    )?;
+    let sessions = Sessions {
+        states: &[state],
+        turns: 100,
+        sessions: 4,
+    };
+    print_calls(
         rt,
-        &["alone", "together", "beside", "apply", "submit", "read"],
+        Subject::Shared(sessions),
+        None,
+        "alone\ntogether\nbeside\napply\nsubmit\nread",
     )
 }

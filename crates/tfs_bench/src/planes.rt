@@ -2,7 +2,7 @@
 
 ghost use Rattle.std.specs.Prelude.{◌≡◌, ◌≤◌};
 
-use crate::measure::{Calls, Measured};
+use crate::measure::Measured;
 use anyhow::{Result, bail};
 use std::alloc::{AllocError, Global};
 use std::time::{Clock, Instant};
@@ -11,13 +11,21 @@ use tfs_planes::{Plane, Row, is_size};
 /// A relation as pairs of numbers of two bytes each, the low one first. The first pair has the size and 0.
 #[derive(Clone, Copy)]
 pub(crate) struct Relation<'a> {
-    bytes: &'a [u8],
+    pub(crate) bytes: &'a [u8],
 }
 
-impl<'a> Relation<'a> {
-    /// The relation of bytes.
-    pub(crate) fn new(bytes: &'a [u8]) -> Relation<'a> {
-        Relation { bytes }
+impl Relation<'_> {
+    /// Makes the call of a name once.
+    pub(crate) fn call(&self, rt: &(impl AllocGlobal + Clock), name: &str) -> Result<Measured> {
+        let size = self.number(0);
+        if name != "close" || !is_size(size) {
+            bail!("the call is close, over at most 4096 numbers");
+        }
+        let mut plane = Plane::new(rt.alloc(), size)?;
+        self.fill(&mut plane);
+        let start = Instant::now(rt)?;
+        plane.close();
+        counted(rt, start, &plane)
     }
 
     /// The number at a place; 0 behind the last.
@@ -42,21 +50,6 @@ impl<'a> Relation<'a> {
     }
 }
 
-impl Calls for Relation<'_> {
-    fn call<R: Clock + Print + AllocGlobal>(&self, rt: &R, name: &str) -> Result<Measured> {
-        let size = self.number(0);
-        if name != "close" || !is_size(size) {
-            bail!("the call is close, over at most 4096 numbers");
-        }
-        let mut plane = Plane::new(rt.alloc(), size)?;
-        self.fill(&mut plane);
-        let start = Instant::now(rt)?;
-        plane.close();
-        let time = start.elapsed(rt)?;
-        Ok(Measured::new(time, pair_count(rt.alloc(), &plane)?))
-    }
-}
-
 /// Relates two numbers, if they are below the size.
 pub(crate) fn relate(plane: &mut Plane, i: usize, j: usize)
     ensures { plane.new.size ≡ plane.old.size }
@@ -66,8 +59,18 @@ pub(crate) fn relate(plane: &mut Plane, i: usize, j: usize)
     }
 }
 
+/// From a start until now, and how many pairs a plane has.
+pub(crate) fn counted(
+    rt: &(impl AllocGlobal + Clock),
+    start: Instant,
+    plane: &Plane,
+) -> Result<Measured> {
+    let time = start.elapsed(rt)?;
+    Ok(Measured::new(time, pair_count(rt.alloc(), plane)?))
+}
+
 /// How many pairs a plane has.
-pub(crate) fn pair_count(alloc: Global, plane: &Plane) -> Result<usize, AllocError> {
+fn pair_count(alloc: Global, plane: &Plane) -> Result<usize, AllocError> {
     let mut row = Row::new(alloc, plane.size())?;
     let mut count: usize = 0;
     for i in 0..plane.size() {

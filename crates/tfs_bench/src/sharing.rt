@@ -3,14 +3,14 @@
 ghost use Rattle.std.specs.Prelude.{◌≡◌, ◌≤◌, [], length, IfSome};
 
 use crate::measure::Measured;
-use crate::worker::{Task, Worker, work_all};
+use crate::worker::{Task, Worker, measured_by, push_all, sessions_of, work_all, workers_of};
 use anyhow::{Result, bail};
 use std::alloc::Global;
 use std::marker::Brand;
 use std::sync::Wait;
 use std::sync::ledger::Blank;
 use std::thread::Threads;
-use std::time::{Clock, Duration};
+use std::time::Clock;
 use tfs_records::Sink;
 use tfs_shared::{Naming, Opened, Session, Shared, Strangers, gather, share};
 use tfs_table::Table;
@@ -92,40 +92,9 @@ fn run<J: Naming + Send + Sync, K: Sink + Send, R: Threads + Wait + Clock + Allo
     sessions: Vec<Session<J>>,
     tasks: Vec<Task>,
 ) -> Result<(Vec<Session<J>>, Measured)> {
-    let busy = tasks.iter().filter(|task| task.is_awaited()).count();
     let mut workers = workers_of(rt.alloc(), sessions, tasks)?;
-    for worker in &mut workers {
-        worker.push(rt, shared)?;
-    }
-    work_all(rt, shared, workers.as_mut_slice(), busy as u64);
-    ended(rt.alloc(), workers)
-}
-
-/// A worker for each session and its task.
-fn workers_of<J: Naming>(
-    alloc: Global,
-    sessions: Vec<Session<J>>,
-    tasks: Vec<Task>,
-) -> Result<Vec<Worker<J>>> {
-    let mut workers = Vec::with_capacity(alloc, sessions.len())?;
-    for (session, task) in sessions.into_iter().zip(tasks) {
-        let number = workers.len();
-        workers.push(Worker::new(alloc, number, session, task)?)?;
-    }
-    Ok(workers)
-}
-
-/// The sessions of workers, with the longest time and the sum of the counts.
-fn ended<J: Naming>(alloc: Global, workers: Vec<Worker<J>>) -> Result<(Vec<Session<J>>, Measured)> {
-    let mut sessions = Vec::with_capacity(alloc, workers.len())?;
-    let mut all = Measured::new(Duration::ZERO, 0);
-    for worker in workers {
-        let (session, measured) = worker.into_parts();
-        sessions.push(session)?;
-        match measured {
-            Some(measured) => all = all.with(measured),
-            None => bail!("a session hasn't done its task"),
-        }
-    }
-    Ok((sessions, all))
+    let busy = push_all(rt, shared, workers.as_mut_slice())?;
+    work_all(rt, shared, workers.as_mut_slice(), busy);
+    let measured = measured_by(workers.as_slice())?;
+    Ok((sessions_of(rt.alloc(), workers)?, measured))
 }

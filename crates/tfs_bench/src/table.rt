@@ -1,12 +1,14 @@
 //! A conversation of pushes over a table, beside the same pushes by direct calls.
 
-use crate::input::{lines_of, name_of, push_of};
-use crate::measure::{Calls, Measured};
+use crate::input::{lines_of, new_table, push_of, text_of};
+use crate::measure::Measured;
 use anyhow::{Result, bail};
 use std::alloc::{AllocError, Global};
 use std::time::{Clock, Instant};
+use tfs_calls::Draft;
 use tfs_conversation::{Ended, Reads, Watched, converse_over_table};
 use tfs_records::Discard;
+use tfs_rules::Name;
 use tfs_table::Table;
 
 /// States, and the requests that push them to one name.
@@ -19,52 +21,47 @@ pub(crate) struct Pushes<'a> {
 impl<'a> Pushes<'a> {
     /// The states that are lines.
     pub(crate) fn read(alloc: Global, input: &'a [u8]) -> Result<Pushes<'a>> {
-        let states = lines_of(alloc, input)?;
+        let states = lines_of(alloc, text_of(input)?)?;
         let requests = requests_of(alloc, states.as_slice())?;
         Ok(Pushes { states, requests })
     }
 
-    /// The states.
-    pub(crate) fn states(&self) -> &[&'a str] {
-        self.states.as_slice()
-    }
-
-    /// The bytes of the requests.
-    pub(crate) fn requests(&self) -> &[u8] {
-        self.requests.as_bytes()
-    }
-
-    /// Has the conversation: how many entries the table has.
-    fn converse(&self, rt: &(impl AllocGlobal + Clock)) -> Result<Measured> {
-        let mut table = Table::new(rt.alloc(), Discard)?;
-        let start = Instant::now(rt)?;
-        talk(rt.alloc(), &mut table, self.requests())?;
-        Ok(Measured::new(start.elapsed(rt)?, table.len()))
-    }
-
-    /// Reads and applies each push: how many entries the table has.
-    fn apply(&self, rt: &(impl AllocGlobal + Clock)) -> Result<Measured> {
-        let mut table = Table::new(rt.alloc(), Discard)?;
-        let start = Instant::now(rt)?;
-        for state in &self.states {
-            apply(rt.alloc(), &mut table, state.as_bytes())?;
-        }
-        Ok(Measured::new(start.elapsed(rt)?, table.len()))
-    }
-}
-
-impl Calls for Pushes<'_> {
-    fn call<R: Clock + Print + AllocGlobal>(&self, rt: &R, name: &str) -> Result<Measured> {
+    /// Makes the call of a name once.
+    pub(crate) fn call(&self, rt: &(impl AllocGlobal + Clock), name: &str) -> Result<Measured> {
         match name {
-            "converse" => self.converse(rt),
-            "apply" => self.apply(rt),
+            "converse" => self.converse(rt, &mut new_table(rt.alloc())?),
+            "apply" => self.apply(rt, &mut new_table(rt.alloc())?),
             _ => bail!("the calls are converse and apply"),
         }
+    }
+
+    /// Has the conversation over a new table: how many entries it has then.
+    fn converse(
+        &self,
+        rt: &(impl AllocGlobal + Clock),
+        table: &mut Table<Discard>,
+    ) -> Result<Measured> {
+        let start = Instant::now(rt)?;
+        talk(rt.alloc(), table, self.requests.as_bytes())?;
+        Measured::since(rt, start, table.len())
+    }
+
+    /// Reads each push and applies it to a new table: how many entries it has then.
+    fn apply(
+        &self,
+        rt: &(impl AllocGlobal + Clock),
+        table: &mut Table<Discard>,
+    ) -> Result<Measured> {
+        let start = Instant::now(rt)?;
+        for state in &self.states {
+            apply(table, push_of(rt.alloc(), 0, state)?)?;
+        }
+        Measured::since(rt, start, table.len())
     }
 }
 
 /// The requests that push states.
-fn requests_of(alloc: Global, states: &[&str]) -> Result<String, AllocError> {
+pub(crate) fn requests_of(alloc: Global, states: &[&str]) -> Result<String, AllocError> {
     let mut requests = String::new(alloc);
     for state in states {
         write!(
@@ -88,10 +85,9 @@ fn talk(alloc: Global, table: &mut Table<Discard>, requests: &[u8]) -> Result<()
     }
 }
 
-/// Reads a state, and applies its push.
-fn apply(alloc: Global, table: &mut Table<Discard>, state: &[u8]) -> Result<()> {
-    let draft = push_of(alloc, state)?;
-    match table.apply(name_of(alloc, 0)?, draft) {
+/// Applies a push to a table.
+pub(crate) fn apply(table: &mut Table<Discard>, (name, draft): (Name, Draft)) -> Result<()> {
+    match table.apply(name, draft) {
         Ok(_) => Ok(()),
         Err(refusal) => bail!("a push is refused: {}", refusal.name()),
     }

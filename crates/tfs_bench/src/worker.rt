@@ -1,10 +1,10 @@
 //! What the sessions of a shared table do in threads of their own.
 
-use crate::input::{name_of, push_of};
+use crate::input::{doc_of, name_of, push_of};
 use crate::measure::Measured;
-use crate::shared::pushes_of;
+use crate::shared::Sessions;
 use anyhow::{Result, bail};
-use std::alloc::Global;
+use std::alloc::{AllocError, Global};
 use std::sync::Wait;
 use std::sync::atomic::{AtomicU64, Ordering};
 use std::thread::Threads;
@@ -12,108 +12,169 @@ use std::time::{Clock, Duration, Instant};
 use std::{mem, thread};
 use tfs_calls::{Draft, Kind, Query, Text, Texts};
 use tfs_records::Sink;
-use tfs_rules::{Act, Name};
+use tfs_rules::Name;
 use tfs_shared::{Naming, Session, Shared};
 
 /// What a session does.
 #[derive(Clone, Copy)]
 pub(crate) enum Role {
     /// It asks for the impact on its name, so many times.
-    Ask(u64),
+    Ask(usize),
     /// It pushes its state until all that ask have done so.
     Write,
-    /// It makes its pushes, which is measured.
+    /// It pushes all states, which is measured.
     Submit,
-    /// It makes its pushes, which others wait for.
+    /// It pushes the last state, which others wait for.
     Push,
-    /// It reads its state until the pushes are made: the longest read is measured.
+    /// It reads its state until the last state is pushed: the longest read is measured.
     Read,
 }
 
-/// A role, the state of the session's name, a query for its first address, and pushes that are to be made.
+/// A role, the number of the session and its name, the state of that name, a query for its first address, and pushes that are to be made.
 #[derive(Drop)]
-pub(crate) struct Task {
+pub(crate) struct Task<'a> {
     role: Role,
-    state: Vec<u8>,
+    number: usize,
+    name: Name,
+    state: &'a str,
     query: Query,
     pushes: Vec<(Name, Draft)>,
 }
 
-impl Task {
-    /// A task over a state, with the pushes of other states.
-    pub(crate) fn new(alloc: Global, role: Role, state: &str, states: &[&str]) -> Result<Task> {
+impl<'a> Task<'a> {
+    /// The task of the session of a number.
+    pub(crate) fn new(
+        alloc: Global,
+        role: Role,
+        number: usize,
+        asked: &Sessions<'a>,
+    ) -> Result<Task<'a>> {
+        let Some(state) = asked.states.first() else {
+            bail!("there is no state");
+        };
+        let name = name_of(alloc, number)?;
+        let query = query_of(alloc, state)?;
         Ok(Task {
             role,
-            state: state.as_bytes().to_vec(alloc)?,
-            query: query_of(alloc, state)?,
-            pushes: pushes_of(alloc, 0, states)?,
+            number,
+            name,
+            state,
+            query,
+            pushes: asked.pushes(alloc, role)?,
         })
     }
 
-    /// Whether others wait for the end of it.
-    pub(crate) fn is_awaited(&self) -> bool {
-        matches!(self.role, Role::Ask(_) | Role::Push)
+    /// Whether a session is answered the query.
+    fn is_answered<J: Naming, K: Sink>(
+        &self,
+        shared: &Shared<J, K>,
+        session: &mut Session<J>,
+    ) -> bool {
+        session.impact(shared, &self.name, &self.query).is_ok()
     }
 }
 
 /// A query for what the first address of a state reaches.
 fn query_of(alloc: Global, state: &str) -> Result<Query> {
-    let draft = push_of(alloc, state.as_bytes())?;
     let mut texts = Vec::new(alloc);
-    match draft.act() {
-        Act::Push(_, doc) if doc.len() > 0 => {
-            let (front, tail) = doc.address(0).parts();
-            texts.push(Text::new(format!(in alloc; "{front}{tail}")?))?;
-        }
-        _ => bail!("the state has no address"),
-    }
+    texts.push(Text::new(first_address(alloc, state)?))?;
     Ok(Query {
         kind: Kind::Any,
         texts: Texts::new(texts),
     })
 }
 
-/// A session with its name and its task, and what was measured of it. It ends with a gap, so that what one worker writes and what the
+/// The first address of a state.
+fn first_address(alloc: Global, state: &str) -> Result<String> {
+    let doc = doc_of(alloc, state.as_bytes())?;
+    if doc.len() == 0 {
+        bail!("the state has no address");
+    }
+    let (front, tail) = doc.address(0).parts();
+    Ok(format!(in alloc; "{front}{tail}")?)
+}
+
+/// A session with its task, and what was measured of it. It ends with a gap, so that what one worker writes and what the
 /// next one reads are never in one line of a processor's cache.
 #[derive(Drop)]
-pub(crate) struct Worker<J: Naming> {
+pub(crate) struct Worker<'a, J: Naming> {
     session: Session<J>,
-    task: Task,
-    name: Name,
-    number: usize,
+    task: Task<'a>,
     measured: Option<Measured>,
     apart: [u64; 16],
 }
 
-impl<J: Naming> Worker<J> {
-    /// The worker of a number, whose name is that number's.
-    pub(crate) fn new(
-        alloc: Global,
-        number: usize,
-        session: Session<J>,
-        task: Task,
-    ) -> Result<Worker<J>> {
-        Ok(Worker {
+/// A worker for each session and its task.
+pub(crate) fn workers_of<'a, J: Naming>(
+    alloc: Global,
+    sessions: Vec<Session<J>>,
+    tasks: Vec<Task<'a>>,
+) -> Result<Vec<Worker<'a, J>>, AllocError> {
+    let mut workers = Vec::new(alloc);
+    for (session, task) in sessions.into_iter().zip(tasks) {
+        workers.push(Worker {
             session,
             task,
-            name: name_of(alloc, number)?,
-            number,
             measured: None,
             apart: [0; 16],
-        })
+        })?;
     }
+    Ok(workers)
+}
 
-    /// Its session, and what was measured.
-    pub(crate) fn into_parts(self) -> (Session<J>, Option<Measured>) {
+/// The sessions of workers.
+pub(crate) fn sessions_of<J: Naming>(
+    alloc: Global,
+    workers: Vec<Worker<J>>,
+) -> Result<Vec<Session<J>>, AllocError> {
+    let mut sessions = Vec::new(alloc);
+    for worker in workers {
         let Worker {
             session,
             task: _task,
-            name: _name,
-            number: _,
-            measured,
+            measured: _,
             apart: _,
-        } = self;
-        (session, measured)
+        } = worker;
+        sessions.push(session)?;
+    }
+    Ok(sessions)
+}
+
+/// Has each worker push its state: how many of them others wait for.
+pub(crate) fn push_all<J: Naming, K: Sink, R: Wait + AllocGlobal>(
+    rt: &R,
+    shared: &Shared<J, K>,
+    workers: &mut [Worker<J>],
+) -> Result<u64> {
+    let mut busy = 0_u64;
+    for worker in workers {
+        worker.push(rt, shared)?;
+        if worker.is_awaited() {
+            busy = busy.saturating_add(1);
+        }
+    }
+    Ok(busy)
+}
+
+/// What workers measured: the longest time, and the sum of the counts.
+pub(crate) fn measured_by<J: Naming>(workers: &[Worker<J>]) -> Result<Measured> {
+    let mut all = Measured::new(Duration::ZERO, 0);
+    for worker in workers {
+        match worker.measured {
+            Some(Measured { time, count }) => {
+                all.time = all.time.max(time);
+                all.count = all.count.saturating_add(count);
+            }
+            None => bail!("a session hasn't done its task"),
+        }
+    }
+    Ok(all)
+}
+
+impl<J: Naming> Worker<'_, J> {
+    /// Whether others wait for the end of its task.
+    fn is_awaited(&self) -> bool {
+        matches!(self.task.role, Role::Ask(_) | Role::Push)
     }
 
     /// Does its task. `busy` is how many others are waited for.
@@ -124,7 +185,7 @@ impl<J: Naming> Worker<J> {
         busy: &AtomicU64,
     ) {
         self.measured = self.work(rt, shared, busy).ok();
-        if self.task.is_awaited() {
+        if self.is_awaited() {
             busy.fetch_sub(1, Ordering::SeqCst);
         }
     }
@@ -152,19 +213,18 @@ impl<J: Naming> Worker<J> {
         &mut self,
         rt: &R,
         shared: &Shared<J, K>,
-        turns: u64,
+        turns: usize,
     ) -> Result<Measured> {
         let start = Instant::now(rt)?;
         for _turn in 0..turns {
-            if self
+            let answer = self
                 .session
-                .impact(shared, &self.name, &self.task.query)
-                .is_err()
-            {
+                .impact(shared, &self.task.name, &self.task.query);
+            if answer.is_err() {
                 bail!("a query is refused");
             }
         }
-        Ok(Measured::new(start.elapsed(rt)?, turns as usize))
+        Measured::since(rt, start, turns)
     }
 
     /// Pushes its state while others ask.
@@ -184,17 +244,13 @@ impl<J: Naming> Worker<J> {
     }
 
     /// Pushes its state.
-    pub(crate) fn push<K: Sink, R: Wait + AllocGlobal>(
+    fn push<K: Sink, R: Wait + AllocGlobal>(
         &mut self,
         rt: &R,
         shared: &Shared<J, K>,
     ) -> Result<()> {
-        let draft = push_of(rt.alloc(), self.task.state.as_slice())?;
-        let name = name_of(rt.alloc(), self.number)?;
-        match self.session.submit(rt, shared, name, draft) {
-            Ok(_) => Ok(()),
-            Err(refusal) => bail!("a push is refused: {}", refusal.name()),
-        }
+        let push = push_of(rt.alloc(), self.task.number, self.task.state)?;
+        submit(rt, shared, &mut self.session, push)
     }
 
     /// Makes its pushes.
@@ -203,11 +259,13 @@ impl<J: Naming> Worker<J> {
         rt: &R,
         shared: &Shared<J, K>,
     ) -> Result<Measured> {
+        let start = Instant::now(rt)?;
         let pushes = mem::replace(&mut self.task.pushes, Vec::new(rt.alloc()));
         let count = pushes.len();
-        let start = Instant::now(rt)?;
-        submit_all(rt, shared, &mut self.session, pushes)?;
-        Ok(Measured::new(start.elapsed(rt)?, count))
+        for push in pushes {
+            submit(rt, shared, &mut self.session, push)?;
+        }
+        Measured::since(rt, start, count)
     }
 
     /// Reads its state until the pushes are made.
@@ -219,33 +277,39 @@ impl<J: Naming> Worker<J> {
     ) -> Result<Measured> {
         let mut longest = Duration::ZERO;
         for _turn in 0..u64::MAX {
-            let start = Instant::now(rt)?;
-            let answer = self.session.state(rt, shared, &self.name);
-            longest = longest.max(start.elapsed(rt)?);
-            if answer.is_err() {
-                bail!("a read is refused");
-            }
+            longest = longest.max(self.read_once(rt, shared)?);
             if busy.load(Ordering::SeqCst) == 0 {
                 break;
             }
         }
         Ok(Measured::new(longest, 1))
     }
+
+    /// How long a read of its state takes.
+    fn read_once<K: Sink, R: Wait + Clock>(
+        &mut self,
+        rt: &R,
+        shared: &Shared<J, K>,
+    ) -> Result<Duration> {
+        let start = Instant::now(rt)?;
+        match self.session.state(rt, shared, &self.task.name) {
+            Ok(_doc) => Ok(start.elapsed(rt)?),
+            Err(_) => bail!("a read is refused"),
+        }
+    }
 }
 
-/// Has a session make pushes.
-fn submit_all<J: Naming, K: Sink, R: Wait>(
+/// Has a session make a push.
+fn submit<J: Naming, K: Sink, R: Wait>(
     rt: &R,
     shared: &Shared<J, K>,
     session: &mut Session<J>,
-    pushes: Vec<(Name, Draft)>,
+    (name, draft): (Name, Draft),
 ) -> Result<()> {
-    for (name, draft) in pushes {
-        if session.submit(rt, shared, name, draft).is_err() {
-            bail!("a push is refused");
-        }
+    match session.submit(rt, shared, name, draft) {
+        Ok(_) => Ok(()),
+        Err(refusal) => bail!("a push is refused: {}", refusal.name()),
     }
-    Ok(())
 }
 
 /// Has each worker work, at the same time where the system makes the threads.

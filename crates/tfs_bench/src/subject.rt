@@ -1,0 +1,95 @@
+//! The subjects of which calls are measured, and how.
+
+use crate::converse::Talk;
+use crate::index::Impacts;
+use crate::input::lines_of;
+use crate::journal::Journal;
+use crate::measure::Measured;
+use crate::planes::Relation;
+use crate::shared::Sessions;
+use crate::state::StateText;
+use crate::table::Pushes;
+use anyhow::Result;
+use std::alloc::Global;
+use std::sync::Wait;
+use std::thread::Threads;
+use std::time::{Clock, Duration};
+
+/// What has calls, over some input.
+#[derive(Clone, Copy)]
+pub(crate) enum Subject<'s, 'a> {
+    Planes(Relation<'a>),
+    Index(&'s Impacts<'a>),
+    State(StateText<'a>),
+    Journal(&'s Journal<'a>),
+    Table(&'s Pushes<'a>),
+    Converse(Talk<'a>),
+    Shared(Sessions<'a>),
+}
+
+impl Subject<'_, '_> {
+    /// Makes the call of a name once.
+    fn call<R: Threads + Wait + Clock + Print + AllocGlobal + Sync>(
+        &self,
+        rt: &R,
+        name: &str,
+    ) -> Result<Measured> {
+        match self {
+            Subject::Planes(relation) => relation.call(rt, name),
+            Subject::Index(impacts) => impacts.call(rt, name),
+            Subject::State(text) => text.call(rt, name),
+            Subject::Journal(journal) => journal.call(rt, name),
+            Subject::Table(pushes) => pushes.call(rt, name),
+            Subject::Converse(talk) => talk.call(rt, name),
+            Subject::Shared(sessions) => sessions.call(rt, name),
+        }
+    }
+}
+
+/// Makes calls so many times, in turns, and prints the nanoseconds of the shortest of each, and what it gave last. No rounds: each call
+/// is made once, and what it gave is printed. In none of 0 rounds the input was made, and no more.
+pub(crate) fn print_calls<R: Threads + Wait + Clock + Print + AllocGlobal + Sync>(
+    rt: &R,
+    subject: Subject,
+    rounds: Option<usize>,
+    names: &str,
+) -> Result<()> {
+    let names = lines_of(rt.alloc(), names)?;
+    let longest = Measured::new(Duration::MAX, 0);
+    let mut all = vec![in rt.alloc(); longest; names.len()]?;
+    for _ in 0..rounds.unwrap_or(1) {
+        take_turns(rt, subject, names.as_slice(), all.as_mut_slice())?;
+    }
+    print_all(rt, names.as_slice(), all.as_slice(), rounds.is_some())
+}
+
+/// Makes each call once, and keeps the shorter times.
+fn take_turns<R: Threads + Wait + Clock + Print + AllocGlobal + Sync>(
+    rt: &R,
+    subject: Subject,
+    names: &[&str],
+    all: &mut [Measured],
+) -> Result<()> {
+    for (i, least) in all.iter_mut().enumerate() {
+        if let Some(name) = names.get(i) {
+            let Measured { time, count } = subject.call(rt, name)?;
+            let time = least.time.min(time);
+            *least = Measured { time, count };
+        }
+    }
+    Ok(())
+}
+
+/// Prints the number of each call, behind its time where that is wanted.
+fn print_all(rt: &impl Print, names: &[&str], all: &[Measured], is_timed: bool) -> Result<()> {
+    for (i, Measured { time, count }) in all.iter().enumerate() {
+        let name = names.get(i).unwrap_or(&"");
+        let nanos = time.as_nanos();
+        if is_timed {
+            println!(rt; "{name} {nanos} {count}")?;
+        } else {
+            println!(rt; "{name} {count}")?;
+        }
+    }
+    Ok(())
+}
