@@ -1,6 +1,6 @@
 //! Conversations over a table, whose reader or writer does what no file or socket does at will.
 
-use crate::texts::{DONE, PUSH_AND_READ, S1, reply_of, request_of};
+use crate::texts::{DONE, PUSH_AND_READ, REPLIES, S1, reply_of, request_of};
 use std::alloc::Global;
 use std::io;
 use std::process::Abort;
@@ -9,16 +9,35 @@ use tfs_conversation::{Ended, Reads, ServeFault, Watched, converse_over_table};
 use tfs_records::Discard;
 use tfs_table::Table;
 
-/// Gives its bytes in reads of at most so many, and tells whether it told its end.
+/// Gives its bytes in reads of at most so many, and then tells its end, or fails. It counts the reads, and keeps whether it told its end.
 #[derive(Drop)]
 struct Pieces<'i> {
     rest: &'i [u8],
     most: usize,
+    fails: bool,
+    calls: u64,
     told_end: bool,
+}
+
+impl<'i> Pieces<'i> {
+    /// Nothing was read of these bytes.
+    fn new(rest: &'i [u8], most: usize, fails: bool) -> Pieces<'i> {
+        Pieces {
+            rest,
+            most,
+            fails,
+            calls: 0,
+            told_end: false,
+        }
+    }
 }
 
 impl<'i> io::Read for Pieces<'i> {
     fn read(&mut self, buf: &mut [u8]) -> io::Result<usize> {
+        self.calls = self.calls.saturating_add(1);
+        if self.fails && self.rest.is_empty() {
+            return Err(io::Error::from(io::ErrorKind::ConnectionReset));
+        }
         let count = self.most.min(buf.len()).min(self.rest.len());
         let (piece, rest) = self.rest.split_at(count);
         buf[..count].copy_from_slice(piece);
@@ -26,207 +45,6 @@ impl<'i> io::Read for Pieces<'i> {
         self.told_end = count == 0;
         Ok(count)
     }
-}
-
-/// Takes at most so many bytes a call, as long as it has room, and then takes none without an error.
-#[derive(Drop)]
-struct Taking {
-    taken: Vec<u8>,
-    most: usize,
-    room: usize,
-}
-
-impl io::Write for Taking {
-    fn write(&mut self, buf: &[u8]) -> io::Result<usize> {
-        let count = self.most.min(buf.len()).min(self.room);
-        let (piece, _) = buf.split_at(count);
-        if self.taken.extend_from_slice(piece).is_err() {
-            return Err(io::Error::from(io::ErrorKind::OutOfMemory));
-        }
-        self.room -= count;
-        Ok(count)
-    }
-
-    fn flush(&mut self) -> io::Result<()> {
-        Ok(())
-    }
-}
-
-/// How a conversation over a new table ends, and how many entries the table has then. Its input comes in reads of at most so many bytes,
-/// and is read to its end.
-fn talk<W: io::Write>(
-    rt: &(impl Alloc<A = Global> + Abort),
-    input: &str,
-    most: usize,
-    writer: &mut W,
-) -> (Result<Ended, ServeFault>, usize) {
-    let mut table = Table::new(rt.alloc(), Discard).ok().expect(rt, "a table");
-    let mut reader = Watched::new(Pieces {
-        rest: input.as_bytes(),
-        most,
-        told_end: false,
-    });
-    let mut writer = Watched::new(writer);
-    let mut reads = Reads::new();
-    let ended = converse_over_table(rt.alloc(), &mut reader, &mut writer, &mut table, &mut reads);
-    assert!(rt; reader.inner.told_end || ended.is_err());
-    (ended, table.len())
-}
-
-/// An input that comes in reads of at most so many bytes is read to its end.
-fn is_read(rt: &(impl Alloc<A = Global> + Abort), input: &str, most: usize, end: Ended) {
-    let mut writer = Vec::new(rt.alloc());
-    assert!(rt; talk(rt, input, most, &mut writer).0 == Ok(end), "{most}");
-}
-
-#[test]
-fn the_input_is_read_to_its_end(rt: HostRuntime) -> Result<(), Fail> {
-    for most in [1, 53, 95, 96, 129, 130] {
-        is_read(&rt, PUSH_AND_READ, most, Ended::Clean);
-    }
-    is_read(&rt, "GET /state/a HT", 1, Ended::Cut);
-    Ok(())
-}
-
-/// A writer that takes at most so many bytes a call, and so many in all, has the front of the replies to the input, whose first request is
-/// accepted, and the conversation ends so.
-fn is_taken(
-    rt: &(impl Alloc<A = Global> + Abort),
-    input: &str,
-    (most, room): (usize, usize),
-    front: &[u8],
-    end: Result<Ended, ServeFault>,
-) {
-    let mut writer = Taking {
-        taken: Vec::new(rt.alloc()),
-        most,
-        room,
-    };
-    assert!(rt;
-        talk(rt, input, usize::MAX, &mut writer) == (end, 1),
-        "{room}"
-    );
-    assert!(rt; writer.taken.as_slice() == front, "{room}");
-}
-
-/// The replies to the push and the read of a state.
-fn replies_to(rt: &impl Alloc<A = Global>, state: &str) -> Result<String, Fail> {
-    let read = reply_of(rt, state)?;
-    Ok(format!(in rt.alloc(); "{DONE}{read}")?)
-}
-
-#[test]
-fn a_writer_that_takes_nothing_more_has_a_front_of_the_replies(
-    rt: HostRuntime,
-) -> Result<(), Fail> {
-    let replies = replies_to(&rt, S1)?;
-    assert!(rt; replies.len() == 150);
-    for room in 0..150 {
-        let (front, _) = replies.as_bytes().split_at(room);
-        is_taken(&rt, PUSH_AND_READ, (1, room), front, Err(ServeFault::Write));
-    }
-    Ok(())
-}
-
-/// S1 and spaces, 200,000 bytes together.
-fn long_state(rt: &impl Alloc<A = Global>) -> Result<String, Fail> {
-    let mut state = String::from_str(rt.alloc(), S1)?;
-    for _ in 0..199_959 {
-        state.push(' ')?;
-    }
-    Ok(state)
-}
-
-/// A push of a state to `a`, and a read of `a`.
-fn push_and_read(rt: &impl Alloc<A = Global>, state: &str) -> Result<String, Fail> {
-    let mut input = request_of(rt, "POST", "/state/a", state)?;
-    input.push_str("GET /state/a HTTP/1.1\r\nHost: h\r\n\r\n")?;
-    Ok(input)
-}
-
-#[test]
-fn a_long_state_is_written_in_pieces(rt: HostRuntime) -> Result<(), Fail> {
-    let state = long_state(&rt)?;
-    let input = push_and_read(&rt, state.as_str())?;
-    let replies = replies_to(&rt, state.as_str())?;
-    is_taken(
-        &rt,
-        input.as_str(),
-        (1_000, usize::MAX),
-        replies.as_bytes(),
-        Ok(Ended::Clean),
-    );
-    Ok(())
-}
-
-/// Gives its bytes in reads of at most so many, and then fails.
-#[derive(Drop)]
-struct Failing<'i> {
-    rest: &'i [u8],
-    most: usize,
-}
-
-impl<'i> io::Read for Failing<'i> {
-    fn read(&mut self, buf: &mut [u8]) -> io::Result<usize> {
-        if self.rest.is_empty() {
-            return Err(io::Error::from(io::ErrorKind::ConnectionReset));
-        }
-        let count = self.most.min(buf.len()).min(self.rest.len());
-        let (piece, rest) = self.rest.split_at(count);
-        buf[..count].copy_from_slice(piece);
-        self.rest = rest;
-        Ok(count)
-    }
-}
-
-/// How a conversation over a new table ends, how many reads it makes, and how many entries the table has then.
-fn broken_off<I: io::Read + Drop>(
-    rt: &(impl Alloc<A = Global> + Abort),
-    reader: I,
-    writer: &mut Vec<u8>,
-) -> (Result<Ended, ServeFault>, u64, usize) {
-    let mut table = Table::new(rt.alloc(), Discard).ok().expect(rt, "a table");
-    let mut reader = Watched::new(reader);
-    let mut writer = Watched::new(writer);
-    let mut reads = Reads::new();
-    let ended = converse_over_table(rt.alloc(), &mut reader, &mut writer, &mut table, &mut reads);
-    assert!(rt; reader.has_failed == (ended == Err(ServeFault::Read)) && !writer.has_failed);
-    (ended, reads.used(), table.len())
-}
-
-/// A reader that fails behind the first so many bytes of the push and the read, which come in reads of at most so many, leaves so many
-/// bytes of their replies.
-fn leaves(
-    rt: &(impl Alloc<A = Global> + Abort),
-    replies: &str,
-    (count, most): (usize, usize),
-    written: usize,
-) {
-    let (rest, _) = PUSH_AND_READ.as_bytes().split_at(count.min(130));
-    let (front, _) = replies.as_bytes().split_at(written.min(replies.len()));
-    let mut writer = Vec::new(rt.alloc());
-    let reads = count.div_ceil(most.max(1)).saturating_add(1) as u64;
-    let ended = broken_off(rt, Failing { rest, most }, &mut writer);
-    let entries = if written == 0 { 0 } else { 1 };
-    assert!(rt; ended == (Err(ServeFault::Read), reads, entries), "{count}");
-    assert!(rt; writer.as_slice() == front, "{count}");
-}
-
-#[test]
-fn a_reader_that_fails_behind_a_message_leaves_its_reply(rt: HostRuntime) -> Result<(), Fail> {
-    let replies = replies_to(&rt, S1)?;
-    leaves(&rt, replies.as_str(), (96, 96), 38);
-    for count in 0..131 {
-        let written = if count < 96 {
-            0
-        } else if count < 130 {
-            38
-        } else {
-            150
-        };
-        leaves(&rt, replies.as_str(), (count, 1), written);
-    }
-    Ok(())
 }
 
 /// Gives its bytes one a read, and then blanks without end.
@@ -249,15 +67,217 @@ impl<'i> io::Read for Endless<'i> {
     }
 }
 
+/// Wants these bytes. It takes at most so many a call, as long as it has room, and then none without an error. It counts the writes, and
+/// keeps whether it was given other bytes.
+#[derive(Drop)]
+struct Taking<'w> {
+    rest: &'w [u8],
+    most: usize,
+    room: usize,
+    calls: u64,
+    differs: bool,
+}
+
+impl<'w> Taking<'w> {
+    /// Nothing was taken.
+    fn new(rest: &'w [u8], most: usize, room: usize) -> Taking<'w> {
+        Taking {
+            rest,
+            most,
+            room,
+            calls: 0,
+            differs: false,
+        }
+    }
+
+    /// Whether it was given what it wants, and no more.
+    fn has_all(&self) -> bool {
+        self.rest.is_empty() && !self.differs
+    }
+}
+
+impl<'w> io::Write for Taking<'w> {
+    fn write(&mut self, buf: &[u8]) -> io::Result<usize> {
+        self.calls = self.calls.saturating_add(1);
+        let count = self.most.min(buf.len()).min(self.room);
+        let (piece, _) = buf.split_at(count);
+        let (wanted, rest) = self.rest.split_at(count.min(self.rest.len()));
+        self.differs = self.differs || piece != wanted;
+        self.rest = rest;
+        self.room -= count;
+        Ok(count)
+    }
+
+    fn flush(&mut self) -> io::Result<()> {
+        Ok(())
+    }
+}
+
+/// How a conversation over a new table ends, how many reads it makes, and how many entries the table has then.
+fn talk<I: io::Read>(
+    rt: &(impl Alloc<A = Global> + Abort),
+    reader: &mut Watched<I>,
+    writer: &mut Watched<Taking<'_>>,
+) -> (Result<Ended, ServeFault>, u64, usize) {
+    let mut table = Table::new(rt.alloc(), Discard).ok().expect(rt, "a table");
+    let mut reads = Reads::new();
+    let ended = converse_over_table(rt.alloc(), reader, writer, &mut table, &mut reads);
+    (ended, reads.used(), table.len())
+}
+
+/// An input that comes in reads of at most so many bytes is read to its end, and has these replies. How many reads it takes, which are all
+/// counted, and how many writes.
+fn calls_of(
+    rt: &(impl Alloc<A = Global> + Abort),
+    input: &str,
+    most: usize,
+    replies: &str,
+    end: Ended,
+) -> (u64, u64) {
+    let mut reader = Watched::new(Pieces::new(input.as_bytes(), most, false));
+    let mut writer = Watched::new(Taking::new(replies.as_bytes(), usize::MAX, usize::MAX));
+    let (ended, reads, _) = talk(rt, &mut reader, &mut writer);
+    assert!(rt; ended == Ok(end) && writer.inner.has_all(), "{most}");
+    assert!(rt;
+        reads == reader.inner.calls && reader.inner.told_end,
+        "{most}"
+    );
+    (reads, writer.inner.calls)
+}
+
+#[test]
+fn each_read_is_counted_and_a_short_reply_is_one_write(rt: HostRuntime) -> Result<(), Fail> {
+    for (most, reads) in [(130, 2), (96, 3), (1, 131)] {
+        let calls = calls_of(&rt, PUSH_AND_READ, most, REPLIES, Ended::Clean);
+        assert!(rt; calls == (reads, 2), "{most}");
+    }
+    Ok(())
+}
+
+#[test]
+fn the_input_is_read_to_its_end(rt: HostRuntime) -> Result<(), Fail> {
+    for most in [53, 95, 129] {
+        let (_, writes) = calls_of(&rt, PUSH_AND_READ, most, REPLIES, Ended::Clean);
+        assert!(rt; writes == 2, "{most}");
+    }
+    let (_, writes) = calls_of(&rt, "GET /state/a HT", 1, "", Ended::Cut);
+    assert!(rt; writes == 0);
+    Ok(())
+}
+
+/// A writer that takes at most so many bytes a call, and so many in all, has the front of the replies to the input, whose first request is
+/// accepted, and the conversation ends so, at the end of the input where it isn't broken off.
+fn is_taken(
+    rt: &(impl Alloc<A = Global> + Abort),
+    input: &str,
+    (most, room): (usize, usize),
+    front: &[u8],
+    end: Result<Ended, ServeFault>,
+) {
+    let mut reader = Watched::new(Pieces::new(input.as_bytes(), usize::MAX, false));
+    let mut writer = Watched::new(Taking::new(front, most, room));
+    let (ended, _, entries) = talk(rt, &mut reader, &mut writer);
+    assert!(rt; ended == end && entries == 1, "{room}");
+    assert!(rt; writer.inner.has_all(), "{room}");
+    assert!(rt; reader.inner.told_end || end.is_err(), "{room}");
+}
+
+#[test]
+fn a_writer_that_takes_nothing_more_has_a_front_of_the_replies(
+    rt: HostRuntime,
+) -> Result<(), Fail> {
+    assert!(rt; REPLIES.len() == 150);
+    for room in 0..150 {
+        let (front, _) = REPLIES.as_bytes().split_at(room);
+        is_taken(&rt, PUSH_AND_READ, (1, room), front, Err(ServeFault::Write));
+    }
+    Ok(())
+}
+
+/// S1 and spaces, 200,000 bytes together.
+fn long_state(rt: &impl Alloc<A = Global>) -> Result<String, Fail> {
+    let mut state = String::from_str(rt.alloc(), S1)?;
+    for _ in 0..199_959 {
+        state.push(' ')?;
+    }
+    Ok(state)
+}
+
+/// A push of a state to `a`, and a read of `a`.
+fn push_and_read(rt: &impl Alloc<A = Global>, state: &str) -> Result<String, Fail> {
+    let mut input = request_of(rt, "POST", "/state/a", state)?;
+    input.push_str("GET /state/a HTTP/1.1\r\nHost: h\r\n\r\n")?;
+    Ok(input)
+}
+
+/// The replies to them.
+fn replies_to(rt: &impl Alloc<A = Global>, state: &str) -> Result<String, Fail> {
+    let mut replies = String::from_str(rt.alloc(), DONE)?;
+    replies.push_str(reply_of(rt, state)?.as_str())?;
+    Ok(replies)
+}
+
+#[test]
+fn a_long_state_is_written_in_pieces(rt: HostRuntime) -> Result<(), Fail> {
+    let state = long_state(&rt)?;
+    is_in_pieces(&rt, state.as_str())
+}
+
+/// The replies to the push and the read of a state are taken in pieces of 1,000 bytes.
+fn is_in_pieces(rt: &(impl Alloc<A = Global> + Abort), state: &str) -> Result<(), Fail> {
+    let input = push_and_read(rt, state)?;
+    let replies = replies_to(rt, state)?;
+    is_taken(
+        rt,
+        input.as_str(),
+        (1_000, usize::MAX),
+        replies.as_bytes(),
+        Ok(Ended::Clean),
+    );
+    Ok(())
+}
+
+/// A reader that fails behind the first so many bytes of the push and the read, which come in reads of at most so many, leaves so many
+/// bytes of their replies.
+fn leaves(rt: &(impl Alloc<A = Global> + Abort), (count, most): (usize, usize), written: usize) {
+    let (rest, _) = PUSH_AND_READ.as_bytes().split_at(count.min(130));
+    let (front, _) = REPLIES.as_bytes().split_at(written.min(150));
+    let mut reader = Watched::new(Pieces::new(rest, most, true));
+    let mut writer = Watched::new(Taking::new(front, usize::MAX, usize::MAX));
+    let reads = count.div_ceil(most.max(1)).saturating_add(1) as u64;
+    let entries = if written == 0 { 0 } else { 1 };
+    let ended = talk(rt, &mut reader, &mut writer);
+    assert!(rt; ended == (Err(ServeFault::Read), reads, entries), "{count}");
+    assert!(rt; reader.has_failed && !writer.has_failed, "{count}");
+    assert!(rt; writer.inner.has_all(), "{count}");
+}
+
+#[test]
+fn a_reader_that_fails_behind_a_message_leaves_its_reply(rt: HostRuntime) -> Result<(), Fail> {
+    leaves(&rt, (96, 96), 38);
+    for count in 0..131 {
+        let written = if count < 96 {
+            0
+        } else if count < 130 {
+            38
+        } else {
+            150
+        };
+        leaves(&rt, (count, 1), written);
+    }
+    Ok(())
+}
+
 #[test]
 fn a_body_of_16_mib_that_comes_byte_by_byte_takes_too_many_reads(
     rt: HostRuntime,
 ) -> Result<(), Fail> {
-    let reader = Endless {
+    let mut reader = Watched::new(Endless {
         rest: b"POST /state/a HTTP/1.1\r\nHost: h\r\nContent-Length: 16777216\r\n\r\n",
-    };
-    let mut writer = Vec::new(rt.alloc());
-    let ended = broken_off(&rt, reader, &mut writer);
-    assert!(rt; ended == (Err(ServeFault::TooManyReads), 1_048_576, 0) && writer.is_empty());
+    });
+    let mut writer = Watched::new(Taking::new(b"", usize::MAX, usize::MAX));
+    let ended = talk(&rt, &mut reader, &mut writer);
+    assert!(rt; ended == (Err(ServeFault::TooManyReads), 1_048_576, 0));
+    assert!(rt; !reader.has_failed && !writer.has_failed && writer.inner.has_all());
     Ok(())
 }
