@@ -1,9 +1,10 @@
 //! The calls on records, journals and sinks.
 
 use super::name_a;
-use std::alloc::AllocError;
+use std::alloc::{AllocError, Global};
 use std::fs::{self, File};
 use std::io;
+use std::process::Abort;
 use std::test::Fail;
 use tfs_journal::{
     Base, BaseRow, Decoded, Discard, End, Entries, Entry, FileSink, MemorySink, Out, Rows, Sink,
@@ -11,26 +12,42 @@ use tfs_journal::{
 };
 use tfs_rules::Act;
 
-#[test]
-fn records_of_entries(rt: HostRuntime) -> Result<(), Fail> {
+/// The record of the unlock of `a`.
+fn record(rt: &(impl Alloc<A = Global> + Abort)) -> Result<Vec<u8>, AllocError> {
     let entry: Entry = Entry {
-        name: name_a(&rt),
+        name: name_a(rt),
         act: Act::Unlock(None),
     };
     let text: Result<Vec<u8>, AllocError> = encode(rt.alloc(), &entry);
-    let mut bytes = "TFJ1\n".as_bytes().to_vec(rt.alloc())?;
-    bytes.extend_from_slice(text?.as_slice())?;
+    text
+}
+
+/// A journal of that record.
+fn journal(rt: &(impl Alloc<A = Global> + Abort)) -> Result<Vec<u8>, AllocError> {
+    let mut bytes = b"TFJ1\n".to_vec(rt.alloc())?;
+    bytes.extend_from_slice(record(rt)?.as_slice())?;
+    Ok(bytes)
+}
+
+#[test]
+fn records_of_entries(rt: HostRuntime) -> Result<(), Fail> {
+    let bytes = journal(&rt)?;
     let decoded: Result<Decoded, AllocError> = decode(rt.alloc(), bytes.as_slice());
+    is_of_one(&rt, &decoded?);
+    Ok(())
+}
+
+/// A journal that was read is whole, and has one entry.
+fn is_of_one(rt: &impl Abort, decoded: &Decoded) {
     let Decoded {
         format: _,
         base: _,
         entries,
         end,
-    } = decoded?;
-    let entries: Entries = entries;
-    let end: End = end;
-    assert!(rt; end == End::Whole && entries.as_slice().len() == 1);
-    Ok(())
+    } = decoded;
+    let entries: &Entries = entries;
+    let end: &End = end;
+    assert!(rt; *end == End::Whole && entries.as_slice().len() == 1);
 }
 
 #[test]
