@@ -45,24 +45,29 @@ impl Gate for Closed {
 #[test]
 fn conversations(rt: HostRuntime) -> Result<(), Fail> {
     let mut table = Table::new(rt.alloc(), Discard).ok().expect(&rt, "a table");
-    let mut desk: TableDesk<'_, Discard> = TableDesk {
+    let desk: TableDesk<'_, Discard> = TableDesk {
         alloc: rt.alloc(),
         table: &mut table,
     };
+    let (ended, used) = conversed(rt.alloc(), desk);
+    assert!(rt; ended == Ok(Ended::Clean) && used == 2);
+    Ok(())
+}
+
+/// How the conversation of a read ends, and how many reads it takes.
+fn conversed(alloc: Global, mut desk: TableDesk<'_, Discard>) -> (Result<Ended, ServeFault>, u64) {
     let mut reader: Watched<&[u8]> = Watched::new(READ);
-    let mut writer: Watched<Vec<u8>> = Watched::new(Vec::new(rt.alloc()));
+    let mut writer: Watched<Vec<u8>> = Watched::new(Vec::new(alloc));
     let mut reads: Reads = Reads::new();
     let ended: Result<Ended, ServeFault> = converse(
-        rt.alloc(),
+        alloc,
         &mut reader,
         &mut writer,
         &mut desk,
         &mut reads,
     );
-    assert!(rt; ended == Ok(Ended::Clean));
     let used: u64 = reads.used();
-    assert!(rt; used == 2);
-    Ok(())
+    (ended, used)
 }
 
 #[test]
@@ -130,13 +135,9 @@ fn named<
         blank,
         opened,
     );
-    let (shared, mut sessions) = made.ok().expect(rt, "a shared table");
+    let (shared, sessions) = made.ok().expect(rt, "a shared table");
     let before: u64 = shared.opened();
     assert!(rt; before == 0);
-    for session in sessions.as_mut_slice() {
-        calls(rt, &shared, session);
-        desks(rt, &shared, session);
-    }
     let sessions = worked(rt, &shared, sessions);
     let gathered: Result<Table<Discard>, Strangers<J, Discard>> = gather(rt, shared, sessions);
     is_gathered(rt, gathered);
@@ -168,43 +169,39 @@ fn calls<J: Naming, R: Wait + Abort + Alloc<A = Global>>(
     shared: &Shared<J, Discard>,
     session: &mut Session<J>,
 ) {
-    let body = Bytes::new(Vec::new(rt.alloc()));
-    let draft = Draft::read(rt.alloc(), Raw::Unlock(body, None))
-        .ok()
-        .expect(rt, "a draft");
-    let submitted: Result<u64, Refusal> = session.submit(rt, shared, name_a(rt), draft);
-    assert!(rt; submitted.ok() == Some(1));
+    submits(rt, shared, session);
     let state: Result<Arc<Doc>, Refusal> = session.state(rt, shared, &name_a(rt));
     assert!(rt; state.is_err());
+    queries(rt, shared, session);
+    let (accepted, seen): (u64, u64) = (session.accepted(), session.seen());
+    assert!(rt; accepted == 1 && seen == 1);
+}
+
+/// A session's change, which is the first one.
+fn submits<J: Naming, R: Wait + Abort + Alloc<A = Global>>(
+    rt: &R,
+    shared: &Shared<J, Discard>,
+    session: &mut Session<J>,
+) {
+    let body = Bytes::new(Vec::new(rt.alloc()));
+    let draft = Draft::read(rt.alloc(), Raw::Unlock(body, None)).ok();
+    let draft = draft.expect(rt, "a draft");
+    let submitted: Result<u64, Refusal> = session.submit(rt, shared, name_a(rt), draft);
+    assert!(rt; submitted.ok() == Some(1));
+}
+
+/// A session's query, of a name that has no state.
+fn queries<J: Naming, R: Abort + Alloc<A = Global>>(
+    rt: &R,
+    shared: &Shared<J, Discard>,
+    session: &mut Session<J>,
+) {
     let query = Query {
         kind: Kind::All,
         texts: Texts::new(Vec::new(rt.alloc())),
     };
     let impact: Result<Impact, Refusal> = session.impact(shared, &name_a(rt), &query);
     assert!(rt; impact.is_err());
-    let (accepted, seen): (u64, u64) = (session.accepted(), session.seen());
-    assert!(rt; accepted == 1 && seen == 1);
-}
-
-/// A session's desk behind a gate.
-fn desks<J: Naming, R: Wait + Abort + Alloc<A = Global>>(
-    rt: &R,
-    shared: &Shared<J, Discard>,
-    session: &mut Session<J>,
-) {
-    let turn = Mutex::new(());
-    let never = AtomicBool::new(false);
-    let load = Load::new(1);
-    let service = Service {
-        rt,
-        alloc: rt.alloc(),
-        shared,
-        turn: &turn,
-        ended: &never,
-        muted: &never,
-        load: &load,
-    };
-    asks(rt, &service, session);
 }
 
 /// A call through a desk behind a gate.
@@ -223,7 +220,7 @@ fn asks<J: Naming, R: Wait + Abort + Alloc<A = Global>>(
     assert!(rt; matches!(reply, Reply::Refused(Refusal::NoState)));
 }
 
-/// A session that works alone, behind a gate that admits nobody.
+/// A session that makes its calls, through a desk too, and works alone, behind a gate that admits nobody.
 fn works<
     J: Naming,
     R: Wait + Clock + Abort + Alloc<A = Global> + Net<Stream = TcpStream, Listener = TcpListener>,
@@ -240,6 +237,8 @@ fn works<
         muted: &never,
         load: &load,
     };
+    calls(rt, shared, session);
+    asks(rt, &service, session);
     let worked: Result<(), AcceptFault> = work(&service, listener, &mut Closed, session);
     assert!(rt; worked == Ok(()));
 }
