@@ -5,7 +5,7 @@ ghost use Rattle.std.specs.Prelude.{◌≡◌, length};
 use crate::drafts::chain_of;
 use crate::runs::{address_of, asking, listener_of};
 use crate::shared::later_table;
-use std::alloc::Global;
+use std::alloc::{AllocError, Global};
 use std::net::{Net, TcpListener, TcpStream};
 use std::process::Abort;
 use std::sync::Wait;
@@ -94,27 +94,36 @@ fn serial_of(number: usize) -> u64 {
 }
 
 /// The requests of a client: a push, a query, an unlock and a read in turn.
-fn requests_of(rt: &(impl Alloc<A = Global> + Abort)) -> Result<String, Fail> {
+fn requests_of(rt: &(impl Alloc<A = Global> + Abort)) -> Result<String, AllocError> {
     let mut text = String::new(rt.alloc());
     for number in 0..REQUESTS {
-        match number % 4 {
-            0 => text.push_str(push_of(rt, number)?.as_str())?,
-            1 => text.push_str(QUERY)?,
-            2 => text.push_str(UNLOCK)?,
-            _ => text.push_str(READ)?,
-        }
+        push_request(rt, &mut text, number)?;
     }
     text.push_str(LAST)?;
     Ok(text)
 }
 
-/// The push of the chain that is the request of a number.
-fn push_of(rt: &(impl Alloc<A = Global> + Abort), number: usize) -> Result<String, Fail> {
-    let state = chain_of(rt, serial_of(number));
+/// Adds the request of a number.
+fn push_request(
+    rt: &(impl Alloc<A = Global> + Abort),
+    text: &mut String,
+    number: usize,
+) -> Result<(), AllocError> {
+    match number % 4 {
+        0 => push_state(text, chain_of(rt, serial_of(number)).as_str()),
+        1 => text.push_str(QUERY),
+        2 => text.push_str(UNLOCK),
+        _ => text.push_str(READ),
+    }
+}
+
+/// Adds the push of a state.
+fn push_state(text: &mut String, state: &str) -> Result<(), AllocError> {
     let len = state.len();
-    Ok(format!(in rt.alloc();
+    write!(
+        text,
         "POST /state/a HTTP/1.1\r\nHost: h\r\nContent-Length: {len}\r\n\r\n{state}"
-    )?)
+    )
 }
 
 #[test]
