@@ -156,21 +156,29 @@ fn answer<
         + Sync,
 >(rt: &R, shared: &Shared<J, Discard>, listener: &TcpListener, sessions: Vec<Session<J>>) {
     let come = AtomicU64::new(0);
-    let mut workers = Vec::new(rt.alloc());
-    for session in sessions {
-        let gate = Meeting::new(rt, &come);
-        let failed = true;
-        let worker = Worker {
-            gate,
-            session,
-            failed,
-        };
-        assert!(rt; workers.push(worker).is_ok());
-    }
+    let mut workers = workers_of(rt, &come, sessions);
     work_all(rt, rt.alloc(), listener, workers.as_mut_slice(), shared);
     for worker in workers.as_slice() {
         assert!(rt; worker.gate.met && !worker.failed);
     }
+}
+
+/// A worker for each session, with a gate.
+fn workers_of<'m, J: Naming, R: Clock + Abort + Alloc<A = Global>>(
+    rt: &'m R,
+    come: &'m AtomicU64,
+    sessions: Vec<Session<J>>,
+) -> Vec<Worker<J, Meeting<'m, R>>> {
+    let mut workers = Vec::new(rt.alloc());
+    for session in sessions {
+        let worker = Worker {
+            gate: Meeting::new(rt, come),
+            session,
+            failed: true,
+        };
+        assert!(rt; workers.push(worker).is_ok());
+    }
+    workers
 }
 
 /// A connection on which the request was sent.
