@@ -17,7 +17,7 @@ fn has_no_route(rt: &(impl Alloc<A = Global> + Abort), target: &[u8]) -> Result<
     let body = Vec::new(rt.alloc());
     let request = Request::new(rt.alloc(), b"GET", target, body, false, true)?;
     let refusal = call_of(rt.alloc(), &routes, request).err();
-    assert!(rt; refusal.expect(rt, "a refusal").name() == "NoRoute");
+    assert!(rt; matches!(refusal, Some(Refusal::NoRoute)));
     Ok(())
 }
 
