@@ -3,6 +3,7 @@
 ghost use Rattle.std.specs.Prelude.{◌≡◌, ◌≤◌};
 
 use super::name_a;
+use crate::runs::Once;
 use std::alloc::Global;
 use std::marker::Brand;
 use std::net::{Net, TcpListener, TcpStream};
@@ -15,7 +16,7 @@ use std::thread::Threads;
 use std::time::Clock;
 use tfs_journal::Discard;
 use tfs_serve::{
-    AcceptFault, Desk, Ended, Gate, Gated, Load, Reads, RunFault, ServeFault, Service, SessionDesk,
+    AcceptFault, Desk, Ended, Gated, Load, Reads, RunFault, ServeFault, Service, SessionDesk,
     TableDesk, Watched, Worker, converse, run_check, run_rebase, work, work_all,
 };
 use tfs_shared::{Lack, Naming, Opened, Session, Shared, Strangers, Unshared, gather, share};
@@ -25,21 +26,8 @@ use tfs_table::{Bytes, Call, Draft, Impact, Kind, Query, Raw, Refusal, Reply, Ta
 const READ: &[u8] = b"GET /state/a HTTP/1.1\r\nHost: h\r\n\r\n";
 
 /// A gate that admits nobody.
-#[derive(Drop)]
-struct Closed;
-
-impl Gate for Closed {
-    ghost use Rattle.std.specs.Prelude.{None};
-
-    ghost told = { λ gate. None };
-
-    fn admit(&mut self) -> bool {
-        false
-    }
-
-    fn before(&mut self, _call: &Call) {}
-
-    fn after(&mut self, _reply: &Reply) {}
+fn closed() -> Once {
+    Once { is_open: false }
 }
 
 #[test]
@@ -211,8 +199,8 @@ fn asks<J: Naming, R: Wait + Abort + Alloc<A = Global>>(
     session: &mut Session<J>,
 ) {
     let desk: SessionDesk<'_, '_, '_, J, Discard, R> = SessionDesk { service, session };
-    let mut gate = Closed;
-    let mut gated: Gated<'_, SessionDesk<'_, '_, '_, J, Discard, R>, Closed> = Gated {
+    let mut gate = closed();
+    let mut gated: Gated<'_, SessionDesk<'_, '_, '_, J, Discard, R>, Once> = Gated {
         desk,
         gate: &mut gate,
     };
@@ -239,7 +227,7 @@ fn works<
     };
     calls(rt, shared, session);
     asks(rt, &service, session);
-    let worked: Result<(), AcceptFault> = work(&service, listener, &mut Closed, session);
+    let worked: Result<(), AcceptFault> = work(&service, listener, &mut closed(), session);
     assert!(rt; worked == Ok(()));
 }
 
@@ -260,8 +248,8 @@ fn worked<
     let mut workers = Vec::new(rt.alloc());
     for mut session in sessions {
         works(rt, shared, &listener, &mut session);
-        let worker: Worker<J, Closed> = Worker {
-            gate: Closed,
+        let worker: Worker<J, Once> = Worker {
+            gate: closed(),
             session,
             failed: true,
         };
@@ -274,7 +262,7 @@ fn worked<
 /// The sessions of workers whose listener gave connections.
 fn idle<J: Naming>(
     rt: &(impl Alloc<A = Global> + Abort),
-    workers: Vec<Worker<J, Closed>>,
+    workers: Vec<Worker<J, Once>>,
 ) -> Vec<Session<J>> {
     let mut sessions = Vec::new(rt.alloc());
     for worker in workers {
