@@ -217,10 +217,7 @@ impl<J: Naming> Worker<'_, J> {
     ) -> Result<Measured> {
         let start = Instant::now(rt)?;
         for _turn in 0..turns {
-            let answer = self
-                .session
-                .impact(shared, &self.task.name, &self.task.query);
-            if answer.is_err() {
+            if !self.task.is_answered(shared, &mut self.session) {
                 bail!("a query is refused");
             }
         }
