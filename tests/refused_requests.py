@@ -51,8 +51,12 @@ def run_counted(words, first, last, data=b"", **how):
     """Runs a program, whose requests from the first to the last are refused: how it ended, and its counts."""
     reading, writing = os.pipe()
     given = {"LD_PRELOAD": str(SHIM), "REFUSE_FROM": str(first), "REFUSE_TO": str(last), "COUNTS": str(writing)}
-    how = {"input": data, "stdout": subprocess.PIPE, "stderr": subprocess.PIPE, "timeout": SECONDS, "check": False, **how}
-    ran = subprocess.run(words, env=given, pass_fds=[writing], **how)
+    with tempfile.TemporaryFile() as text:
+        # A read of a file gives all that there is room for, so each run makes the same requests.
+        text.write(data)
+        text.seek(0)
+        how = {"stdin": text, "stdout": subprocess.PIPE, "stderr": subprocess.PIPE, "timeout": SECONDS, "check": False, **how}
+        ran = subprocess.run(words, env=given, pass_fds=[writing], **how)
     os.close(writing)
     with os.fdopen(reading) as counts:
         return ran, Counts(*map(int, counts.read().split()))
