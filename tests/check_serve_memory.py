@@ -28,6 +28,8 @@ TALK = [("POST", "/state/a", S1), ("GET", "/state/a", b""), ("LOCK", "/state/a",
 # How long a small request may take beside bodies that are read for seconds, and how many are to be answered meanwhile. Who waits for one
 # of these bodies each time gets far fewer answers. Where memory runs out, some may be refused, at most a tenth.
 SMALL_SECONDS, SMALL_ANSWERS = 5, 120
+# The most that fifteen such bodies take of which one is read at a time, which takes 0.4 GB.
+IN_TURN_BYTES = 1_000_000_000
 # A state of 8 MB and what comes of it take a few times its bytes: of the body, its document, the index and the journal's record.
 TIMES_ITS_BYTES = 8
 # What an answer takes, however long it is, and how much the middle one of 200 times may differ from run to run.
@@ -297,6 +299,7 @@ def check_small_clients_are_answered_beside_fifteen_hostile_bodies():
     expect(set(told) <= {200, 503, None}, True, set(told))
     expect(told.count(200) >= max(SMALL_ANSWERS, 0.9 * len(told)), True, f"{told.count(200)} of {len(told)} small requests are answered")
     expect(len(large) == 15 and set(large) <= {200, 400, 503}, True, large)
+    expect(most_memory(server) < IN_TURN_BYTES, True, f"{most_memory(server)} bytes at once")
     expect(server.ask("GET", "/state/b")[0], 404, "nothing has ended")
 
 
