@@ -218,7 +218,7 @@ def check_a_read_waits_only_while_its_name_is_changed():
     for thread in threads:
         thread.join()
     server.kill()
-    expect(pushes[0] <= 41 and other[0] >= 4 * pushes[0] > 0 and same < other, True, f"pushes {pushes}, reads {same}, of another name {other}")
+    expect(pushes[0] <= 41 and other[0] >= 4 * max(pushes[0], same[0]) > 0, True, f"pushes {pushes}, reads {same}, of another name {other}")
 
 
 if __name__ == "__main__":
