@@ -1,5 +1,5 @@
 """What `tfstatectl serve` tells is on the disk: over one that keeps only what was synced (lazy_disk.c), with kills at random moments, a sync that
-fails at each turn, and syncs that take long. KILLS says how many kills, SEED which ones."""
+fails at each turn, and syncs and writes that take long. KILLS says how many kills, SEED which ones."""
 import http.client
 import json
 import os
@@ -203,22 +203,40 @@ def count(port, end, step, counts):
     counts.append(number)
 
 
-def check_a_read_waits_only_while_its_name_is_changed():
-    server, told, pushes, other, same = serving(fresh(), workers="4", env=disk(DELAY=50000)), Told(), [], [], []
+def counted(env, *steps):
+    """How often each step is taken in two seconds beside the others, of a server with states of two names."""
+    server, told = serving(fresh(), workers="4", env=env), Told()
     connection = http.client.HTTPConnection(LOOPBACK, server.port, timeout=10)
     for name in ("busy", "still"):
         told.push(connection, name)
     connection.close()
-    end = time.monotonic() + 2
-    steps = ((lambda connection: told.push(connection, "busy"), pushes), (lambda connection: ask_over(connection, "GET", "/state/still"), other),
-             (lambda connection: ask_over(connection, "GET", "/state/busy"), same))
-    threads = [threading.Thread(target=count, args=(server.port, end, *step)) for step in steps]
+    end, counts = time.monotonic() + 2, [[] for _ in steps]
+    threads = [threading.Thread(target=count, args=(server.port, end, lambda connection, step=step: step(connection, told), counts[number]))
+               for number, step in enumerate(steps)]
     for thread in threads:
         thread.start()
     for thread in threads:
         thread.join()
     server.kill()
-    expect(pushes[0] <= 41 and other[0] >= 4 * max(pushes[0], same[0]) > 0, True, f"pushes {pushes}, reads {same}, of another name {other}")
+    return [found[0] for found in counts]
+
+
+def pushing(name):
+    return lambda connection, told: told.push(connection, name)
+
+
+def reading(name):
+    return lambda connection, told: ask_over(connection, "GET", f"/state/{name}")
+
+
+def check_a_read_waits_only_while_its_name_is_changed():
+    pushes, other, same = counted(disk(DELAY=50000), pushing("busy"), reading("still"), reading("busy"))
+    expect(pushes <= 41 and other >= 4 * max(pushes, same) > 0, True, f"pushes {pushes}, reads {same}, of another name {other}")
+
+
+def check_a_read_waits_for_no_write_of_another_name():
+    some, others, reads = counted(disk(HOLD=50000), pushing("busy"), pushing("third"), reading("still"))
+    expect(some + others <= 42 and reads >= 10 * (some + others) > 0, True, f"pushes {some} and {others}, reads {reads}")
 
 
 if __name__ == "__main__":

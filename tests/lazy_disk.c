@@ -1,5 +1,5 @@
 /* Preloaded into the program: a disk of its own. What is written to a journal goes into its file only where that is synced, so that a kill loses the rest.
-   Each sync takes DELAY microseconds. The sync whose turn FAIL tells, from 1, fails, and loses what it was to keep. The file TRACE gets a letter and
+   Each sync takes DELAY microseconds, and each write HOLD. The sync whose turn FAIL tells, from 1, fails, and loses what it was to keep. The file TRACE gets a letter and
    the thread's number for: w, a write to a journal is done; s, a sync begins; d, a sync is done; f, a sync failed; r, a write to a socket begins. */
 #define _GNU_SOURCE
 #include <dlfcn.h>
@@ -77,6 +77,7 @@ static struct held *held_of(int descriptor) {
 }
 
 static ssize_t hold(int descriptor, const void *bytes, size_t size) {
+    if (number_of("HOLD")) usleep(number_of("HOLD"));
     pthread_mutex_lock(&guard);
     struct held *file = held_of(descriptor);
     if (file->room - file->length < size) {

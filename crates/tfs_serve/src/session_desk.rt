@@ -1,16 +1,19 @@
 //! The desk over a session, and conversations over it.
 
-ghost use Rattle.std.specs.Prelude.{◌≡◌, ◌≢◌, ◌⊎◌, Some, None, IfOk, IfErr};
+ghost use Rattle.std.specs.Prelude.{◌≡◌, ◌≢◌, ◌⊎◌, [], Some, None, IfOk, IfErr, MatchResult};
+ghost use Rattle.std.specs.Arc.{arc_value};
 ghost use Rattle.tfs_calls.specs.Draft.{CarriesFittingState, HasFittingState, TakesNoMemory, act_of, draft_refusal};
 ghost use Rattle.tfs_calls.specs.Refusal.{refusal_value, out_of_memory};
-ghost use Rattle.tfs_calls.specs.Reply.{reply_value};
+ghost use Rattle.tfs_calls.specs.Reply.{reply_value, state, refused};
 ghost use Rattle.tfs_calls.specs.declared.call.Call.TheVariants.{Read as CallRead, Change, Impact};
+ghost use Rattle.tfs_shared.specs.Locked.{AnswersRead, HasNoCopy};
+ghost use Rattle.tfs_shared.specs.Signed.{IsSigned};
 ghost use Rattle.tfs_serve.specs.Session.{SessionStep};
 
 use json::Scratch;
 use std::alloc::Global;
 use std::sync::atomic::AtomicBool;
-use std::sync::{Mutex, MutexGuard, Wait};
+use std::sync::{Arc, Mutex, MutexGuard, Wait};
 use tfs_calls::{
     Call, Draft, Query, Raw, Refusal, Reply, a_change_is_answered_as_its_act_is,
     answers_of_the_model_are_undisturbed,
@@ -20,6 +23,7 @@ use tfs_conversation::Desk;
 use tfs_records::Sink;
 use tfs_rules::Name;
 use tfs_shared::{Naming, Session, Shared};
+use tfs_state::Doc;
 
 /// A state of more bytes is read in turn: reading some texts of this length takes many times their bytes.
 pub const MAX_BYTES_AT_ONCE: usize = 4_194_304;
@@ -38,8 +42,8 @@ pub struct Service<'s, J: Naming, K: Sink, R: Wait> {
     pub load: &'s Load,
 }
 
-/// A desk that asks a shared table through a session, which it is lent. Changes and reads wait for the table's lock; impact queries
-/// wait for nobody.
+/// A desk that asks a shared table through a session, which it is lent. Changes wait for the table's lock, and reads where no
+/// published copy has the state; impact queries wait for nobody.
 #[derive(Drop)]
 pub struct SessionDesk<'v, 's, 'm, J: Naming, K: Sink, R: Wait> {
     pub service: &'v Service<'s, J, K, R>,
@@ -106,9 +110,29 @@ fn read<J: Naming, K: Sink, R: Wait>(
 ) -> Reply
     ensures { SessionStep J.opening session.old (CallRead name.now) (reply_value result) session.new }
 {
-    match session.state(service.rt, service.shared, name) {
+    match state_of(service, session, name) {
         Ok(doc) => Reply::State(doc),
         Err(refusal) => Reply::Refused(refusal),
+    }
+}
+
+/// The state of a name, by a published copy or, where none gives an answer, under the lock.
+fn state_of<J: Naming, K: Sink, R: Wait>(
+    service: &Service<'_, J, K, R>,
+    session: &mut Session<J>,
+    name: &Name,
+) -> Result<Arc<Doc>, Refusal>
+    ensures answered { MatchResult result
+        (λ doc. AnswersRead name.now session.old session.new (state (arc_value doc)))
+        (λ refusal. HasNoCopy J.opening session.old session.new (refused (refusal_value refusal))
+        ⊎ AnswersRead name.now session.old session.new (refused (refusal_value refusal))) }
+    ensures signed { IsSigned J.opening session.old session.new [] }
+    ensures accepted { session.new.accepted ≡ session.old.accepted }
+{
+    match session.published_state(name) {
+        Some(Ok(doc)) => Ok(doc),
+        Some(Err(refusal)) => Err(refusal),
+        None => session.state(service.rt, service.shared, name),
     }
 }
 

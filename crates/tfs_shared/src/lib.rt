@@ -1,4 +1,4 @@
-//! The shared table: sessions over one lock, and impact queries over published copies, which never wait for the lock.
+//! The shared table: sessions over one lock, and impact queries and reads over published copies, which never wait for the lock.
 #![tactic(auto)]
 
 mod gathering;
@@ -6,6 +6,7 @@ mod impact;
 mod locked;
 mod locked_state;
 mod merge;
+mod published_state;
 mod session;
 mod shared;
 mod sharing;

@@ -44,6 +44,18 @@ pub(crate) fn read<J: Naming, K: Sink, R: Wait + Abort + Alloc<A = Global>>(
     state.serial()
 }
 
+/// The same by a published copy.
+pub(crate) fn read_published<J: Naming, R: Abort + Alloc<A = Global>>(
+    rt: &R,
+    session: &mut Session<J>,
+) -> u64 {
+    let name = name_of(rt);
+    let answer = session.published_state(&name).expect(rt, "an answer");
+    let state = answer.ok().expect(rt, "a state");
+    assert!(rt; state.bytes() == chain_of(rt, state.serial()).as_bytes());
+    state.serial()
+}
+
 /// The position of the answer to a query of a kind for what `t.a` reaches, which is the other two, and the serial of the state that it is
 /// about.
 pub(crate) fn ask<J: Naming, K: Sink, R: Abort + Alloc<A = Global>>(
@@ -134,6 +146,7 @@ pub(crate) fn asks<J: Naming, K: Sink, R: Wait + Abort + Alloc<A = Global>>(
         assert!(rt;
             ask(rt, shared, second, Kind::All) == (serial, serial) && second.seen() == serial
         );
+        assert!(rt; read_published(rt, second) == serial);
     }
 }
 

@@ -1,6 +1,6 @@
 //! What a session is answered while another one's change is inside the sink.
 
-use crate::sessions::{ask, lock, read};
+use crate::sessions::{ask, lock, read, read_published};
 use crate::shared::{Scene, played, table_of};
 use std::alloc::Global;
 use std::process::Abort;
@@ -104,8 +104,8 @@ fn change<J: Naming, K: Sink, R: Wait + Abort + Alloc<A = Global>>(
     assert!(rt; lock(rt, shared, session) == Some(2));
 }
 
-/// The second session's query, which is answered while the sink waits, and then lets it go on. A read sees the change, and so does the next
-/// query.
+/// The second session's query and its read of a copy, which are answered while the sink waits; then it lets that go on. A read sees the
+/// change, and so does the next query.
 fn answer<J: Naming, K: Sink, R: Wait + Clock + Abort + Alloc<A = Global>>(
     rt: &R,
     shared: &Shared<J, K>,
@@ -114,6 +114,7 @@ fn answer<J: Naming, K: Sink, R: Wait + Clock + Abort + Alloc<A = Global>>(
 ) {
     assert!(rt; wait_for(rt, flag, INSIDE));
     assert!(rt; ask(rt, shared, session, Kind::Any) == (1, 2) && session.seen() == 1);
+    assert!(rt; read_published(rt, session) == 2 && session.seen() == 1);
     assert!(rt; flag.load(Ordering::SeqCst) == INSIDE);
     flag.store(RELEASED, Ordering::SeqCst);
     assert!(rt; read(rt, shared, session) == 2 && session.seen() == 2);

@@ -1,0 +1,44 @@
+//! Reads of published copies, which wait for nobody.
+
+ghost use Rattle.std.specs.Prelude.{◌≡◌, [], IfSome, IfNone, IfOk, IfErr, MatchResult};
+ghost use Rattle.std.specs.Arc.{arc_value};
+ghost use Rattle.tfs_calls.specs.Refusal.{refusal_value, out_of_memory};
+ghost use Rattle.tfs_calls.specs.Reply.{state, refused};
+ghost use Rattle.tfs_shared.specs.Signed.{IsSigned};
+ghost use Rattle.tfs_shared.specs.Locked.{AnswersRead};
+
+use crate::session::Session;
+use std::sync::Arc;
+use tfs_calls::Refusal;
+use tfs_index::Version;
+use tfs_published::{Lookup, Naming};
+use tfs_rules::Name;
+use tfs_state::Doc;
+
+impl<J: Naming> Session<J> {
+    /// The state of a name, by a published copy that begins with all that the session has seen. The answer, also a refusal, is over the
+    /// journal that the session has seen afterwards; `OutOfMemory` also where the copy has lost the version of the name. There is no
+    /// answer, and nothing changes, where no such copy is handed out.
+    pub fn published_state(&mut self, name: &Name) -> Option<Result<Arc<Doc>, Refusal>>
+        ensures answered { IfSome result (λ answer. MatchResult answer
+            (λ doc. AnswersRead name.now self.old self.new (state (arc_value doc)))
+            (λ refusal. AnswersRead name.now self.old self.new (refused (refusal_value refusal)))) }
+        ensures kept { IfNone result (self.new ≡ self.old) }
+        ensures signed { IsSigned J.opening self.old self.new [] }
+        ensures accepted { self.new.accepted ≡ self.old.accepted }
+    {
+        match self.look(name)? {
+            Lookup::NoState => Some(Err(Refusal::NoState)),
+            Lookup::Lost => Some(Err(Refusal::OutOfMemory)),
+            Lookup::Kept(version) => Some(state_of(&version)),
+        }
+    }
+}
+
+/// The document of a version.
+fn state_of(version: &Version) -> Result<Arc<Doc>, Refusal>
+    ensures doc { IfOk result (λ doc. arc_value doc ≡ version.now) }
+    ensures memory { IfErr result (λ refusal. refusal_value refusal ≡ out_of_memory) }
+{
+    Ok(version.doc().clone()?)
+}
