@@ -1,14 +1,16 @@
 -- Laws of what comes next of the input of a conversation.
-use Rattle.std.proofs.Common.{◌≡◌, ◌≤◌, ◌<◌, ◌+◌, ◌-◌, ◌*◌, ◌⊎◌, ℕ, List, ◌++◌, length, drop, Option, Some, None, IfSome, Result, IfOk, IfErr, sym, ap, subst, arith, inl, inr, length-append}
+use Rattle.std.proofs.Common.{◌≡◌, ◌≤◌, ◌<◌, ◌+◌, ◌-◌, ◌*◌, ◌⊎◌, ℕ, List, [], ◌∷◌, ◌++◌, length, drop, Option, Some, None, IfSome, Result, IfOk, IfErr, refl, sym, ◌∙◌, ap, subst, arith, inl, inr, length-append}
+use Rattle.std.specs.Io.KnownBytes.{Consumes, Keeps}
 use Rattle.tfs_framing.specs.Request.{RequestValue}
-use Rattle.tfs_framing.specs.Framing.{BeginsWith}
+use Rattle.tfs_framing.specs.Framing.{BeginsWith, IsUnfinished}
 use Rattle.tfs_framing.proofs.MessageLemmas.{frame_is_no_empty_text, rest_behind}
-use Rattle.tfs_conversation.specs.Arrived.{Arrives, ArrivesOrStays, BreaksThere, EndsThere}
+use Rattle.tfs_conversation.specs.Arrived.{Arrives, ArrivesOrStays, BreaksThere, EndsSo, EndsThere}
 use Rattle.tfs_conversation.specs.Conversation.{ComesInReads, IsReadThrough}
 use Rattle.tfs_conversation.specs.Turns.{work_left}
-use Rattle.tfs_conversation.specs.declared.arrived.Arrived.{Arrived}
+use Rattle.tfs_conversation.specs.declared.input.Arrived.{Arrived}
 use Rattle.tfs_conversation.specs.declared.ended.Ended.{Ended}
-use Rattle.tfs_conversation.specs.declared.fault.ServeFault.{ServeFault}
+use Rattle.tfs_conversation.specs.declared.ended.Ended.TheVariants.{Clean, Cut}
+use Rattle.tfs_conversation.specs.declared.ended.ServeFault.{ServeFault}
 
 -- What is told of a result is told of what it is.
 pub what_comes : (bytes left : List ℕ) (before after : ℕ) (a b : Result (Option Arrived) ServeFault) → a ≡ b
@@ -53,3 +55,28 @@ less_behind before after input more left r used came b is limit =
         → length left ≡ length b.rest → before ≤ after → length more ≤ 65536 * (after - before) → work_left after left < work_left before input
     by (inl same) some all parts both short counted pace = omega arith
     by (inr few) some all parts both short counted pace = omega arith
+
+-- What one read gives comes in one read.
+pub one_read : (x : List ℕ) (a b : ℕ) → length x ≤ 65536 → b ≡ a + 1 → ComesInReads x a b
+one_read x a b few is = record { counted = omega arith; pace = omega arith }
+
+-- What a reader keeps it has not consumed.
+pub kept_nothing : (a b : Option (List ℕ)) → Keeps a b → Consumes a b []
+kept_nothing None b k = tt
+kept_nothing (Some xs) None k = absurd k
+kept_nothing (Some xs) (Some ys) k = sym k
+
+-- No reads were made where none came.
+pub no_reads : (a b : ℕ) → a ≤ b → ComesInReads [] a b
+no_reads a b more = record { counted = more; pace = omega arith }
+
+-- A list of no length is empty.
+pub nothing_read : (l : List ℕ) → length l ≡ 0 → l ≡ []
+nothing_read [] e = refl
+nothing_read (x ∷ l) e = absurd (omega arith)
+
+-- With the input the conversation ends, between messages or inside one.
+pub ends_so : (bytes all : List ℕ) (ended : Ended) → all ≡ bytes → IsUnfinished bytes → ((ended ≡ Clean) × (bytes ≡ [])) ⊎ ((ended ≡ Cut) × ¬ (bytes ≡ []))
+    → EndsSo all ended
+ends_so bytes all ended same unfinished (inl p) = inl (p.0, same ∙ p.1)
+ends_so bytes all ended same unfinished (inr p) = inr (p.0, (λ e. p.1 (sym same ∙ e)), subst IsUnfinished (sym same) unfinished)

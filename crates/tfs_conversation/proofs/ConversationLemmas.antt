@@ -1,5 +1,5 @@
 -- Laws of conversations: one more read, one more message, and each way to end.
-use Rattle.std.proofs.Common.{◌≡◌, ◌<◌, ℕ, Bool, true, false, List, [], ◌∷◌, ◌++◌, length, drop, Option, Some, None, IfSome, if◌then◌else◌}
+use Rattle.std.proofs.Common.{◌≡◌, ℕ, Bool, true, false, List, [], ◌∷◌, ◌++◌, drop, Option, Some, None, IfSome, if◌then◌else◌}
 use Rattle.std.proofs.Common.{refl, sym, ◌∙◌, ap, subst, inl, inr}
 use Rattle.std.proofs.Common.{append_assoc, append-nil}
 use Rattle.std.specs.Io.KnownBytes.{Appends, Consumes}
@@ -9,23 +9,19 @@ use Rattle.tfs_calls.specs.Refusal.{refusal_value}
 use Rattle.tfs_calls.specs.Reply.{ReplyValue, refused}
 use Rattle.tfs_framing.specs.Request.{RequestValue}
 use Rattle.tfs_framing.specs.Form.{form_of}
-use Rattle.tfs_framing.specs.Framing.{BeginsWith, AreWanted, IsUnfinished, framing_refusal}
+use Rattle.tfs_framing.specs.Framing.{BeginsWith, framing_refusal}
 use Rattle.tfs_http.specs.ReplyText.{reply_text}
 use Rattle.tfs_conversation.specs.Messages.{Stop}
 use Rattle.tfs_conversation.specs.Arrived.{EndsSo}
 use Rattle.tfs_conversation.specs.Conversation.{AnswersRequest, Course, messages_of, closing_form, replies_text, course_text, TakesCourse}
 use Rattle.tfs_conversation.specs.Conversation.{IsReadThrough, ComesInReads}
 use Rattle.tfs_conversation.specs.Turns.{Moment, moment, Moved, course_of, Went, HasEnded, HasBroken}
-use Rattle.tfs_conversation.specs.declared.fault.ServeFault.{ServeFault}
+use Rattle.tfs_conversation.specs.declared.ended.ServeFault.{ServeFault}
 use Rattle.tfs_conversation.specs.declared.ended.Ended.{Ended}
 use Rattle.tfs_conversation.specs.declared.ended.Ended.TheVariants.{Asked, Refused}
 use Rattle.tfs_conversation.proofs.IoLemmas.{appends_more, consumes_more, appends_nothing, consumes_nothing, comes_more, comes_nothing}
 use Rattle.tfs_conversation.proofs.CourseLemmas.{later, later_text, replies_then, asked_behind, stop_later, takes_then, takes_none, takes_refusal, takes_one}
 use Rattle.tfs_conversation.proofs.FaultLemmas.{comes_later}
-
--- Input that was unfinished, with what was read since, is unfinished while fewer bytes are there than are wanted.
-pub still_unfinished : (input left more : List ℕ) (wanted : ℕ) → left ≡ input ++ more → AreWanted input wanted → length left < wanted → IsUnfinished left
-still_unfinished input left more wanted is w short = subst IsUnfinished (sym is) (w.until more (subst (λ (t : List ℕ). length t < wanted) is short))
 
 -- What was read and written in turn was read and written.
 pub moved_then : {S : Type 0} (a b c : Moment S) (bytes more text later : List ℕ) → Moved a b bytes text → Moved b c more later

@@ -22,7 +22,7 @@ use Rattle.tfs_calls.specs.Transition.{TableModel, act_refusal, answer_of}
 use Rattle.tfs_table.specs.Table.{TableValue, model_of, IsSameTable}
 use Rattle.tfs_framing.specs.Request.{RequestValue}
 use Rattle.tfs_framing.specs.Framing.{Frames}
-use Rattle.tfs_framing.specs.declared.taken.Take.{Take}
+use Rattle.tfs_framing.specs.declared.framing.Take.{Take}
 use Rattle.tfs_http.specs.Routing.{RoutesTo, routing_refusal}
 use Rattle.tfs_conversation.specs.Desk.{AnswersCall, Leaves}
 use Rattle.tfs_conversation.specs.Messages.{AreMessages, IsRefused, StopsAt, one_asks}

@@ -5,14 +5,14 @@ use Rattle.std.proofs.Common.{append_assoc, append-nil}
 use Rattle.std.proofs.Common.{length-append, take-append-drop}
 use Rattle.std.specs.Io.KnownBytes.{Appends, Consumes}
 use Rattle.tfs_calls.specs.Reply.{impact}
-use Rattle.tfs_framing.specs.declared.form.Form.{Form}
+use Rattle.tfs_framing.specs.declared.request.Form.{Form}
 use Rattle.tfs_http.specs.ReplyText.{head_text, impact_body, reply_text}
 use Rattle.tfs_state.specs.Document.{Document}
 use Rattle.tfs_conversation.specs.Check.{WritesFront}
 use Rattle.tfs_conversation.specs.Conversation.{ComesInReads}
 use Rattle.tfs_conversation.specs.Turns.{WritesPart}
-use Rattle.tfs_conversation.specs.declared.fault.ServeFault.{ServeFault}
-use Rattle.tfs_conversation.specs.declared.fault.ServeFault.TheVariants.{Write, NoMemory}
+use Rattle.tfs_conversation.specs.declared.ended.ServeFault.{ServeFault}
+use Rattle.tfs_conversation.specs.declared.ended.ServeFault.TheVariants.{Write, NoMemory}
 
 -- Two writes in turn append both.
 pub appends_more : (a b c : Option (List ℕ)) (x y : List ℕ) → Appends a b x → Appends b c y → Appends a c (x ++ y)

@@ -1,6 +1,5 @@
 pub mod DeskLemmas
 pub mod IoLemmas
-pub mod InputLemmas
 pub mod MessagesLemmas
 pub mod CourseLemmas
 pub mod FaultLemmas

@@ -5,8 +5,8 @@ use Rattle.std.proofs.lemmas.List.{length-append}
 use Rattle.tfs_calls.specs.declared.refusal.Refusal.{Refusal}
 use Rattle.tfs_framing.specs.Request.{RequestValue}
 use Rattle.tfs_framing.specs.Framing.{Frames, ReadsMessage, framing_refusal}
-use Rattle.tfs_framing.specs.declared.taken.Take.{Take}
-use Rattle.tfs_framing.specs.declared.taken.Take.TheVariants.{Need, Got, Fault}
+use Rattle.tfs_framing.specs.declared.framing.Take.{Take}
+use Rattle.tfs_framing.specs.declared.framing.Take.TheVariants.{Need, Got, Fault}
 use Rattle.tfs_framing.proofs.MessageLemmas.{frame_is_no_empty_text, no_refusal_of_no_bytes, begins, first_message_once}
 use Rattle.tfs_conversation.specs.Messages.{one_asks, AreMessages, IsRefused, Messages, HasMessages, StopsAt, Stop}
 use Rattle.tfs_conversation.specs.declared.ended.Ended.{Ended}

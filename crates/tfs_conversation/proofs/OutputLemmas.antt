@@ -11,7 +11,7 @@ use Rattle.tfs_calls.specs.Transition.{TableModel, Answers, FaultsJournal}
 use Rattle.tfs_table.specs.Table.{TableValue, model_of}
 use Rattle.tfs_framing.specs.Request.{RequestValue}
 use Rattle.tfs_framing.specs.Framing.{Frames}
-use Rattle.tfs_framing.specs.declared.taken.Take.{Take}
+use Rattle.tfs_framing.specs.declared.framing.Take.{Take}
 use Rattle.tfs_http.specs.Routing.{RoutesTo}
 use Rattle.tfs_conversation.specs.Desk.{AnswersCall}
 use Rattle.tfs_conversation.specs.Messages.{Messages}

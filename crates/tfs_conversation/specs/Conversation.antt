@@ -5,7 +5,7 @@ use Rattle.tfs_calls.specs.declared.call.Call.{Call}
 use Rattle.tfs_calls.specs.declared.refusal.Refusal.{Refusal}
 use Rattle.tfs_calls.specs.Refusal.{out_of_memory, refusal_value}
 use Rattle.tfs_calls.specs.Reply.{ReplyValue, refused}
-use Rattle.tfs_framing.specs.declared.form.Form.{Form}
+use Rattle.tfs_framing.specs.declared.request.Form.{Form}
 use Rattle.tfs_framing.specs.Request.{RequestValue}
 use Rattle.tfs_framing.specs.Form.{form_of}
 use Rattle.tfs_framing.specs.Framing.{BeginsWith, IsUnfinished}
@@ -14,8 +14,8 @@ use Rattle.tfs_http.specs.ReplyText.{reply_text}
 use Rattle.tfs_conversation.specs.Messages.{Messages, HasMessages, Stop, one_asks}
 use Rattle.tfs_conversation.specs.declared.ended.Ended.{Ended}
 use Rattle.tfs_conversation.specs.declared.ended.Ended.TheVariants.{Clean, Cut, Asked, Refused}
-use Rattle.tfs_conversation.specs.declared.fault.ServeFault.{ServeFault}
-use Rattle.tfs_conversation.specs.declared.fault.ServeFault.TheVariants.{Read, Write, TooManyReads, NoMemory}
+use Rattle.tfs_conversation.specs.declared.ended.ServeFault.{ServeFault}
+use Rattle.tfs_conversation.specs.declared.ended.ServeFault.TheVariants.{Read, Write, TooManyReads, NoMemory}
 
 -- The target has a route that takes the method, its part is a name, and the body has the digest that is told: only then routing asks for
 -- memory.

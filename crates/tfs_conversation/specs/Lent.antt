@@ -1,7 +1,7 @@
 -- What the end of a piece of work on a conversation tells of its reader and its writer.
 use Rattle.std.specs.Prelude.{◌≡◌, Bool, true, Result, MatchResult}
-use Rattle.tfs_conversation.specs.declared.fault.ServeFault.{ServeFault}
-use Rattle.tfs_conversation.specs.declared.fault.ServeFault.TheVariants.{Read, Write, TooManyReads, NoMemory}
+use Rattle.tfs_conversation.specs.declared.ended.ServeFault.{ServeFault}
+use Rattle.tfs_conversation.specs.declared.ended.ServeFault.TheVariants.{Read, Write, TooManyReads, NoMemory}
 
 -- Whether the reader has failed after such a fault.
 abbrev pub reading_failed : ServeFault → Bool → Bool

@@ -6,8 +6,8 @@ use Rattle.tfs_calls.specs.Reply.{ReplyValue}
 use Rattle.tfs_conversation.specs.Conversation.{Exchange, requests_of, Course, replies_text, TakesCourse, IsReadThrough, ComesInReads, Converses, BreaksOff}
 use Rattle.tfs_conversation.specs.Messages.{one_asks}
 use Rattle.tfs_conversation.specs.declared.ended.Ended.{Ended}
-use Rattle.tfs_conversation.specs.declared.fault.ServeFault.{ServeFault}
-use Rattle.tfs_conversation.specs.declared.fault.ServeFault.TheVariants.{Read, Write, TooManyReads, NoMemory}
+use Rattle.tfs_conversation.specs.declared.ended.ServeFault.{ServeFault}
+use Rattle.tfs_conversation.specs.declared.ended.ServeFault.TheVariants.{Read, Write, TooManyReads, NoMemory}
 
 -- A fault came while the text was written: the writer's, and not all of it was written, or want of memory, and none was.
 pub record WritesPart (into writer : Option (List ℕ)) (text : List ℕ) (fault : ServeFault) : Type 0 where

@@ -1,4 +1,4 @@
-//! Conversations: requests in, replies out.
+//! Conversations: requests in, replies out, and what answers the calls.
 
 ghost use Rattle.std.specs.Prelude.{◌≡◌, ◌≤◌, ◌<◌, ◌⊎◌, ◌++◌, ℕ, List, [], length, Some, None, Ok, if◌then◌else◌, IfOk, IfErr, IfSome, OnOk};
 ghost use Rattle.std.specs.Io.KnownBytes.{Appends, Consumes};
@@ -10,17 +10,14 @@ ghost use Rattle.tfs_conversation.specs.Turns.{WritesPart, moment, Went, HasEnde
 ghost use Rattle.tfs_conversation.specs.declared.ended.Ended.TheVariants.{Asked};
 ghost use Rattle.tfs_conversation.specs.Lent.{TellsReader, TellsWriter};
 
-use crate::arrived::{Arrived, arrive};
-use crate::desk::Desk;
-use crate::ended::Ended;
-use crate::fault::ServeFault;
+use crate::ended::{Ended, ServeFault};
 use crate::impact_reply::send_impact;
-use crate::input::Input;
+use crate::input::{Arrived, Input};
 use crate::lent::{Outlet, Source};
 use crate::output::{JOINED_BYTES, write_joined};
 use crate::reads::Reads;
 use std::alloc::{AllocError, Global};
-use tfs_calls::{Refusal, Reply};
+use tfs_calls::{Call, Refusal, Reply};
 use tfs_framing::{Form, Request};
 use tfs_http::{Routes, body_of, call_of, write_head};
 
@@ -29,6 +26,21 @@ const CLOSING: Form = Form {
     close: true,
     bare: false,
 };
+
+/// Answers calls one after the other.
+pub trait Desk {
+    ghost use Rattle.tfs_calls.specs.declared.call.Call.{Call};
+    ghost use Rattle.tfs_calls.specs.Draft.{CarriesFittingState};
+    ghost use Rattle.tfs_calls.specs.Reply.{ReplyValue, reply_value};
+
+    // From the first value a call may get the reply and leave the second value.
+    ghost step: { Self → Call → ReplyValue → Self → Type 0 };
+
+    /// Answers a call, whose body has at most 16 MiB.
+    fn answer(&mut self, call: Call) -> Reply
+        requires fitting { CarriesFittingState call }
+        ensures answered { step self.old call (reply_value result) self.new };
+}
 
 /// Answers each message as soon as it is whole, until the input ends, a request asks to close, or a message is refused whose
 /// end isn't known. Each read is counted before it is made.
@@ -56,12 +68,13 @@ pub fn converse<R: Source, W: Outlet, D: Desk>(
     let Ok(mut connection) = Connection::new(alloc) else {
         return Err(ServeFault::NoMemory);
     };
-    run(alloc, &mut connection, reader, writer, desk, reads)
+    run(&mut connection, reader, writer, desk, reads)
 }
 
 /// What a conversation keeps of its own.
 #[derive(Drop)]
 struct Connection {
+    alloc: Global,
     routes: Routes,
     input: Input,
     /// Where the text of a reply is put together. It has room for what is written at once, and keeps it.
@@ -74,6 +87,7 @@ impl Connection {
         ensures { IfOk result (λ connection. connection.input ≡ []) }
     {
         Ok(Connection {
+            alloc,
             routes: Routes::new(alloc)?,
             input: Input::new(alloc)?,
             text: Vec::with_capacity(alloc, JOINED_BYTES)?,
@@ -83,7 +97,6 @@ impl Connection {
 
 /// Takes turns until the conversation ends.
 fn run<R: Source, W: Outlet, D: Desk>(
-    alloc: Global,
     connection: &mut Connection,
     reader: &mut R,
     writer: &mut W,
@@ -98,7 +111,7 @@ fn run<R: Source, W: Outlet, D: Desk>(
     ensures writer { TellsWriter result (W.failed writer.old) (W.failed writer.new) }
 {
     loop {
-        match turn(alloc, connection, reader, writer, desk, reads) {
+        match turn(connection, reader, writer, desk, reads) {
             Ok(end) => {
                 if let Some(ended) = end {
                     return Ok(ended);
@@ -112,7 +125,6 @@ fn run<R: Source, W: Outlet, D: Desk>(
 /// Reads more where more is wanted, or else answers the message that comes first. Tells how the conversation ends, if it
 /// does.
 fn turn<R: Source, W: Outlet, D: Desk>(
-    alloc: Global,
     connection: &mut Connection,
     reader: &mut R,
     writer: &mut W,
@@ -130,7 +142,7 @@ fn turn<R: Source, W: Outlet, D: Desk>(
     ensures reader { TellsReader result (R.failed reader.old) (R.failed reader.new) }
     ensures writer { TellsWriter result (W.failed writer.old) (W.failed writer.new) }
 {
-    let arrived = match arrive(alloc, &mut connection.input, reader, reads) {
+    let arrived = match connection.input.arrive(connection.alloc, reader, reads) {
         Ok(Some(arrived)) => arrived,
         Ok(None) => return Ok(None),
         Err(fault) => return Err(fault),
@@ -138,14 +150,20 @@ fn turn<R: Source, W: Outlet, D: Desk>(
     match arrived {
         Arrived::Message(request) => {
             let asks_to_close = request.form().close;
-            match reply_to(alloc, connection, writer, desk, request) {
+            match reply_to(connection, writer, desk, request) {
                 Ok(()) => Ok(end_after(asks_to_close)),
                 Err(fault) => Err(fault),
             }
         }
         Arrived::Refused(refusal) => {
             let reply = Reply::Refused(refusal);
-            match send(alloc, &mut connection.text, writer, &reply, CLOSING) {
+            match send(
+                connection.alloc,
+                &mut connection.text,
+                writer,
+                &reply,
+                CLOSING,
+            ) {
                 Ok(()) => Ok(Some(Ended::Refused)),
                 Err(fault) => Err(fault),
             }
@@ -167,7 +185,6 @@ fn end_after(asks_to_close: bool) -> Option<Ended>
 
 /// Answers a request, and writes the text of the reply.
 fn reply_to<W: Outlet, D: Desk>(
-    alloc: Global,
     connection: &mut Connection,
     writer: &mut W,
     desk: &mut D,
@@ -182,8 +199,8 @@ fn reply_to<W: Outlet, D: Desk>(
     ensures writer { TellsWriter result (W.failed writer.old) (W.failed writer.new) }
 {
     let form = request.form();
-    let reply = answer(alloc, &connection.routes, desk, request);
-    if let Err(fault) = send(alloc, &mut connection.text, writer, &reply, form) {
+    let reply = answer(connection.alloc, &connection.routes, desk, request);
+    if let Err(fault) = send(connection.alloc, &mut connection.text, writer, &reply, form) {
         return Err(fault);
     }
     Ok(())

@@ -9,7 +9,7 @@ ghost use Rattle.tfs_http.specs.ReplyText.{head_text, impact_body, reply_text};
 ghost use Rattle.tfs_conversation.specs.Lent.{TellsWriter};
 ghost use Rattle.tfs_conversation.specs.Turns.{WritesPart};
 
-use crate::fault::ServeFault;
+use crate::ended::ServeFault;
 use crate::lent::Outlet;
 use crate::output::{PIECE_BYTES, write_in_pieces, write_joined, write_out};
 use std::alloc::{AllocError, Global};

@@ -2,14 +2,9 @@
 //! work of the commands that read a journal is here too.
 #![tactic(auto)]
 
-mod arrived;
-mod body;
 mod check;
-mod chunked;
 mod conversation;
-mod desk;
 mod ended;
-mod fault;
 mod impact_reply;
 mod input;
 mod laws;
@@ -17,17 +12,13 @@ mod lent;
 mod output;
 mod reads;
 mod rebase;
-mod run_fault;
 mod table_desk;
 
-pub use check::run_check;
-pub use conversation::converse;
-pub use desk::Desk;
-pub use ended::Ended;
-pub use fault::ServeFault;
+pub use check::{RunFault, run_check};
+pub use conversation::{Desk, converse};
+pub use ended::{Ended, ServeFault};
 pub use laws::{bytes_have_an_output, bytes_have_one_list_of_messages, bytes_have_one_output};
 pub use lent::{LentFault, Outlet, Source, Watched};
 pub use reads::{MAX_READS, Reads};
 pub use rebase::run_rebase;
-pub use run_fault::RunFault;
 pub use table_desk::{TableDesk, converse_over_table};

@@ -4,11 +4,11 @@ ghost use Rattle.std.specs.Prelude.{◌≡◌, ◌≤◌, ◌+◌, ◌++◌, Err
 ghost use Rattle.std.specs.Io.KnownBytes.{Appends};
 ghost use Rattle.tfs_conversation.specs.Check.{WritesFront};
 ghost use Rattle.tfs_conversation.specs.Turns.{WritesPart};
-ghost use Rattle.tfs_conversation.specs.declared.fault.ServeFault.TheVariants.{Write as WriteFault, NoMemory};
+ghost use Rattle.tfs_conversation.specs.declared.ended.ServeFault.TheVariants.{Write as WriteFault, NoMemory};
 ghost use Rattle.tfs_conversation.specs.Lent.{TellsWriter};
 ghost use Rattle.tfs_escapes.specs.Room.{HasRoom};
 
-use crate::fault::ServeFault;
+use crate::ended::ServeFault;
 use crate::lent::Outlet;
 use tfs_http::ImpactBody;
 

@@ -9,10 +9,8 @@ ghost use Rattle.tfs_conversation.specs.Conversation.{ComesInReads, Converses, B
 ghost use Rattle.tfs_conversation.specs.Desk.{AnswersCall};
 ghost use Rattle.tfs_conversation.specs.Lent.{TellsReader, TellsWriter};
 
-use crate::conversation::converse;
-use crate::desk::Desk;
-use crate::ended::Ended;
-use crate::fault::ServeFault;
+use crate::conversation::{Desk, converse};
+use crate::ended::{Ended, ServeFault};
 use crate::lent::{Outlet, Source};
 use crate::reads::Reads;
 use json::Scratch;

@@ -2,8 +2,8 @@
 use Rattle.std.specs.Prelude.{ℕ}
 use Rattle.tfs_conversation.specs.declared.ended.Ended.{Ended}
 use Rattle.tfs_conversation.specs.declared.ended.Ended.TheVariants.{Clean, Cut, Asked, Refused}
-use Rattle.tfs_conversation.specs.declared.run_fault.RunFault.{RunFault}
-use Rattle.tfs_conversation.specs.declared.run_fault.RunFault.TheVariants.{Write, NoMemory, Opening}
+use Rattle.tfs_conversation.specs.declared.check.RunFault.{RunFault}
+use Rattle.tfs_conversation.specs.declared.check.RunFault.TheVariants.{Write, NoMemory, Opening}
 use Rattle.tfs_table.specs.declared.fault.OpenFault.{OpenFault}
 use Rattle.tfs_table.specs.declared.fault.OpenFault.TheVariants as open_fault
 

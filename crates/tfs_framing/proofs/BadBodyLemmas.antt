@@ -1,9 +1,9 @@
 -- Laws of bytes that can't begin with the body that a head says.
 use Rattle.std.proofs.Common.{◌≡◌, ℕ, List, ◌++◌}
 use Rattle.tfs_framing.specs.Body.{SpellsBody, HasBadBody}
-use Rattle.tfs_framing.specs.declared.length.BodyLength.{BodyLength}
-use Rattle.tfs_framing.specs.declared.length.BodyLength.TheVariants.{Absent, Sized, Chunked}
-use Rattle.tfs_framing.specs.declared.part.Flaw.{Flaw}
+use Rattle.tfs_framing.specs.declared.lines.BodyLength.{BodyLength}
+use Rattle.tfs_framing.specs.declared.lines.BodyLength.TheVariants.{Absent, Sized, Chunked}
+use Rattle.tfs_framing.specs.declared.chunks.Flaw.{Flaw}
 use Rattle.tfs_framing.proofs.ChunksLemmas.{body_no_flaw, flaw_once}
 use Rattle.tfs_framing.proofs.FlawLemmas.{flaw_more}
 

@@ -1,16 +1,16 @@
 -- Laws of bodies in chunks: what comes next is one thing.
 use Rattle.std.proofs.Common.{◌≡◌, ◌≤◌, ◌<◌, ◌+◌, ℕ, List, [], ◌∷◌, ◌++◌, length, Bool, true, false, All, refl, sym, ◌∙◌, ap, subst, arith, append_assoc}
-use Rattle.std.proofs.Common.{append-nil, inl, inr, Option, Some, None}
+use Rattle.std.proofs.Common.{inl, inr, Option, Some, None}
 use Rattle.std.proofs.lemmas.List.Elements.{All-nil, All-cons, All-head, All-tail}
 use Rattle.std.specs.Char.{is_ascii_hexdigit}
 use Rattle.httparse.specs.Ascii.{line_feed}
 use Rattle.httparse.specs.Grammar.{crlf, print_end, ChunkLine, IsChunkLine, print_chunk_line, print_extension, chunk_size, AllPass, is_ows, is_extension_byte}
 use Rattle.httparse.proofs.ChunkLemmas.{chunk_line_unique}
 use Rattle.tfs_framing.specs.Chunks.{Chunk, print_chunk, IsShortLine, IsChunk, IsTrailer, IsFlawBehind, IsFlawAt}
-use Rattle.tfs_framing.specs.Parts.{Next, next_chunk, next_end, next_flaw, ComesNext}
-use Rattle.tfs_framing.specs.declared.part.Flaw.{Flaw}
-use Rattle.tfs_framing.specs.declared.part.Flaw.TheVariants.{TooLarge, Unreadable}
-use Rattle.tfs_framing.proofs.HeadLemmas.{cuts, same_cut}
+use Rattle.tfs_framing.proofs.Next.{Next, next_chunk, next_end, next_flaw, ComesNext}
+use Rattle.tfs_framing.specs.declared.chunks.Flaw.{Flaw}
+use Rattle.tfs_framing.specs.declared.chunks.Flaw.TheVariants.{TooLarge, Unreadable}
+use Rattle.tfs_framing.proofs.HeadLemmas.{message_head_once, same_cut}
 
 -- A byte is no line feed.
 abbrev IsInside : ℕ → Type 0
@@ -86,17 +86,12 @@ chunk_once c d after behind is also e =
 -- Bytes begin with one trailer.
 pub trailer_once : (trailer other after behind : List ℕ) → IsTrailer trailer → IsTrailer other → trailer ++ after ≡ other ++ behind
     → (trailer ≡ other) × (after ≡ behind)
-trailer_once trailer other after behind is also e = elim (cuts trailer after other behind e) [
-  | inl w ↦
-      let none : w.0 ≡ [] = is.is_head.shortest (line_feed ∷ other) w.0 (ap (λ t. line_feed ∷ t) w.1) also.is_head.ends in
-      (w.1 ∙ ap (λ t. other ++ t) none ∙ append-nil other, sym (w.2 ∙ ap (λ t. t ++ after) none))
-  | inr w ↦
-      let none : w.0 ≡ [] = also.is_head.shortest (line_feed ∷ trailer) w.0 (ap (λ t. line_feed ∷ t) w.1) is.is_head.ends in
-      (sym (w.1 ∙ ap (λ t. trailer ++ t) none ∙ append-nil trailer), w.2 ∙ ap (λ t. t ++ behind) none)
-]
+trailer_once trailer other after behind is also e =
+    let same = message_head_once (line_feed ∷ trailer) (line_feed ∷ other) after behind is.is_head also.is_head (ap (λ t. line_feed ∷ t) e) in
+    (let heads = same.0 in cc, same.1)
 
 -- Where a line comes first, what can't be there is behind it.
-flaw_behind : (count total : ℕ) (left after : List ℕ) (line : ChunkLine) (flaw : Flaw) → IsShortLine line → left ≡ print_chunk_line line ++ after
+pub flaw_behind : (count total : ℕ) (left after : List ℕ) (line : ChunkLine) (flaw : Flaw) → IsShortLine line → left ≡ print_chunk_line line ++ after
     → IsFlawAt count total left flaw → IsFlawBehind count total (chunk_size line) after flaw
 flaw_behind count total left after line flaw is e p = elim p [
   | inl q ↦ absurd (q.1.none line after is e)

@@ -1,14 +1,13 @@
 -- Laws of bodies in chunks: bytes begin with one body or can't begin with one, and stay so whatever bytes follow.
 use Rattle.std.proofs.Common.{◌≡◌, ◌≤◌, ◌+◌, ℕ, List, [], ◌∷◌, ◌++◌, length, All, refl, sym, ◌∙◌, ap, subst, arith, append_assoc}
-use Rattle.std.proofs.Common.{append-nil, length-append}
+use Rattle.std.proofs.Common.{length-append}
 use Rattle.std.proofs.lemmas.List.Elements.{All-head, All-tail}
 use Rattle.httparse.specs.Grammar.{print_chunk_line}
-use Rattle.tfs_framing.specs.Chunks.{Chunk, print_chunk, print_chunks, joined, IsChunk, AreChunks, SpellsChunks}
-use Rattle.tfs_framing.specs.Chunks.{IsFlawAt, HasFlaw}
-use Rattle.tfs_framing.specs.Parts.{Next, next_chunk, next_end, next_flaw, ComesNext, IsOpen}
+use Rattle.tfs_framing.specs.Chunks.{Chunk, print_chunk, print_chunks, joined, IsChunk, AreChunks, SpellsChunks, IsFlawAt, HasFlaw}
+use Rattle.tfs_framing.proofs.Next.{Next, next_chunk, next_end, next_flaw, ComesNext, IsOpen}
 use Rattle.tfs_framing.specs.Body.{HasNoBody}
-use Rattle.tfs_framing.specs.declared.length.BodyLength.TheVariants.{Chunked}
-use Rattle.tfs_framing.specs.declared.part.Flaw.{Flaw}
+use Rattle.tfs_framing.specs.declared.lines.BodyLength.TheVariants.{Chunked}
+use Rattle.tfs_framing.specs.declared.chunks.Flaw.{Flaw}
 use Rattle.tfs_framing.proofs.HeadLemmas.{same_cut}
 use Rattle.tfs_framing.proofs.ChunkLemmas.{chunk_once, next_once}
 
@@ -185,11 +184,3 @@ open_no_body rest left chunks are parts none = record {
         let same = front_once chunks s.chunks left s.left are s.are (λ c after. none (next_chunk c after)) s.none (sym parts ∙ s.parts) in
         none next (subst (λ (t : List ℕ). ComesNext (length chunks) (length (joined chunks)) t next) (sym same.1)
         (subst (λ (t : List Chunk). ComesNext (length t) (length (joined t)) s.left next) (sym same.0) s.comes))
-
--- The chunks that come first in a body, where no chunk comes behind them, are all of its chunks.
-pub body_front : (coded left body : List ℕ) (chunks : List Chunk) → (s : SpellsChunks coded body) → AreChunks chunks
-    → HasNoChunk (length chunks) (length (joined chunks)) left → coded ≡ print_chunks chunks ++ left → chunks ≡ s.chunks
-unfolding body_stands
-body_front coded left body chunks s are none parts =
-    let stands = body_stands coded body [] s in
-    (front_once chunks s.chunks left stands.left are s.are none stands.none (sym parts ∙ sym (append-nil coded) ∙ stands.parts)).0

@@ -1,156 +1,133 @@
 -- Laws of bodies in chunks that are decoded as they come.
-use Rattle.std.proofs.Common.{◌≡◌, ◌≤◌, ◌<◌, ◌+◌, ℕ, List, [], ◌∷◌, ◌++◌, length, Bool, false, Option, Some, None, refl, sym, ◌∙◌, ap, subst, arith, append_assoc}
-use Rattle.std.proofs.Common.{append-nil, length-append, take, drop, take-append-drop, length-drop}
-use Rattle.std.proofs.lemmas.Grind.{flat_map-append}
-use Rattle.httparse.specs.Grammar.{ChunkLine, print_chunk_line}
-use Rattle.tfs_framing.specs.Body.{HasNoBody}
-use Rattle.tfs_framing.specs.Chunks.{Chunk, print_chunks, joined}
-use Rattle.tfs_framing.specs.Decoded.{Decodes, IsInside, IsPassed}
-use Rattle.tfs_framing.specs.Parts.{Next, next_chunk, ComesNext, IsOpen, IsLineAt}
-use Rattle.tfs_framing.specs.Passed.{AreJoined, IsBegun, begun_bytes, Walked}
-use Rattle.tfs_framing.specs.declared.decoded.ChunkedBody.{ChunkedBody}
-use Rattle.tfs_framing.specs.declared.part.Ahead.{Ahead}
-use Rattle.tfs_framing.specs.declared.length.BodyLength.TheVariants.{Chunked}
-use Rattle.tfs_framing.proofs.ChunksLemmas.{open_no_body}
+use Rattle.std.proofs.Common.{◌≡◌, ◌≤◌, ◌<◌, ◌-◌, ℕ, List, ◌++◌, length, false, Result, Ok, Err, refl, sym, ◌∙◌, ap, subst, arith, append_assoc, length-append}
+use Rattle.std.proofs.Common.{take, drop}
+use Rattle.std.proofs.Math.Seq.{drop-append_seam, take-append_seam}
+use Rattle.httparse.specs.Grammar.{LineEnd, RequestHead, print_blank}
+use Rattle.tfs_framing.specs.Decoded.{Decodes, HasPassed, IsDecoded}
+use Rattle.tfs_framing.specs.Decoder.{IsFramed}
+use Rattle.tfs_framing.specs.Framing.{BeginsWith, IsUnfinished, ReadsHead, framing_refusal}
+use Rattle.tfs_framing.specs.Head.{HasHead}
+use Rattle.tfs_framing.specs.Parts.{EndsWith}
+use Rattle.tfs_framing.specs.Request.{request_of}
+use Rattle.tfs_framing.specs.declared.body.Joined.{Joined}
+use Rattle.tfs_framing.specs.declared.body.Decoded.{Decoded}
+use Rattle.tfs_framing.specs.declared.body.ChunkedBody.{ChunkedBody}
+use Rattle.tfs_framing.specs.Body.{refusal_of}
+use Rattle.tfs_framing.specs.declared.chunks.Flaw.{Flaw}
+use Rattle.tfs_framing.specs.declared.framing.Framed.{Framed}
+use Rattle.tfs_framing.specs.declared.lines.BodyLength.{BodyLength}
+use Rattle.tfs_framing.specs.declared.lines.BodyLength.TheVariants.{Chunked}
 use Rattle.tfs_framing.proofs.FramingLemmas.{head_more}
-use Rattle.tfs_framing.proofs.HeadLemmas.{same_cut}
-use Rattle.tfs_framing.proofs.KnownLemmas.{ahead_more}
-use Rattle.tfs_framing.proofs.PassedLemmas.{begins, begun_more}
-use Rattle.tfs_framing.proofs.WalkLemmas.{walk_on, joined_more}
+use Rattle.tfs_framing.proofs.PassedLemmas.{passed_more}
+use Rattle.tfs_framing.proofs.WantedLemmas.{begins_with_message, refused_by_body, unfinished_without_body}
 
--- Behind chunks that were walked, where nothing comes next yet, there is no body yet.
-pub no_body_yet : (rest left others : List ℕ) (count total : ℕ) (chunks : List Chunk) → Walked rest left count total chunks
-    → IsOpen count total (left ++ others) → HasNoBody Chunked (rest ++ others)
-no_body_yet rest left others count total chunks w still =
-    open_no_body (rest ++ others) (left ++ others) chunks w.are
-    (ap (λ t. t ++ others) w.parts ∙ append_assoc (print_chunks chunks) left others) (λ next comes. still next (back next (left ++ others) comes))
-  where
-    back : (next : Next) (text : List ℕ) → ComesNext (length chunks) (length (joined chunks)) text next → ComesNext count total text next
-    back next text comes =
-        subst (λ (n : ℕ). ComesNext count n text next) (sym w.total_is)
-        (subst (λ (n : ℕ). ComesNext n (length (joined chunks)) text next) (sym w.count_is) comes)
+-- What is left behind all but so many bytes.
+pub left_behind : (left after : List ℕ) (all n : ℕ) → all ≡ length left → EndsWith left after → n ≡ length after → drop (all - n) left ≡ after
+left_behind left after all n all_is ends is =
+    let sizes = ap length ends.1 ∙ length-append ends.0 after in
+    let at : all - n ≡ length ends.0 = omega arith in
+    ap (λ (k : ℕ). drop k left) at ∙ ap (λ (t : List ℕ). drop (length ends.0) t) ends.1 ∙ drop-append_seam ends.0 after
 
--- The same without more bytes.
-pub no_body_here : (rest left : List ℕ) (count total : ℕ) (chunks : List Chunk) → Walked rest left count total chunks
-    → IsOpen count total left → HasNoBody Chunked rest
-no_body_here rest left count total chunks w still =
-    subst (HasNoBody Chunked) (append-nil rest)
-    (no_body_yet rest left [] count total chunks w (subst (IsOpen count total) (sym (append-nil left)) still))
+-- It is no more than there was.
+pub few_left : (left after : List ℕ) → EndsWith left after → length after ≤ length left
+few_left left after ends = let sizes = ap length ends.1 ∙ length-append ends.0 after in omega arith
 
--- More bytes behind those of a chunk that has begun.
-pub begun_longer : (line : ChunkLine) (seen left others : List ℕ) → begun_bytes line seen left ++ others ≡ begun_bytes line seen (left ++ others)
-begun_longer line seen left others =
-    append_assoc (print_chunk_line line) (seen ++ left) others ∙ ap (λ t. print_chunk_line line ++ t) (append_assoc seen left others)
-
--- Before it the chunks are walked.
-pub inside_walked : (rest left : List ℕ) (chunks : List Chunk) (line : ChunkLine) (seen : List ℕ) (lacking : ℕ)
-    → IsInside rest chunks line seen lacking left → Walked rest (begun_bytes line seen left) (length chunks) (length (joined chunks)) chunks
-inside_walked rest left chunks line seen lacking i = record { are = i.are; parts = i.parts; count_is = refl; total_is = refl }
-
--- With its bytes and its end it is walked, too.
-pub inside_whole : (rest left bytes behind : List ℕ) (chunks : List Chunk) (line : ChunkLine) (seen : List ℕ) (lacking : ℕ) (c : Chunk)
-    → IsInside rest chunks line seen lacking left → c.bytes ≡ seen ++ bytes
-    → ComesNext (length chunks) (length (joined chunks)) (begun_bytes line seen left) (next_chunk c behind)
-    → Walked rest behind (length chunks + 1) (length (joined chunks) + length (seen ++ bytes)) (chunks ++ c ∷ [])
-inside_whole rest left bytes behind chunks line seen lacking c i is next =
-    walk_on rest (begun_bytes line seen left) behind (seen ++ bytes) (length chunks) (length (joined chunks)) chunks c
-    (inside_walked rest left chunks line seen lacking i) next is
-
--- And joined with the others.
-pub inside_joined : (old new seen bytes : List ℕ) (chunks : List Chunk) (c : Chunk) → old ≡ joined chunks ++ seen → new ≡ old ++ bytes
-    → c.bytes ≡ seen ++ bytes → new ≡ joined (chunks ++ c ∷ [])
-inside_joined old new seen bytes chunks c was now is =
-    now ∙ ap (λ t. t ++ bytes) was ∙ append_assoc (joined chunks) seen bytes ∙ ap (λ t. joined chunks ++ t) (sym is) ∙ sym (joined_more chunks c)
-
--- What was joined behind joined chunks.
-pub joined_behind : (old new : List ℕ) (was_lost lost : Bool) (before chunks : List Chunk) → AreJoined was_lost old lost new chunks
-    → (was_lost ≡ false → old ≡ joined before) → lost ≡ false → new ≡ joined (before ++ chunks)
-joined_behind old new was_lost lost before chunks are was kept =
-    let step = are kept in
-    step.1 ∙ ap (λ t. t ++ joined chunks) (was step.0) ∙ sym (flat_map-append (λ (c : Chunk). c.bytes) before chunks)
-
--- The ends of bytes that have one length are the same.
-pub same_end : (front left other after : List ℕ) → front ++ left ≡ other ++ after → length left ≡ length after → left ≡ after
-same_end front left other after e is =
-    let one = ap length e in
-    let two = length-append front left in
-    let three = length-append other after in
-    (same_cut front left other after e (omega arith)).1
-
--- What is left behind so many bytes of what is left: both end the bytes.
-pub end_is : (front left other after : List ℕ) (used : ℕ) → front ++ left ≡ other ++ after → used + length after ≡ length left → drop used left ≡ after
-end_is front left other after used e is =
-    let size = length-drop used left in
-    same_end (front ++ take used left) (drop used left) other after
-    (append_assoc front (take used left) (drop used left) ∙ ap (λ t. front ++ t) (take-append-drop used left) ∙ e) (omega arith)
-
--- What is left ends the bytes behind the head.
-pub passed_end : (rest : List ℕ) (chunks : List Chunk) (lacking : Option ℕ) (body : List ℕ) (ahead : Ahead) (left : List ℕ)
-    → IsPassed rest chunks lacking body ahead left → (front : List ℕ) × (rest ≡ front ++ left)
-passed_end rest chunks None body ahead left p = (print_chunks chunks, p.0.parts)
-passed_end rest chunks (Some lacking) body ahead left p = (
-  print_chunks chunks ++ (print_chunk_line p.0 ++ p.1),
-  p.2.parts ∙ ap (λ t. print_chunks chunks ++ t) (sym (append_assoc (print_chunk_line p.0) p.1 left))
-      ∙ sym (append_assoc (print_chunks chunks) (print_chunk_line p.0 ++ p.1) left),
-)
-
--- More of the bytes of a chunk that has begun were passed.
-pub inside_more : (rest left bytes after : List ℕ) (chunks : List Chunk) (line : ChunkLine) (seen : List ℕ) (lacking lacks : ℕ)
-    → IsInside rest chunks line seen lacking left → left ≡ bytes ++ after → lacking ≡ length bytes + lacks
-    → IsInside rest chunks line (seen ++ bytes) lacks after
-inside_more rest left bytes after chunks line seen lacking lacks i split is = record {
-  are = i.are;
-  parts = i.parts ∙ ap (λ t. print_chunks chunks ++ (print_chunk_line line ++ t)) (ap (λ t. seen ++ t) split ∙ sym (append_assoc seen bytes after));
-  begun = begun_more (length chunks) (length (joined chunks)) lacking lacks line seen bytes i.begun is;
-}
-
--- A chunk begins behind chunks that were walked.
-pub begins_behind : (rest left : List ℕ) (count total len size : ℕ) (chunks : List Chunk) (line : ChunkLine) → Walked rest left count total chunks
-    → count ≤ 65536 → IsOpen count total left → (at : IsLineAt left len size line) → 0 < size → IsInside rest chunks line [] size at.after
-begins_behind rest left count total len size chunks line w most none at some = record {
-  are = w.are;
-  parts = w.parts ∙ ap (λ t. print_chunks chunks ++ t) at.parts;
-  begun = subst (λ (n : ℕ). IsBegun (length chunks) n line [] size) w.total_is
-      (subst (λ (n : ℕ). IsBegun n total line [] size) w.count_is (begins count total len size left line most none at some));
-}
-
--- What was passed stays whatever bytes follow.
-passed_more : (rest more : List ℕ) (chunks : List Chunk) (lacking : Option ℕ) (body : List ℕ) (ahead : Ahead) (left : List ℕ)
-    → IsPassed rest chunks lacking body ahead left → IsPassed (rest ++ more) chunks lacking body ahead (left ++ more)
-passed_more rest more chunks None body ahead left p = (
-  record {
-    are = p.0.are;
-    parts = ap (λ t. t ++ more) p.0.parts ∙ append_assoc (print_chunks chunks) left more;
-    known = ahead_more left more ahead p.0.known;
-  },
-  p.1,
-)
-passed_more rest more chunks (Some lacking) body ahead left p = (
-  p.0,
-  p.1,
-  record {
-    are = p.2.are;
-    parts = ap (λ t. t ++ more) p.2.parts ∙ append_assoc (print_chunks chunks) (begun_bytes p.0 p.1 left) more
-        ∙ ap (λ t. print_chunks chunks ++ t) (begun_longer p.0 p.1 left more);
-    begun = p.2.begun;
-  },
-  p.3,
+-- What ends the bytes behind a head ends all.
+pub ends_all : (bytes : List ℕ) (skipped : List LineEnd) (head rest after : List ℕ) → HasHead bytes skipped head rest → EndsWith rest after
+    → EndsWith bytes after
+ends_all bytes skipped head rest after has ends = (
+  print_blank skipped ++ (head ++ ends.0),
+  has.parts ∙ ap (λ t. print_blank skipped ++ (head ++ t)) ends.1 ∙ ap (λ t. print_blank skipped ++ t) (sym (append_assoc head ends.0 after))
+      ∙ sym (append_assoc (print_blank skipped) (head ++ ends.0) after),
 )
 
 -- What was decoded stays whatever bytes follow.
-pub decoded_more : (bytes more before left : List ℕ) (b : ChunkedBody) → Decodes bytes before b left → Decodes (bytes ++ more) before b (left ++ more)
-decoded_more bytes more before left b d = record {
+pub decoded_more : (bytes more head left : List ℕ) (b : ChunkedBody) → Decodes bytes head b left → Decodes (bytes ++ more) head b (left ++ more)
+decoded_more bytes more head left b d = record {
   skipped = d.skipped;
-  head = d.head;
   rest = d.rest ++ more;
-  has_head = head_more bytes more d.skipped d.head d.rest d.has_head;
-  before_is = d.before_is;
-  skipped_is = d.skipped_is;
+  has_head = head_more bytes more d.skipped head d.rest d.has_head;
   h = d.h;
   reads = d.reads;
   passed = record {
-    chunks = d.passed.chunks;
-    count_is = d.passed.count_is;
-    passed = passed_more d.rest more d.passed.chunks b.lacking b.body.items b.ahead left d.passed.passed;
+    body = d.passed.body;
+    passed = passed_more d.rest more b.count d.passed.body b.ahead left d.passed.passed;
+    total_is = d.passed.total_is;
+    kept = d.passed.kept;
   };
 }
+
+-- What was decoded behind a head that was found.
+pub chunks_framed : (bytes : List ℕ) (skipped : List LineEnd) (head rest : List ℕ) (h : RequestHead) (size : BodyLength) (b : ChunkedBody) (at left : ℕ)
+    → HasHead bytes skipped head rest → ReadsHead head h size → size ≡ Chunked → at ≡ length bytes - length rest - length head
+    → IsDecoded rest rest (Ok (Decoded.Wanted b left)) → IsFramed bytes (Framed.Chunked at (length head) b left)
+chunks_framed bytes skipped head rest h size b at left has reads is at_is told =
+    let chunked = subst (λ (n : BodyLength). ReadsHead head h n) is reads in
+    let sizes = ap length has.parts ∙ length-append (print_blank skipped) (head ++ rest) in
+    let both = length-append head rest in
+    let place : at ≡ length (print_blank skipped) = omega arith in
+    let behind : drop at bytes ≡ head ++ rest =
+    ap (λ (n : ℕ). drop n bytes) place ∙ ap (λ (t : List ℕ). drop (length (print_blank skipped)) t) has.parts
+    ∙ drop-append_seam (print_blank skipped) (head ++ rest) in
+    let head_is : take (length head) (drop at bytes) ≡ head = ap (λ (t : List ℕ). take (length head) t) behind ∙ take-append_seam head rest in (
+      unfinished_without_body bytes skipped head rest h Chunked has chunked told.5,
+      omega arith,
+      told.0,
+      ends_all bytes skipped head rest told.0 has told.1,
+      told.2,
+      told.3,
+      subst (λ (t : List ℕ). Decodes bytes t b told.0) (sym head_is)
+          (record { skipped = skipped; rest = rest; has_head = has; h = h; reads = chunked; passed = told.4 }),
+    )
+
+-- What is told of the bytes that are left, where the slice and the body are those that are kept.
+told_of : (bytes head left text : List ℕ) (b d : ChunkedBody) (r : Result Decoded Flaw) → text ≡ left → d ≡ b → (k : Decodes bytes head b left)
+    → ((rest : List ℕ) → HasPassed rest d text → IsDecoded rest text r) → IsDecoded k.rest left r
+told_of bytes head left text b d r same is k told =
+    subst (λ (t : List ℕ). IsDecoded k.rest t r) same
+    (told k.rest (subst (λ (t : List ℕ). HasPassed k.rest d t) (sym same) (subst (λ (x : ChunkedBody). HasPassed k.rest x left) (sym is) k.passed)))
+
+-- Where more are wanted, they are unfinished, and what was decoded of them is told.
+pub decoded_wanted : (bytes head left text : List ℕ) (b d new : ChunkedBody) (x : Decoded) (n all : ℕ) → all ≡ length left → x ≡ Decoded.Wanted new n
+    → text ≡ left → d ≡ b
+    → Decodes bytes head b left → ((rest : List ℕ) → HasPassed rest d text → IsDecoded rest text (Ok x))
+    → IsUnfinished bytes × (n ≤ all) × Decodes bytes head new (drop (all - n) left) × (length (drop (all - n) left) < 17408)
+decoded_wanted bytes head left text b d new x n all all_is x_is same is k f =
+    let told = subst (λ (y : Decoded). IsDecoded k.rest left (Ok y)) x_is (told_of bytes head left text b d (Ok x) same is k f) in
+    let behind = left_behind left told.0 all n all_is told.1 told.2 in
+    let few = few_left left told.0 told.1 in
+    let size = told.2 in
+    let little = told.3 in
+    let sizes = ap (λ (t : List ℕ). length t) behind in (
+      unfinished_without_body bytes k.skipped head k.rest k.h Chunked k.has_head k.reads told.5,
+      omega arith,
+      subst (λ (t : List ℕ). Decodes bytes head new t) (sym behind)
+          (record { skipped = k.skipped; rest = k.rest; has_head = k.has_head; h = k.h; reads = k.reads; passed = told.4 }),
+      omega arith,
+    )
+
+-- Where the body is whole they begin with a message, behind which those are left that aren't decoded.
+pub decoded_whole : (bytes head left text : List ℕ) (b d : ChunkedBody) (x : Decoded) (j : Joined) (n all : ℕ) → all ≡ length left → x ≡ Decoded.Whole j n
+    → text ≡ left → d ≡ b
+    → (k : Decodes bytes head b left) → ((rest : List ℕ) → HasPassed rest d text → IsDecoded rest text (Ok x))
+    → (body : List ℕ) × (used : ℕ) × BeginsWith bytes (request_of k.h body) used × (n ≤ all)
+    × (drop (all - n) left ≡ drop used bytes) × (j.lost ≡ false → j.bytes.items ≡ body)
+decoded_whole bytes head left text b d x j n all all_is x_is same is k f =
+    let told = subst (λ (y : Decoded). IsDecoded k.rest left (Ok y)) x_is (told_of bytes head left text b d (Ok x) same is k f) in
+    let after = told.0 in
+    let few = few_left left after told.1 in
+    let size = told.2 in (
+      told.4,
+      length bytes - length after,
+      begins_with_message bytes k.skipped head k.rest told.3 told.4 after k.h Chunked k.has_head k.reads told.5 told.6,
+      omega arith,
+      left_behind left after all n all_is told.1 told.2
+          ∙ sym (left_behind bytes after _ (length after) refl (ends_all bytes k.skipped head k.rest after k.has_head (told.3, told.5)) refl),
+      told.7,
+    )
+
+-- Where something can't be there they are refused.
+pub decoded_flawed : (bytes head left text : List ℕ) (b d : ChunkedBody) (flaw : Flaw) → text ≡ left → d ≡ b → Decodes bytes head b left
+    → ((rest : List ℕ) → HasPassed rest d text → IsDecoded rest text (Err flaw)) → framing_refusal bytes (refusal_of flaw)
+decoded_flawed bytes head left text b d flaw same is k f =
+    refused_by_body bytes k.skipped head k.rest k.h Chunked flaw k.has_head k.reads (told_of bytes head left text b d (Err flaw) same is k f)

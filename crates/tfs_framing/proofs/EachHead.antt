@@ -1,7 +1,7 @@
 -- Each text is a head of the grammar, or none.
-use Rattle.std.proofs.Common.{◌≡◌, ◌≤◌, ◌<◌, ◌⊎◌, ◌∙◌, ℕ, zero, suc, List, [], ◌∷◌, ◌++◌, length, nat_le, Bool, true, false}
+use Rattle.std.proofs.Common.{◌≡◌, ◌≤◌, ◌<◌, ◌⊎◌, ◌∙◌, ℕ, zero, suc, List, [], ◌∷◌, ◌++◌, length}
 use Rattle.std.proofs.Common.{flat_map, append-nil, refl, sym, ap, inl, inr, arith, append_assoc, length-append}
-use Rattle.std.proofs.lemmas.Bool.{leb-true, leb-false}
+use Rattle.std.proofs.lemmas.Bool.{cases_lt}
 use Rattle.std.proofs.lemmas.List.Elements.{All-nil, All-cons}
 use Rattle.httparse.specs.Grammar.{is_token_byte, print_end, Field, print_field}
 use Rattle.httparse.specs.Grammar.{IsField, RequestHead, ReadsRequest}
@@ -80,14 +80,12 @@ head_decided head = elim (then_decided RequestStart_deterministic start_decided 
 ]
   where
     whole : (h : RequestHead) (rest : List ℕ) → ReadsRequest head h rest → ((h : RequestHead) × IsHeadOf head h) ⊎ ((h : RequestHead) → ¬ (IsHeadOf head h))
-    whole h [] reads = by (nat_le (length h.fields) 64) refl
-      where
-        by : (v : Bool) → nat_le (length h.fields) 64 ≡ v → ((h : RequestHead) × IsHeadOf head h) ⊎ ((h : RequestHead) → ¬ (IsHeadOf head h))
-        by true few = inl (h, record { reads = reads; fields = leb-true (length h.fields) 64 few })
-        by false many = inr (λ k is.
-            let same = request_unique head k h [] [] is.reads reads in
-            let count = ap (λ (g : RequestHead). length g.fields) same.0 in
-            let few = is.fields in
-            let long = leb-false (length h.fields) 64 many in
-            omega arith)
+    whole h [] reads = elim (cases_lt 64 (length h.fields)) [
+      | inl long ↦ inr (λ k is.
+          let same = request_unique head k h [] [] is.reads reads in
+          let count = ap (λ (g : RequestHead). length g.fields) same.0 in
+          let few = is.fields in
+          omega arith)
+      | inr few ↦ inl (h, record { reads = reads; fields = few })
+    ]
     whole h (b ∷ rest) reads = inr (λ k is. let same = (request_unique head k h [] (b ∷ rest) is.reads reads).1 in cc)

@@ -8,7 +8,8 @@ use Rattle.std.proofs.lemmas.Bool.Decides.{nat_tests}
 use Rattle.std.proofs.lemmas.List.Elements.{All-nil, All-cons, All-head, All-tail}
 use Rattle.std.proofs.lemmas.Str.{IsUtf8-from_is_utf8, is_utf8-from_IsUtf8}
 use Rattle.httparse.specs.Grammar.{is_uri_byte, is_value_byte, AllPass, LineEnd, crlf, lf, print_end, print_blank}
-use Rattle.httparse.specs.Pieces.{Piece, Begins, Then, Stops, is_newline, Newline, Blank, Word, Target, Version, Text}
+use Rattle.httparse.specs.Pieces.{Piece, Begins, Then, Stops, is_newline, Newline, Blank, Run, Word, Target, Version, Text}
+use Rattle.httparse.proofs.ChunkLemmas.{Run_deterministic}
 use Rattle.httparse.proofs.PieceLemmas.{IsDeterministic, Newline_deterministic, Word_deterministic}
 use Rattle.httparse.proofs.PieceLemmas.{newline_not_stopped}
 use Rattle.tfs_framing.proofs.PrefixLemmas.{front_split, front_joined}
@@ -45,35 +46,38 @@ nothing_begins w = by w.0 w.1 w.2
     by crlf rest e = cc
     by lf rest e = cc
 
+-- The bytes begin with this one, or not.
+pub first_decided : (b : ℕ) (text : List ℕ) → ((rest : List ℕ) × (text ≡ b ∷ rest)) ⊎ ¬ ((rest : List ℕ) × (text ≡ b ∷ rest))
+first_decided b [] = inr (λ w. let e = w.1 in cc)
+first_decided b (c ∷ text) = elim (same_or_not c b) [
+  | inl is ↦ inl (text, ap (λ d. d ∷ text) is)
+  | inr other ↦ inr (λ w. let e = w.1 in other (cc))
+]
+
+-- CR LF comes first, or not.
+pub line_end_decided : (text : List ℕ) → ((rest : List ℕ) × (text ≡ print_end crlf ++ rest)) ⊎ ¬ ((rest : List ℕ) × (text ≡ print_end crlf ++ rest))
+line_end_decided text = elim (first_decided 13 text) [
+  | inl x ↦ elim (first_decided 10 x.0) [
+    | inl y ↦ inl (y.0, x.1 ∙ ap (λ t. 13 ∷ t) y.1)
+    | inr none ↦ inr (λ w. none (w.0, let one = x.1 in let two = w.1 in cc))
+  ]
+  | inr none ↦ inr (λ w. none (10 ∷ w.0, w.1))
+]
+
 -- A line end comes first or doesn't.
 pub newline_decided : IsDecided Newline
-newline_decided [] = inr nothing_begins
-newline_decided (b ∷ text) = elim (same_or_not b 10) [
-  | inl is ↦ inl (lf, text, ap (λ c. c ∷ text) is)
-  | inr other ↦ elim (same_or_not b 13) [
-    | inl is ↦ behind text is
-    | inr not_cr ↦ inr (λ w. none w.0 w.1 other not_cr w.2)
+newline_decided text = elim (first_decided 10 text) [
+  | inl x ↦ inl (lf, x.0, x.1)
+  | inr not_lf ↦ elim (line_end_decided text) [
+    | inl x ↦ inl (crlf, x.0, x.1)
+    | inr not_crlf ↦ inr (λ w. none not_lf not_crlf w.0 w.1 w.2)
   ]
 ]
   where
-    none : (end : LineEnd) (rest : List ℕ) → ¬ (b ≡ 10) → ¬ (b ≡ 13) → ¬ (b ∷ text ≡ print_end end ++ rest)
-    none crlf rest not_lf not_cr e = not_cr (cc)
-    none lf rest not_lf not_cr e = not_lf (cc)
-
-    behind : (left : List ℕ) → b ≡ 13 → Begins Newline (b ∷ left) ⊎ ¬ (Begins Newline (b ∷ left))
-    behind [] is = inr (λ w. short w.0 w.1 w.2)
-      where
-        short : (end : LineEnd) (rest : List ℕ) → ¬ (b ∷ [] ≡ print_end end ++ rest)
-        short crlf rest e = cc
-        short lf rest e = let wrong : ◌≡◌ {A = ℕ} 13 10 = cc in omega arith
-    behind (c ∷ left) is = elim (same_or_not c 10) [
-      | inl end ↦ inl (crlf, left, ap (λ d. d ∷ c ∷ left) is ∙ ap (λ d. 13 ∷ d ∷ left) end)
-      | inr other ↦ inr (λ w. short w.0 w.1 w.2 other)
-    ]
-      where
-        short : (end : LineEnd) (rest : List ℕ) → b ∷ c ∷ left ≡ print_end end ++ rest → ¬ (¬ (c ≡ 10))
-        short crlf rest e other = other (cc)
-        short lf rest e other = let wrong : ◌≡◌ {A = ℕ} 13 10 = cc in omega arith
+    none : ¬ ((rest : List ℕ) × (text ≡ 10 ∷ rest)) → ¬ ((rest : List ℕ) × (text ≡ print_end crlf ++ rest))
+        → (end : LineEnd) (rest : List ℕ) → ¬ (text ≡ print_end end ++ rest)
+    none not_lf not_crlf crlf rest e = not_crlf (rest, e)
+    none not_lf not_crlf lf rest e = not_lf (rest, e)
 
 -- A text has a first byte that fails the test, or not.
 stops_decided : (test : ℕ → Bool) (text : List ℕ) → Stops test text ⊎ ¬ (Stops test text)
@@ -84,14 +88,15 @@ stops_decided test (b ∷ text) = by (test b) refl
     by true e = inr (λ fails. cc)
     by false e = inl e
 
+-- Behind a line end fewer bytes are left.
+pub longer : (end : LineEnd) (rest left : List ℕ) → left ≡ print_end end ++ rest → length rest < length left
+longer crlf rest left e = let same = ap (λ (t : List ℕ). length t) e in omega arith
+longer lf rest left e = let same = ap (λ (t : List ℕ). length t) e in omega arith
+
 -- All empty lines come first, and then something else, or not.
 pub blank_decided : IsDecided Blank
 blank_decided text = within (length text) text (omega arith)
   where
-    longer : (end : LineEnd) (rest left : List ℕ) → left ≡ print_end end ++ rest → length rest < length left
-    longer crlf rest left e = let same = ap (λ (t : List ℕ). length t) e in omega arith
-    longer lf rest left e = let same = ap (λ (t : List ℕ). length t) e in omega arith
-
     at_once : (left : List ℕ) → ¬ (Begins Newline left) → Begins Blank left ⊎ ¬ (Begins Blank left)
     at_once left none = elim (stops_decided is_newline left) [
       | inl stops ↦ inl ([], left, (refl, stops))
@@ -122,60 +127,51 @@ blank_decided text = within (length text) text (omega arith)
             (same ∙ append_assoc (print_end first) (print_blank ends) last) in
             none (ends, last, (one.1, stops))
 
--- Bytes that pass a test come first, and then the byte that ends them, or not.
-pub span_decided : (test : ℕ → Bool) (stop : ℕ) → test stop ≡ false → (text : List ℕ)
-    → ((word : List ℕ) × (rest : List ℕ) × AllPass test word × (text ≡ word ++ stop ∷ rest))
-    ⊎ ¬ ((word : List ℕ) × (rest : List ℕ) × AllPass test word × (text ≡ word ++ stop ∷ rest))
-span_decided test stop fails [] = inr (λ w. none w.0 w.1 w.3)
+-- Bytes that pass a test come first, and behind them one that fails it, or not.
+pub run_decided : (test : ℕ → Bool) → IsDecided (Run test)
+run_decided test [] = inr (λ w. none w.0 w.1 w.2.1 w.2.2)
   where
-    none : (word rest : List ℕ) → ¬ ([] ≡ word ++ stop ∷ rest)
-    none [] rest e = cc
-    none (c ∷ word) rest e = cc
-span_decided test stop fails (b ∷ text) = by (test b) refl (span_decided test stop fails text)
+    none : (word rest : List ℕ) → [] ≡ word ++ rest → ¬ (Stops test rest)
+    none [] rest e stops = subst (Stops test) (sym e) stops
+    none (c ∷ word) rest e stops = cc
+run_decided test (b ∷ text) = by (test b) refl (run_decided test text)
   where
-    by : (v : Bool) → test b ≡ v
-        → ((word : List ℕ) × (rest : List ℕ) × AllPass test word × (text ≡ word ++ stop ∷ rest))
-        ⊎ ¬ ((word : List ℕ) × (rest : List ℕ) × AllPass test word × (text ≡ word ++ stop ∷ rest))
-        → ((word : List ℕ) × (rest : List ℕ) × AllPass test word × (b ∷ text ≡ word ++ stop ∷ rest))
-        ⊎ ¬ ((word : List ℕ) × (rest : List ℕ) × AllPass test word × (b ∷ text ≡ word ++ stop ∷ rest))
+    longer : (word rest : List ℕ) → AllPass test word → b ∷ text ≡ word ++ rest → Stops test rest → ¬ (Begins (Run test) text) → ¬ (test b ≡ true)
+    longer [] rest all e stops none is = let fails : test b ≡ false = subst (Stops test) (sym e) stops in cc
+    longer (c ∷ word) rest all e stops none is = none (word, rest, (All-tail (λ d. test d ≡ true) c word all, cc, stops))
+
+    by : (v : Bool) → test b ≡ v → Begins (Run test) text ⊎ ¬ (Begins (Run test) text) → Begins (Run test) (b ∷ text) ⊎ ¬ (Begins (Run test) (b ∷ text))
     by true e behind = elim behind [
-      | inl x ↦ inl (b ∷ x.0, x.1, All-cons (λ c. test c ≡ true) b x.0 e x.2, ap (λ t. b ∷ t) x.3)
-      | inr none ↦ inr (λ w. longer w.0 w.1 w.2 w.3 none)
+      | inl x ↦ inl (b ∷ x.0, x.1, (All-cons (λ c. test c ≡ true) b x.0 e x.2.0, ap (λ t. b ∷ t) x.2.1, x.2.2))
+      | inr none ↦ inr (λ w. longer w.0 w.1 w.2.0 w.2.1 w.2.2 none e)
     ]
-      where
-        longer : (word rest : List ℕ) → AllPass test word → b ∷ text ≡ word ++ stop ∷ rest
-            → ¬ (¬ ((word : List ℕ) × (rest : List ℕ) × AllPass test word × (text ≡ word ++ stop ∷ rest)))
-        longer [] rest all same none = let is : b ≡ stop = cc in cc
-        longer (c ∷ word) rest all same none = none (word, rest, All-tail (λ d. test d ≡ true) c word all, cc)
-    by false e behind = elim (same_or_not b stop) [
-      | inl is ↦ inl ([], text, All-nil (λ c. test c ≡ true), ap (λ c. c ∷ text) is)
-      | inr other ↦ inr (λ w. none w.0 w.1 w.2 w.3 other)
-    ]
-      where
-        none : (word rest : List ℕ) → AllPass test word → b ∷ text ≡ word ++ stop ∷ rest → ¬ (¬ (b ≡ stop))
-        none [] rest all same other = other (cc)
-        none (c ∷ word) rest all same other =
-            let passes : test c ≡ true = All-head (λ d. test d ≡ true) c word all in
-            let is : b ≡ c = cc in
-            cc
+    by false e behind = inl ([], b ∷ text, (All-nil (λ c. test c ≡ true), refl, e))
+
+-- Bytes that pass a test come first, and then the byte that ends them.
+abbrev Spans : (ℕ → Bool) → ℕ → List ℕ → Type 0
+Spans test stop text = (word : List ℕ) × (rest : List ℕ) × AllPass test word × (text ≡ word ++ stop ∷ rest)
+
+-- They do or don't.
+pub span_decided : (test : ℕ → Bool) (stop : ℕ) → test stop ≡ false → (text : List ℕ) → Spans test stop text ⊎ ¬ (Spans test stop text)
+span_decided test stop fails text = elim (run_decided test text) [
+  | inl x ↦ elim (first_decided stop x.1) [
+    | inl y ↦ inl (x.0, y.0, x.2.0, x.2.1 ∙ ap (λ t. x.0 ++ t) y.1)
+    | inr none ↦ inr (λ w. none (w.1, ((Run_deterministic test).unique x.0 w.0 text x.1 (stop ∷ w.1) x.2 (w.2, w.3, fails)).1))
+  ]
+  | inr none ↦ inr (λ w. none (w.0, stop ∷ w.1, (w.2, w.3, fails)))
+]
 
 -- A word comes first, and then the byte that ends it, or not.
 pub word_decided : (test : ℕ → Bool) (stop : ℕ) → test stop ≡ false → IsDecided (Word test stop)
-word_decided test stop fails [] = inr (λ w. none w.0 w.1 w.2.2)
-  where
-    none : (word rest : List ℕ) → ¬ ([] ≡ word ++ stop ∷ rest)
-    none [] rest e = cc
-    none (c ∷ word) rest e = cc
-word_decided test stop fails (b ∷ text) = elim (span_decided test stop fails (b ∷ text)) [
+word_decided test stop fails text = elim (span_decided test stop fails text) [
   | inl x ↦ by x.0 x.1 x.2 x.3
   | inr none ↦ inr (λ w. none (w.0, w.1, w.2.1, w.2.2))
 ]
   where
-    by : (word rest : List ℕ) → AllPass test word → b ∷ text ≡ word ++ stop ∷ rest → Begins (Word test stop) (b ∷ text)
-        ⊎ ¬ (Begins (Word test stop) (b ∷ text))
+    by : (word rest : List ℕ) → AllPass test word → text ≡ word ++ stop ∷ rest → Begins (Word test stop) text ⊎ ¬ (Begins (Word test stop) text)
     by [] rest all e = inr (λ w. none w.0 w.1 w.2.0 w.2.1 w.2.2)
       where
-        none : (word left : List ℕ) → 0 < length word → AllPass test word → ¬ (b ∷ text ≡ word ++ stop ∷ left)
+        none : (word left : List ℕ) → 0 < length word → AllPass test word → ¬ (text ≡ word ++ stop ∷ left)
         none [] left some all same = omega arith
         none (c ∷ word) left some all same =
             let passes : test c ≡ true = All-head (λ d. test d ≡ true) c word all in
@@ -222,41 +218,18 @@ version_decided text = by (starts_with nat_eq text (codes "HTTP/1.")) refl
         ap (λ t. starts_with nat_eq t (codes "HTTP/1.")) w.2.1 ∙ front_joined (codes "HTTP/1.") ((48 + w.0) ∷ w.1) in
         cc)
 
--- No byte of a value is the first of a line end.
-value_no_newline : (b : ℕ) (text rest : List ℕ) (end : LineEnd) → is_value_byte b ≡ true → ¬ (b ∷ text ≡ print_end end ++ rest)
-value_no_newline b text rest crlf v e = let is : b ≡ 13 = cc in let wrong : is_value_byte 13 ≡ true = subst (λ c. is_value_byte c ≡ true) is v in cc
-value_no_newline b text rest lf v e = let is : b ≡ 10 = cc in let wrong : is_value_byte 10 ≡ true = subst (λ c. is_value_byte c ≡ true) is v in cc
-
 -- The bytes of a value and a line end come first, or not.
 pub text_decided : IsDecided Text
-text_decided [] = inr (λ w. none w.0.0 w.0.1 w.1 w.2.1)
+text_decided text = elim (run_decided is_value_byte text) [
+  | inl x ↦ elim (newline_decided x.1) [
+    | inl y ↦ inl ((x.0, y.0), y.1, (x.2.0, x.2.1 ∙ ap (λ t. x.0 ++ t) y.2))
+    | inr none ↦ inr (λ w.
+        let same = (Run_deterministic is_value_byte).unique x.0 w.0.0 text x.1 (print_end w.0.1 ++ w.1) x.2 (w.2.0, w.2.1, ends w.0.1 w.1) in
+        none (w.0.1, w.1, same.1))
+  ]
+  | inr none ↦ inr (λ w. none (w.0.0, print_end w.0.1 ++ w.1, (w.2.0, w.2.1, ends w.0.1 w.1)))
+]
   where
-    none : (word : List ℕ) (end : LineEnd) (rest : List ℕ) → ¬ ([] ≡ word ++ (print_end end ++ rest))
-    none [] crlf rest e = cc
-    none [] lf rest e = cc
-    none (c ∷ word) end rest e = cc
-text_decided (b ∷ text) = by (is_value_byte b) refl (text_decided text)
-  where
-    by : (v : Bool) → is_value_byte b ≡ v → Begins Text text ⊎ ¬ (Begins Text text) → Begins Text (b ∷ text) ⊎ ¬ (Begins Text (b ∷ text))
-    by true v behind = elim behind [
-      | inl x ↦ inl ((b ∷ x.0.0, x.0.1), x.1, (All-cons (λ c. is_value_byte c ≡ true) b x.0.0 v x.2.0, ap (λ t. b ∷ t) x.2.1))
-      | inr none ↦ inr (λ w. longer w.0.0 w.0.1 w.1 w.2.0 w.2.1 none)
-    ]
-      where
-        longer : (word : List ℕ) (end : LineEnd) (rest : List ℕ) → AllPass is_value_byte word → b ∷ text ≡ word ++ (print_end end ++ rest)
-            → ¬ (¬ (Begins Text text))
-        longer [] end rest all e none = value_no_newline b text rest end v e
-        longer (c ∷ word) end rest all e none = none ((word, end), rest, (All-tail (λ d. is_value_byte d ≡ true) c word all, cc))
-    by false v behind = elim (newline_decided (b ∷ text)) [
-      | inl x ↦ inl (([], x.0), x.1, (All-nil (λ c. is_value_byte c ≡ true), x.2))
-      | inr none ↦ inr (λ w. other w.0.0 w.0.1 w.1 w.2.0 w.2.1 none)
-    ]
-      where
-        other : (word : List ℕ) (end : LineEnd) (rest : List ℕ) → AllPass is_value_byte word → b ∷ text ≡ word ++ (print_end end ++ rest)
-            → ¬ (¬ (Begins Newline (b ∷ text)))
-        other [] end rest all e none = none (end, rest, e)
-        other (c ∷ word) end rest all e none =
-            let passes : is_value_byte c ≡ true = All-head (λ d. is_value_byte d ≡ true) c word all in
-            let is : b ≡ c = cc in
-            let same : is_value_byte b ≡ true = subst (λ d. is_value_byte d ≡ true) (sym is) passes in
-            cc
+    ends : (end : LineEnd) (rest : List ℕ) → Stops is_value_byte (print_end end ++ rest)
+    ends crlf rest = refl
+    ends lf rest = refl

@@ -4,15 +4,10 @@ use Rattle.std.proofs.Common.{append-nil, length-append, inl, inr}
 use Rattle.httparse.specs.Ascii.{line_feed}
 use Rattle.httparse.specs.Grammar.{ChunkLine, print_chunk_line, chunk_size}
 use Rattle.tfs_framing.specs.Chunks.{print_chunks, joined, IsShortLine, HasBadLine, HasBadEnd, HasLongTrailer, IsFlawBehind, IsFlawAt, HasFlaw}
-use Rattle.tfs_framing.specs.declared.part.Flaw.{Flaw}
-use Rattle.tfs_framing.specs.declared.part.Flaw.TheVariants.{TooLarge, Unreadable}
-use Rattle.tfs_framing.proofs.HeadLemmas.{cuts, nothing_left}
+use Rattle.tfs_framing.specs.declared.chunks.Flaw.{Flaw}
+use Rattle.tfs_framing.specs.declared.chunks.Flaw.TheVariants.{TooLarge, Unreadable}
+use Rattle.tfs_framing.proofs.HeadLemmas.{cuts, nothing_appended, nothing_left}
 use Rattle.tfs_framing.proofs.ChunkLemmas.{line_feed_last}
-
--- The first of two lists that make none is empty; so is the second.
-second_empty : (a b : List ℕ) → a ++ b ≡ [] → b ≡ []
-second_empty [] b e = e
-second_empty (x ∷ a) b e = cc
 
 -- Where a chunk line goes on behind such bytes, it doesn't.
 line_goes_on : (left more : List ℕ) (line : ChunkLine) → IsShortLine line
@@ -22,8 +17,8 @@ line_goes_on left more line is (inl long) e =
     let short = is.short in
     nothing_left more (omega arith)
 line_goes_on left more line is (inr w) e =
-    second_empty w.1 more (line_feed_last line w.0 (w.1 ++ more) is.is_line
-    (e ∙ ap (λ t. t ++ more) w.2 ∙ append_assoc w.0 (line_feed ∷ w.1) more))
+    nothing_appended w.1 more (sym (line_feed_last line w.0 (w.1 ++ more) is.is_line
+    (e ∙ ap (λ t. t ++ more) w.2 ∙ append_assoc w.0 (line_feed ∷ w.1) more)))
 
 -- A bad line stays one.
 bad_line_more : (left more : List ℕ) → HasBadLine left → HasBadLine (left ++ more)

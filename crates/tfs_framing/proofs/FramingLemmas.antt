@@ -1,5 +1,5 @@
 -- Laws of framing: what bytes begin with is one thing, and stays whatever bytes follow.
-use Rattle.std.proofs.Common.{◌≡◌, ◌≤◌, ◌<◌, ◌⊎◌, ℕ, List, [], ◌∷◌, ◌++◌, length, Result, Ok, Err, refl, sym, ◌∙◌, ap, subst, arith}
+use Rattle.std.proofs.Common.{◌≡◌, ◌≤◌, ◌<◌, ◌⊎◌, ℕ, List, [], ◌++◌, length, Result, Ok, Err, refl, sym, ◌∙◌, ap, subst, arith}
 use Rattle.std.proofs.Common.{append_assoc, append-nil, length-append, inl, inr}
 use Rattle.httparse.specs.Grammar.{LineEnd, print_blank, RequestHead}
 use Rattle.httparse.proofs.GrammarLemmas.{request_unique}
@@ -9,11 +9,11 @@ use Rattle.tfs_framing.specs.Request.{RequestValue, request_of}
 use Rattle.tfs_framing.specs.Head.{HasHead, HasNoHead, IsHeadOf, line_feeds}
 use Rattle.tfs_framing.specs.Body.{body_length, SpellsBody, HasBadBody, refusal_of}
 use Rattle.tfs_framing.specs.Framing.{ReadsHead, IsHeadRefused, ReadsMessage, HasRefusedHead, HasRefusedBody, framing_refusal, BeginsWith, Frames}
-use Rattle.tfs_framing.specs.declared.length.BodyLength.{BodyLength}
-use Rattle.tfs_framing.specs.declared.length.BodyLength.TheVariants.{Absent, Sized, Chunked}
-use Rattle.tfs_framing.specs.declared.taken.Take.{Take}
-use Rattle.tfs_framing.specs.declared.taken.Take.TheVariants.{Need, Got, Fault}
-use Rattle.tfs_framing.proofs.HeadLemmas.{cuts, same_cut, blank_unique, head_starts}
+use Rattle.tfs_framing.specs.declared.lines.BodyLength.{BodyLength}
+use Rattle.tfs_framing.specs.declared.lines.BodyLength.TheVariants.{Absent, Sized, Chunked}
+use Rattle.tfs_framing.specs.declared.framing.Take.{Take}
+use Rattle.tfs_framing.specs.declared.framing.Take.TheVariants.{Need, Got, Fault}
+use Rattle.tfs_framing.proofs.HeadLemmas.{cuts, message_head_once, nothing_left, same_cut, blank_unique, head_starts}
 use Rattle.tfs_framing.proofs.ChunksLemmas.{chunks_once}
 use Rattle.tfs_framing.proofs.BadBodyLemmas.{spelled_not_bad, bad_once, bad_more}
 
@@ -40,14 +40,8 @@ pub head_unique : (bytes : List ℕ) (a b : List LineEnd) (head other rest last 
 head_unique bytes a b head other rest last has also =
     let same = blank_unique a b (head ++ rest) (other ++ last) (sym has.parts ∙ also.parts) (head_starts head rest has.starts has.is_head)
     (head_starts other last also.starts also.is_head) in
-    elim (cuts head rest other last same.1) [
-      | inl w ↦
-          let none : w.0 ≡ [] = has.is_head.shortest other w.0 w.1 also.is_head.ends in
-          record { skipped = same.0; heads = w.1 ∙ ap (λ t. other ++ t) none ∙ append-nil other; rests = sym (w.2 ∙ ap (λ t. t ++ rest) none) }
-      | inr w ↦
-          let none : w.0 ≡ [] = also.is_head.shortest head w.0 w.1 has.is_head.ends in
-          record { skipped = same.0; heads = sym (w.1 ∙ ap (λ t. head ++ t) none ∙ append-nil head); rests = w.2 ∙ ap (λ t. t ++ last) none }
-    ]
+    let texts = message_head_once head other rest last has.is_head also.is_head same.1 in
+    record { skipped = same.0; heads = texts.0; rests = texts.1 }
 
 -- A head is read in one way.
 pub reads_once : (head : List ℕ) (h k : RequestHead) (m n : BodyLength) → ReadsHead head h m → ReadsHead head k n → (h ≡ k) × (m ≡ n)
@@ -96,28 +90,21 @@ reads_not_refused head h n refusal r refused = elim (reasons head refusal refuse
 
 -- A head is refused for one reason.
 pub refused_once : (head : List ℕ) (f g : Refusal) → IsHeadRefused head f → IsHeadRefused head g → f ≡ g
-refused_once head f g p q = elim (reasons head f p) [
-  | inl a ↦ elim (reasons head g q) [
-    | inl b ↦ a.1 ∙ sym b.1
-    | inr b ↦ elim b [ inl c ↦ absurd (omega (arith, a.0, c.0)) | inr c ↦ absurd (omega (arith, a.0, c.0)) ]
-  ]
-  | inr a ↦ elim a [
-    | inl c ↦ elim (reasons head g q) [
-      | inl b ↦ absurd (omega (arith, b.0, c.0))
-      | inr b ↦ elim b [ inl d ↦ c.2 ∙ sym d.2 | inr d ↦ absurd (c.1 d.1 d.2) ]
-    ]
-    | inr c ↦ elim (reasons head g q) [
-      | inl b ↦ absurd (omega (arith, b.0, c.0))
-      | inr b ↦ elim b [
-        | inl d ↦ absurd (d.1 c.1 c.2)
-        | inr d ↦
-            let same : c.1 ≡ d.1 = (request_unique head c.1 d.1 [] [] c.2.reads d.2.reads).0 in
-            let both : ◌≡◌ {A = Result BodyLength Refusal} (Err f) (Err g) = sym c.3 ∙ ap body_length same ∙ d.3 in
-            cc
-      ]
-    ]
-  ]
-]
+refused_once head f g p q = by (reasons head f p) (reasons head g q)
+  where
+    by : Reasons head f → Reasons head g → f ≡ g
+    by (inl a) (inl b) = a.1 ∙ sym b.1
+    by (inl a) (inr (inl b)) = absurd (omega (arith, a.0, b.0))
+    by (inl a) (inr (inr b)) = absurd (omega (arith, a.0, b.0))
+    by (inr (inl a)) (inl b) = absurd (omega (arith, a.0, b.0))
+    by (inr (inl a)) (inr (inl b)) = a.2 ∙ sym b.2
+    by (inr (inl a)) (inr (inr b)) = absurd (a.1 b.1 b.2)
+    by (inr (inr a)) (inl b) = absurd (omega (arith, a.0, b.0))
+    by (inr (inr a)) (inr (inl b)) = absurd (b.1 a.1 a.2)
+    by (inr (inr a)) (inr (inr b)) =
+        let same : a.1 ≡ b.1 = (request_unique head a.1 b.1 [] [] a.2.reads b.2.reads).0 in
+        let both : ◌≡◌ {A = Result BodyLength Refusal} (Err f) (Err g) = sym a.3 ∙ ap body_length same ∙ b.3 in
+        cc
 
 -- A message's head is the head of the bytes that it begins.
 pub head_of_message : (bytes frame rest : List ℕ) (r : RequestValue) → bytes ≡ frame ++ rest → (m : ReadsMessage frame r)
@@ -148,23 +135,20 @@ message_once bytes r q m n b d =
 
 -- A message isn't refused.
 pub message_not_refused : (bytes : List ℕ) (r : RequestValue) (m : ℕ) (refusal : Refusal) → BeginsWith bytes r m → ¬ (framing_refusal bytes refusal)
-message_not_refused bytes r m refusal b p =
-    let has = head_of_message bytes b.frame b.rest r b.parts b.reads in
-    elim p [
-      | inl q ↦ q.1 b.reads.skipped b.reads.head (b.reads.coded ++ b.rest) has
-      | inr r ↦ elim r [
-        | inl q ↦
-            let same = head_unique bytes b.reads.skipped q.skipped b.reads.head q.head (b.reads.coded ++ b.rest) q.rest has q.has_head in
-            reads_not_refused b.reads.head b.reads.h b.reads.size refusal b.reads.reads
-            (subst (λ (t : List ℕ). IsHeadRefused t refusal) (sym same.heads) q.refused)
-        | inr q ↦
-            let same = head_unique bytes b.reads.skipped q.skipped b.reads.head q.head (b.reads.coded ++ b.rest) q.rest has q.has_head in
-            let lines = reads_once b.reads.head b.reads.h q.h b.reads.size q.size b.reads.reads
-            (subst (λ (t : List ℕ). ReadsHead t q.h q.size) (sym same.heads) q.reads) in
-            spelled_not_bad b.reads.size q.rest b.reads.coded b.reads.body b.rest q.flaw b.reads.spells (sym same.rests)
-            (subst (λ (n : BodyLength). HasBadBody n q.rest q.flaw) (sym lines.1) q.bad)
-      ]
-    ]
+message_not_refused bytes r m refusal b p = by (head_of_message bytes b.frame b.rest r b.parts b.reads) p
+  where
+    by : HasHead bytes b.reads.skipped b.reads.head (b.reads.coded ++ b.rest) → ¬ (framing_refusal bytes refusal)
+    by has (inl q) = q.1 b.reads.skipped b.reads.head (b.reads.coded ++ b.rest) has
+    by has (inr (inl q)) =
+        let same = head_unique bytes b.reads.skipped q.skipped b.reads.head q.head (b.reads.coded ++ b.rest) q.rest has q.has_head in
+        reads_not_refused b.reads.head b.reads.h b.reads.size refusal b.reads.reads
+        (subst (λ (t : List ℕ). IsHeadRefused t refusal) (sym same.heads) q.refused)
+    by has (inr (inr q)) =
+        let same = head_unique bytes b.reads.skipped q.skipped b.reads.head q.head (b.reads.coded ++ b.rest) q.rest has q.has_head in
+        let lines = reads_once b.reads.head b.reads.h q.h b.reads.size q.size b.reads.reads
+        (subst (λ (t : List ℕ). ReadsHead t q.h q.size) (sym same.heads) q.reads) in
+        spelled_not_bad b.reads.size q.rest b.reads.coded b.reads.body b.rest q.flaw b.reads.spells (sym same.rests)
+        (subst (λ (n : BodyLength). HasBadBody n q.rest q.flaw) (sym lines.1) q.bad)
 
 -- A head whose body is refused isn't refused itself.
 body_not_head : (bytes : List ℕ) (f g : Refusal) → HasRefusedBody bytes f → ¬ (HasRefusedHead bytes g)
@@ -183,27 +167,17 @@ body_refused_once bytes f g a b =
 
 -- Bytes have one refusal.
 pub refusal_once : (bytes : List ℕ) (f g : Refusal) → framing_refusal bytes f → framing_refusal bytes g → f ≡ g
-refusal_once bytes f g p q = elim p [
-  | inl a ↦ elim q [
-    | inl b ↦ a.2 ∙ sym b.2
-    | inr r ↦ elim r [ inl b ↦ absurd (a.1 b.skipped b.head b.rest b.has_head) | inr b ↦ absurd (a.1 b.skipped b.head b.rest b.has_head) ]
-  ]
-  | inr s ↦ elim s [
-    | inl a ↦ elim q [
-      | inl b ↦ absurd (b.1 a.skipped a.head a.rest a.has_head)
-      | inr r ↦ elim r [
-        | inl b ↦
-            let same = head_unique bytes a.skipped b.skipped a.head b.head a.rest b.rest a.has_head b.has_head in
-            refused_once a.head f g a.refused (subst (λ (t : List ℕ). IsHeadRefused t g) (sym same.heads) b.refused)
-        | inr b ↦ absurd (body_not_head bytes g f b a)
-      ]
-    ]
-    | inr a ↦ elim q [
-      | inl b ↦ absurd (b.1 a.skipped a.head a.rest a.has_head)
-      | inr r ↦ elim r [ inl b ↦ absurd (body_not_head bytes f g a b) | inr b ↦ body_refused_once bytes f g a b ]
-    ]
-  ]
-]
+refusal_once bytes f g (inl a) (inl b) = a.2 ∙ sym b.2
+refusal_once bytes f g (inl a) (inr (inl b)) = absurd (a.1 b.skipped b.head b.rest b.has_head)
+refusal_once bytes f g (inl a) (inr (inr b)) = absurd (a.1 b.skipped b.head b.rest b.has_head)
+refusal_once bytes f g (inr (inl a)) (inl b) = absurd (b.1 a.skipped a.head a.rest a.has_head)
+refusal_once bytes f g (inr (inl a)) (inr (inl b)) =
+    let same = head_unique bytes a.skipped b.skipped a.head b.head a.rest b.rest a.has_head b.has_head in
+    refused_once a.head f g a.refused (subst (λ (t : List ℕ). IsHeadRefused t g) (sym same.heads) b.refused)
+refusal_once bytes f g (inr (inl a)) (inr (inr b)) = absurd (body_not_head bytes g f b a)
+refusal_once bytes f g (inr (inr a)) (inl b) = absurd (b.1 a.skipped a.head a.rest a.has_head)
+refusal_once bytes f g (inr (inr a)) (inr (inl b)) = absurd (body_not_head bytes f g a b)
+refusal_once bytes f g (inr (inr a)) (inr (inr b)) = body_refused_once bytes f g a b
 
 -- A message stays whatever bytes follow, and so does a refusal.
 pub message_more : (bytes more : List ℕ) (r : RequestValue) (n : ℕ) → BeginsWith bytes r n → BeginsWith (bytes ++ more) r n
@@ -226,7 +200,7 @@ no_head_more bytes more many none skipped head rest has =
           (record { parts = w.1 ∙ append_assoc (print_blank skipped) head w.0; starts = has.starts; is_head = has.is_head; size = has.size })
       | inr w ↦
           let long = ap length w.1 ∙ length-append bytes w.0 in
-          let nothing : w.0 ≡ [] = no_more w.0 (omega arith) in
+          let nothing : w.0 ≡ [] = nothing_left w.0 (omega arith) in
           none skipped head [] (record {
             parts = sym (append-nil bytes) ∙ ap (λ t. bytes ++ t) (sym nothing) ∙ sym w.1 ∙ sym (append-nil (print_blank skipped ++ head))
                 ∙ append_assoc (print_blank skipped) head [];
@@ -235,10 +209,6 @@ no_head_more bytes more many none skipped head rest has =
             size = has.size;
           })
     ]
-  where
-    no_more : (l : List ℕ) → length l ≡ 0 → l ≡ []
-    no_more [] e = refl
-    no_more (x ∷ l) e = absurd (omega arith)
 
 -- A refusal stays whatever bytes follow.
 pub refusal_more : (bytes more : List ℕ) (refusal : Refusal) → framing_refusal bytes refusal → framing_refusal (bytes ++ more) refusal

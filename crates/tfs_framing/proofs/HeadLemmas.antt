@@ -37,7 +37,6 @@ cuts (x ∷ a) b (y ∷ c) d e =
 -- A list of length 0 is empty.
 pub nothing_left : (z : List ℕ) → length z ≡ 0 → z ≡ []
 nothing_left [] e = refl
--- A list of length 0 is empty.
 nothing_left (x ∷ z) e = absurd (omega arith)
 
 -- Two cuts of one list at one place are one.
@@ -51,15 +50,18 @@ same_cut (x ∷ a) b (y ∷ c) d e n =
     let rest = same_cut a b c d tails (omega arith) in
     (cc, rest.1)
 
+-- Both parts of a list that is split make it.
+pub halves : (n : ℕ) (all front back : List ℕ) → front ≡ take n all → back ≡ drop n all → all ≡ front ++ back
+halves n all front back is also = sym (take-append-drop n all) ∙ ap (λ t. t ++ drop n all) (sym is) ∙ ap (λ t. front ++ t) (sym also)
+
 -- A line end has one byte or two.
-print_end_len : (end : LineEnd) → (1 ≤ length (print_end end)) × (length (print_end end) ≤ 2)
+pub print_end_len : (end : LineEnd) → (1 ≤ length (print_end end)) × (length (print_end end) ≤ 2)
 print_end_len crlf = (omega arith, omega arith)
 print_end_len lf = (omega arith, omega arith)
 
 -- What is appended to something and gives nothing is nothing.
-nothing_appended : (z rest : List ℕ) → [] ≡ z ++ rest → rest ≡ []
+pub nothing_appended : (z rest : List ℕ) → [] ≡ z ++ rest → rest ≡ []
 nothing_appended [] rest e = sym e
--- What is appended to something and gives nothing is nothing.
 nothing_appended (x ∷ z) rest e = cc
 
 -- Behind a line feed and an empty line, no later line feed has an empty line.
@@ -71,7 +73,6 @@ after_end [] rest lf lf e = cc
 after_end (x ∷ []) rest crlf last e = let wrong : carriage_return ≡ line_feed = cc in absurd (omega arith)
 after_end (x ∷ []) rest lf last e =
     let short : [] ≡ print_end last ++ rest = cc in
-    -- What is appended to something and gives nothing is nothing.
     nothing_appended (print_end last) rest short
 after_end (x ∷ y ∷ z) rest end last e =
     let long = ap length e in
@@ -91,11 +92,12 @@ ends_alone front before rest end last e n = elim (cuts front (line_feed ∷ prin
 ]
 
 -- A front that was passed over, a line feed and an empty line are a head.
-head_passed_over : (bytes front after behind : List ℕ) (end : LineEnd) → PassedOver bytes front (line_feed ∷ after) → after ≡ print_end end ++ behind
-    → (head : List ℕ) × (rest : List ℕ) × (bytes ≡ head ++ rest) × (length head ≡ length bytes - length behind) × IsMessageHead head
-head_passed_over bytes front after behind end passed split =
+pub head_found : (bytes front rest after behind : List ℕ) (byte : ℕ) (end : LineEnd) → PassedOver bytes front rest → rest ≡ byte ∷ after → byte ≡ line_feed
+    → after ≡ print_end end ++ behind
+    → (head : List ℕ) × (tail : List ℕ) × (bytes ≡ head ++ tail) × (length head ≡ length bytes - length behind) × IsMessageHead head
+head_found bytes front left after behind byte end passed cut same split =
     let whole : bytes ≡ (front ++ line_feed ∷ print_end end) ++ behind =
-    passed.parts ∙ ap (λ t. front ++ line_feed ∷ t) split ∙ sym (append_assoc front (line_feed ∷ print_end end) behind) in
+    passed.parts ∙ ap (λ t. front ++ t) (cut ∙ ap (λ b. b ∷ after) same) ∙ ap (λ t. front ++ line_feed ∷ t) split ∙ sym (append_assoc front (line_feed ∷ print_end end) behind) in
     let long : length bytes ≡ length (front ++ line_feed ∷ print_end end) + length behind = ap length whole ∙ length-append _ _ in (
       front ++ line_feed ∷ print_end end,
       behind,
@@ -115,22 +117,6 @@ head_passed_over bytes front after behind end passed split =
       },
     )
 
--- One more byte is passed over, where it is no line feed or no empty line is behind it.
-passed_one_more : (bytes front after : List ℕ) (byte : ℕ) → PassedOver bytes front (byte ∷ after)
-    → (byte ≡ line_feed → ¬ (StartsWithEmptyLine after)) → PassedOver bytes (front ++ byte ∷ []) after
-passed_one_more bytes front after byte passed none = record {
-  parts = passed.parts ∙ sym (append_assoc front (byte ∷ []) after);
-  none = λ before behind e starts.
-      let low = passed.none before behind e starts in
-      let long : length (front ++ byte ∷ []) ≡ length front + 1 = length-append front (byte ∷ []) in
-      let other : ¬ (length front ≡ length before) = λ same.
-      let cut = same_cut front (byte ∷ after) before (line_feed ∷ behind) (sym passed.parts ∙ e) same in
-      let heads : byte ≡ line_feed = cc in
-      let tails : after ≡ behind = cc in
-      none heads (rw tails starts) in
-      omega arith;
-}
-
 -- Where all bytes were passed over, no part ends with an empty line.
 pub passed_all : (bytes front : List ℕ) → PassedOver bytes front [] → (part rest : List ℕ) → bytes ≡ part ++ rest → ¬ (EndsWithEmptyLine part)
 passed_all bytes front passed part rest cut ends =
@@ -143,22 +129,25 @@ passed_all bytes front passed part rest cut ends =
     let two = ap length here in
     omega (arith, one, two, length-append front [], length-append before (line_feed ∷ (print_end last ++ rest)))
 
--- The same where the rest is a byte and what comes after it.
-passed_rest : (bytes front rest after : List ℕ) (byte : ℕ) → PassedOver bytes front rest → rest ≡ byte ∷ after → PassedOver bytes front (byte ∷ after)
-passed_rest bytes front rest after byte passed e = record { parts = passed.parts ∙ ap (λ t. front ++ t) e; none = passed.none }
-
--- The same as the loop has it: the rest is a byte and what comes after it.
-pub head_found : (bytes front rest after behind : List ℕ) (byte : ℕ) (end : LineEnd) → PassedOver bytes front rest → rest ≡ byte ∷ after → byte ≡ line_feed
-    → after ≡ print_end end ++ behind
-    → (head : List ℕ) × (tail : List ℕ) × (bytes ≡ head ++ tail) × (length head ≡ length bytes - length behind) × IsMessageHead head
-head_found bytes front rest after behind byte end passed e same split =
-    head_passed_over bytes front after behind end (passed_rest bytes front rest after line_feed passed (e ∙ ap (λ b. b ∷ after) same)) split
-
--- One more byte is passed over, as the loop has it.
+-- One more byte is passed over, where it is no line feed or no empty line is behind it.
 pub byte_passed : (bytes front rest after : List ℕ) (byte : ℕ) → PassedOver bytes front rest → rest ≡ byte ∷ after
     → (byte ≡ line_feed → ¬ (StartsWithEmptyLine after)) → (next : List ℕ) × PassedOver bytes next after
-byte_passed bytes front rest after byte passed e none =
-    (front ++ byte ∷ [], passed_one_more bytes front after byte (passed_rest bytes front rest after byte passed e) none)
+byte_passed bytes front rest after byte passed split none =
+    let parts = passed.parts ∙ ap (λ t. front ++ t) split in (
+      front ++ byte ∷ [],
+      record {
+        parts = parts ∙ sym (append_assoc front (byte ∷ []) after);
+        none = λ before behind e starts.
+            let low = passed.none before behind e starts in
+            let long : length (front ++ byte ∷ []) ≡ length front + 1 = length-append front (byte ∷ []) in
+            let other : ¬ (length front ≡ length before) = λ same.
+            let cut = same_cut front (byte ∷ after) before (line_feed ∷ behind) (sym parts ∙ e) same in
+            let heads : byte ≡ line_feed = cc in
+            let tails : after ≡ behind = cc in
+            none heads (rw tails starts) in
+            omega arith;
+      },
+    )
 
 -- Empty lines are read in one way, up to bytes that begin with none.
 pub blank_unique : (a b : List LineEnd) (x y : List ℕ) → print_blank a ++ x ≡ print_blank b ++ y
@@ -178,7 +167,7 @@ blank_unique (crlf ∷ a) (lf ∷ b) x y e p q = let wrong : carriage_return ≡
 blank_unique (lf ∷ a) (crlf ∷ b) x y e p q = let wrong : line_feed ≡ carriage_return = cc in absurd (omega arith)
 
 -- A head has two bytes at least, so that what comes behind it doesn't change how it begins.
-head_size : (head : List ℕ) → EndsWithEmptyLine head → 2 ≤ length head
+pub head_size : (head : List ℕ) → EndsWithEmptyLine head → 2 ≤ length head
 head_size head ends =
     let long = ap length ends.2 in
     let one = print_end_len ends.1 in
@@ -187,9 +176,7 @@ head_size head ends =
 -- What begins with an empty line does so within its first two bytes.
 starts_in_front : (head rest : List ℕ) → 2 ≤ length head → StartsWithEmptyLine (head ++ rest) → StartsWithEmptyLine head
 starts_in_front [] rest size starts = absurd (omega arith)
--- What begins with an empty line does so within its first two bytes.
 starts_in_front (x ∷ []) rest size starts = absurd (omega arith)
--- What begins with an empty line does so within its first two bytes.
 starts_in_front (x ∷ y ∷ head) rest size starts = by_end starts.0 starts.1 starts.2
   where
     by_end : (end : LineEnd) (after : List ℕ) → x ∷ y ∷ (head ++ rest) ≡ print_end end ++ after → StartsWithEmptyLine (x ∷ y ∷ head)
@@ -226,10 +213,10 @@ head_in_window bytes text head tail skipped k n small window none split size is_
     })
 
 -- Where no head is in the window there is none in the bytes.
-no_head_in_window : (bytes text : List ℕ) (skipped : List LineEnd) → take (min (length bytes) 16384) bytes ≡ print_blank skipped ++ text
-    → ¬ (StartsWithEmptyLine text) → ((part rest : List ℕ) → text ≡ part ++ rest → ¬ (EndsWithEmptyLine part)) → HasNoHead bytes
-no_head_in_window bytes text skipped window none absent others head rest has =
-    let k = min (length bytes) 16384 in
+pub no_head_of_window : (bytes window text : List ℕ) (skipped : List LineEnd) (k : ℕ) → k ≡ min (length bytes) 16384
+    → window ≡ take k bytes → window ≡ print_blank skipped ++ text → ¬ (StartsWithEmptyLine text)
+    → ((part rest : List ℕ) → text ≡ part ++ rest → ¬ (EndsWithEmptyLine part)) → HasNoHead bytes
+no_head_of_window bytes window text skipped k small is blank none absent others head rest has =
     let whole : take k bytes ++ drop k bytes ≡ (print_blank others ++ head) ++ rest =
     take-append-drop k bytes ∙ has.parts ∙ sym (append_assoc (print_blank others) head rest) in
     let sizes = ap length has.parts ∙ length-append (print_blank others) (head ++ rest) in
@@ -243,9 +230,9 @@ no_head_in_window bytes text skipped window none absent others head rest has =
           ∙ append_assoc (print_blank others) head [])
     ]
   where
-    found : (z : List ℕ) → take (min (length bytes) 16384) bytes ≡ print_blank others ++ (head ++ z) → ⊥
+    found : (z : List ℕ) → take k bytes ≡ print_blank others ++ (head ++ z) → ⊥
     found z e =
-        let same = blank_unique skipped others text (head ++ z) (sym window ∙ e) none (head_starts head z has.starts has.is_head) in
+        let same = blank_unique skipped others text (head ++ z) (sym blank ∙ is ∙ e) none (head_starts head z has.starts has.is_head) in
         absent head z same.1 has.is_head.ends
 
 -- The same as the code has it, with names for the window and the parts.
@@ -255,9 +242,14 @@ pub head_of_window : (bytes window text head tail front back : List ℕ) (skippe
 head_of_window bytes window text head tail front back skipped k n small is_window blank none split size is_head is_front is_back =
     rw (is_front, is_back, is_window) (head_in_window bytes text head tail skipped k n (omega arith) (sym is_window ∙ blank) none split size is_head)
 
--- And where the window has no head there is none in the bytes.
-pub no_head_of_window : (bytes window text : List ℕ) (skipped : List LineEnd) (k : ℕ) → k ≡ min (length bytes) 16384
-    → window ≡ take k bytes → window ≡ print_blank skipped ++ text → ¬ (StartsWithEmptyLine text)
-    → ((part rest : List ℕ) → text ≡ part ++ rest → ¬ (EndsWithEmptyLine part)) → HasNoHead bytes
-no_head_of_window bytes window text skipped k small is_window blank none absent =
-    no_head_in_window bytes text skipped (ap (λ m. take m bytes) (sym small) ∙ sym is_window ∙ blank) none absent
+-- Bytes begin with one text that ends with its first empty line.
+pub message_head_once : (head other rest last : List ℕ) → IsMessageHead head → IsMessageHead other → head ++ rest ≡ other ++ last
+    → (head ≡ other) × (rest ≡ last)
+message_head_once head other rest last is also e = elim (cuts head rest other last e) [
+  | inl w ↦
+      let none : w.0 ≡ [] = is.shortest other w.0 w.1 also.ends in
+      (w.1 ∙ ap (λ t. other ++ t) none ∙ append-nil other, sym (w.2 ∙ ap (λ t. t ++ rest) none))
+  | inr w ↦
+      let none : w.0 ≡ [] = also.shortest head w.0 w.1 is.ends in
+      (sym (w.1 ∙ ap (λ t. head ++ t) none ∙ append-nil head), w.2 ∙ ap (λ t. t ++ last) none)
+]

@@ -1,3 +1,4 @@
+pub mod Next
 pub mod HeadLemmas
 pub mod SoughtLemmas
 pub mod ChunkLemmas
@@ -23,3 +24,5 @@ pub mod EachMessage
 pub mod ConnectionLemmas
 pub mod FieldLemmas
 pub mod PrefixLemmas
+mod Walks
+pub mod DecoderLemmas

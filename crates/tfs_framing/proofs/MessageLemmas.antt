@@ -1,5 +1,5 @@
 -- Laws of messages: how long they and their bodies are, and that bytes begin with one alone.
-use Rattle.std.proofs.Common.{◌≡◌, suc, ◌≤◌, ◌<◌, ◌+◌, ℕ, List, [], ◌∷◌, ◌++◌, length, drop, Bool, true, false, ◌&&◌, nat_le, nat_lt, cond, ◌==◌}
+use Rattle.std.proofs.Common.{◌≡◌, ◌≤◌, ◌<◌, ◌+◌, ℕ, List, [], ◌∷◌, ◌++◌, length, drop, Bool, true, false, ◌&&◌, nat_le, nat_lt, cond, ◌==◌}
 use Rattle.std.proofs.Common.{Result, Ok, Err, refl, sym, ◌∙◌, ap, subst, arith, inl, inr, length-append, codes}
 use Rattle.std.specs.List.{list_all}
 use Rattle.std.specs.Char.{is_ascii_digit}
@@ -7,60 +7,76 @@ use Rattle.std.specs.Str.{bytes_eq}
 use Rattle.std.specs.Str.Parse.{digits_value}
 use Rattle.std.proofs.Math.Seq.{drop-append_seam}
 use Rattle.std.proofs.lemmas.Bool.{leb-true}
-use Rattle.httparse.specs.Ascii.{line_feed}
-use Rattle.httparse.specs.Grammar.{LineEnd, print_end, print_blank}
+use Rattle.httparse.specs.Grammar.{print_blank}
 use Rattle.httparse.specs.Grammar.{RequestHead}
 use Rattle.tfs_calls.specs.declared.refusal.Refusal.{Refusal}
 use Rattle.tfs_calls.specs.declared.refusal.Refusal.TheVariants.{NoHost, BadLength, BodyTooLarge, TransferCoding}
 use Rattle.tfs_framing.specs.Request.{RequestValue}
-use Rattle.tfs_framing.specs.Head.{HasNoHead}
+use Rattle.tfs_framing.specs.Head.{HasNoHead, IsHeadOf, line_feeds}
 use Rattle.tfs_framing.specs.Fields.{fields_of, lower, values_named}
-use Rattle.tfs_framing.specs.Body.{length_of_text, length_told, names_host, body_length, SpellsBody, Fits}
-use Rattle.tfs_framing.specs.Framing.{ReadsMessage, BeginsWith, IsUnfinished, framing_refusal}
-use Rattle.tfs_framing.specs.declared.length.BodyLength.{BodyLength}
-use Rattle.tfs_framing.specs.declared.length.BodyLength.TheVariants.{Absent, Sized, Chunked}
+use Rattle.tfs_framing.specs.Body.{length_of_text, length_told, names_host, body_length, SpellsBody}
+use Rattle.tfs_framing.specs.Framing.{IsHeadRefused, ReadsMessage, BeginsWith, IsUnfinished, framing_refusal}
+use Rattle.tfs_framing.specs.declared.lines.BodyLength.{BodyLength}
+use Rattle.tfs_framing.specs.declared.lines.BodyLength.TheVariants.{Absent, Sized, Chunked}
 use Rattle.tfs_framing.proofs.FramingLemmas.{message_once}
+use Rattle.tfs_framing.proofs.HeadLemmas.{head_size}
 
--- A length that a text gives is of a body that fits.
-text_fits : (text : List ℕ) (n : BodyLength) → length_of_text text ≡ Ok n → Fits n
-text_fits text n e = by_digits (nat_lt 0 (length text) && list_all is_ascii_digit text) e
+-- A body of this length has at most 16 MiB.
+abbrev pub Fits : BodyLength → Type 0
+Fits Absent = Unit {0}
+Fits (Sized size) = size ≤ 16777216
+Fits Chunked = Unit {0}
+
+-- What is told of a length: that it fits, or a refusal of a head whose fields have it.
+abbrev IsTold : Result BodyLength Refusal → Type 0
+IsTold (Ok n) = Fits n
+IsTold (Err refusal) = (head : List ℕ) → (line_feeds head ≤ 66) × (h : RequestHead) × IsHeadOf head h × (body_length h ≡ Err refusal)
+    → IsHeadRefused head refusal
+
+-- It is told of the length that a text gives.
+text_told : (text : List ℕ) → IsTold (length_of_text text)
+text_told text = by_digits (nat_lt 0 (length text) && list_all is_ascii_digit text)
   where
-    by_size : (b : Bool) → nat_le (digits_value 10 text) 16777216 ≡ b
-        → cond b (Ok (Sized (digits_value 10 text))) (Err BodyTooLarge) ≡ Ok n → Fits n
-    by_size true t f =
-        let same : Sized (digits_value 10 text) ≡ n = cc in subst Fits same (leb-true (digits_value 10 text) 16777216 t)
-    by_size false t f = cc
+    by_size : (b : Bool) → nat_le (digits_value 10 text) 16777216 ≡ b → IsTold (cond b (Ok (Sized (digits_value 10 text))) (Err BodyTooLarge))
+    by_size true t = leb-true (digits_value 10 text) 16777216 t
+    by_size false t = λ head p. p
 
-    by_digits : (b : Bool) → cond b (cond (nat_le (digits_value 10 text) 16777216) (Ok (Sized (digits_value 10 text))) (Err BodyTooLarge))
-        (Err BadLength) ≡ Ok n
-        → Fits n
-    by_digits true f = by_size (nat_le (digits_value 10 text) 16777216) refl f
-    by_digits false f = cc
+    by_digits : (b : Bool)
+        → IsTold (cond b (cond (nat_le (digits_value 10 text) 16777216) (Ok (Sized (digits_value 10 text))) (Err BodyTooLarge)) (Err BadLength))
+    by_digits true = by_size (nat_le (digits_value 10 text) 16777216) refl
+    by_digits false = λ head p. p
 
--- A length that is told is of a body that fits.
-told_fits : (minor : ℕ) (lengths codings : List (List ℕ)) (n : BodyLength) → length_told minor lengths codings ≡ Ok n → Fits n
-told_fits minor [] [] n e = let same : Absent ≡ n = cc in subst Fits same tt
-told_fits minor [] (coding ∷ []) n e = by (minor == 1 && bytes_eq (lower coding) (codes "chunked")) e
+-- And of the length that all values give.
+values_told : (minor : ℕ) (lengths codings : List (List ℕ)) → IsTold (length_told minor lengths codings)
+values_told minor [] [] = tt
+values_told minor [] (coding ∷ []) = by (minor == 1 && bytes_eq (lower coding) (codes "chunked"))
   where
-    by : (b : Bool) → cond b (Ok Chunked) (Err TransferCoding) ≡ Ok n → Fits n
-    by true f = let same : Chunked ≡ n = cc in subst Fits same tt
-    by false f = cc
-told_fits minor [] (coding ∷ other ∷ codings) n e = cc
-told_fits minor (text ∷ []) [] n e = text_fits text n e
-told_fits minor (text ∷ other ∷ texts) [] n e = cc
-told_fits minor (text ∷ []) (coding ∷ codings) n e = cc
-told_fits minor (text ∷ other ∷ texts) (coding ∷ codings) n e = cc
+    by : (b : Bool) → IsTold (cond b (Ok Chunked) (Err TransferCoding))
+    by true = tt
+    by false = λ head p. p
+values_told minor [] (coding ∷ other ∷ codings) = λ head p. p
+values_told minor (text ∷ []) [] = text_told text
+values_told minor (text ∷ other ∷ texts) [] = λ head p. p
+values_told minor (text ∷ []) (coding ∷ codings) = λ head p. p
+values_told minor (text ∷ other ∷ texts) (coding ∷ codings) = λ head p. p
+
+-- And of what a head says.
+head_told : (h : RequestHead) → IsTold (body_length h)
+head_told h = by (names_host h.minor (values_named (codes "host") (fields_of h)))
+  where
+    by : (b : Bool) → IsTold (cond b
+        (length_told h.minor (values_named (codes "content-length") (fields_of h)) (values_named (codes "transfer-encoding") (fields_of h)))
+        (Err NoHost))
+    by true = values_told h.minor (values_named (codes "content-length") (fields_of h)) (values_named (codes "transfer-encoding") (fields_of h))
+    by false = λ head p. p
 
 -- A length that a head says is of a body that fits.
 pub length_fits : (h : RequestHead) (n : BodyLength) → body_length h ≡ Ok n → Fits n
-length_fits h n e = by (names_host h.minor (values_named (codes "host") (fields_of h))) e
-  where
-    told : Result BodyLength Refusal
-    told = length_told h.minor (values_named (codes "content-length") (fields_of h)) (values_named (codes "transfer-encoding") (fields_of h))
+length_fits h n e = subst IsTold e (head_told h)
 
-    by : (b : Bool) → cond b told (Err NoHost) ≡ Ok n → Fits n
-    by true f = told_fits h.minor (values_named (codes "content-length") (fields_of h)) (values_named (codes "transfer-encoding") (fields_of h)) n f
-    by false f = cc
+-- A head of few lines whose fields are refused is refused.
+pub length_refused : (h : RequestHead) (refusal : Refusal) → body_length h ≡ Err refusal → IsTold (Err refusal)
+length_refused h refusal e = subst IsTold e (head_told h)
 
 -- A body that is spelled fits where its length does.
 spelled_fits : (n : BodyLength) (coded body : List ℕ) → SpellsBody n coded body → Fits n → length body ≤ 16777216
@@ -75,17 +91,10 @@ body_fits bytes r used b =
     let is : r.body ≡ m.body = ap (λ (q : RequestValue). q.body) m.is_request in
     subst (λ (t : List ℕ). length t ≤ 16777216) (sym is) (spelled_fits m.size m.coded m.body m.spells (length_fits m.h m.size m.reads.body))
 
--- A text that ends with an empty line isn't empty.
-head_is_no_empty_text : (front text : List ℕ) (end : LineEnd) → text ≡ front ++ line_feed ∷ print_end end → 0 < length text
-head_is_no_empty_text front text end is =
-    let long : length text ≡ length front + suc (length (print_end end)) =
-    ap (λ (t : List ℕ). length t) is ∙ length-append front (line_feed ∷ print_end end) in
-    omega arith
-
 -- A message has a byte at least.
 pub frame_is_no_empty_text : (frame : List ℕ) (r : RequestValue) → ReadsMessage frame r → 0 < length frame
 frame_is_no_empty_text frame r m =
-    let some : 0 < length m.head = head_is_no_empty_text m.has_head.is_head.ends.0 m.head m.has_head.is_head.ends.1 m.has_head.is_head.ends.2 in
+    let some = head_size m.head m.has_head.is_head.ends in
     let long : length frame ≡ length (print_blank m.skipped) + length (m.head ++ m.coded) =
     ap (λ (t : List ℕ). length t) m.has_head.parts ∙ length-append (print_blank m.skipped) (m.head ++ m.coded) in
     let parts : length (m.head ++ m.coded) ≡ length m.head + length m.coded = length-append m.head m.coded in
@@ -94,8 +103,7 @@ frame_is_no_empty_text frame r m =
 -- No bytes have no head.
 no_bytes_have_no_head : HasNoHead []
 no_bytes_have_no_head skipped head rest has =
-    let ends = has.is_head.ends in
-    let some : 0 < length head = head_is_no_empty_text ends.0 head ends.1 ends.2 in
+    let some = head_size head has.is_head.ends in
     let long : 0 ≡ length (print_blank skipped) + length (head ++ rest) =
     ap (λ (t : List ℕ). length t) has.parts ∙ length-append (print_blank skipped) (head ++ rest) in
     let parts : length (head ++ rest) ≡ length head + length rest = length-append head rest in

@@ -1,5 +1,5 @@
 -- Laws of what comes next in a body in chunks.
-use Rattle.std.proofs.Common.{◌≡◌, ◌≤◌, ◌<◌, ◌+◌, ◌⊎◌, ℕ, List, [], ◌∷◌, ◌++◌, length, refl, sym, ◌∙◌, ap, subst, arith, append_assoc}
+use Rattle.std.proofs.Common.{◌≡◌, ◌≤◌, ◌<◌, ◌+◌, ◌⊎◌, ℕ, List, [], ◌∷◌, ◌++◌, length, refl, sym, ◌∙◌, ap, arith, append_assoc}
 use Rattle.std.proofs.Common.{append-nil, length-append, inl, inr, take, drop, min, take-append-drop, length-take, nat_eq, Bool, true, false, ◌||◌}
 use Rattle.std.specs.List.{list_any}
 use Rattle.std.proofs.lemmas.Bool.{eqb-true}
@@ -7,36 +7,22 @@ use Rattle.std.proofs.Math.Seq.{drop-append_seam}
 use Rattle.httparse.specs.Ascii.{line_feed}
 use Rattle.httparse.specs.Grammar.{crlf, print_end, ChunkLine, print_chunk_line, chunk_size, HasNoChunkLine}
 use Rattle.httparse.specs.Spans.{IsChunkLineAt}
-use Rattle.tfs_framing.specs.Chunks.{Chunk, IsShortLine, IsTrailer, HasBadLine, IsFlawBehind, IsFlawAt}
-use Rattle.tfs_framing.specs.Parts.{next_chunk, next_end, next_flaw, ComesNext, IsOpen, IsPart, IsLineAt, HasNoLine, HasNoFeedIn, IsAhead}
-use Rattle.tfs_framing.specs.declared.part.Ahead.{Ahead}
-use Rattle.tfs_framing.specs.declared.part.Flaw.{Flaw}
-use Rattle.tfs_framing.specs.declared.part.Flaw.TheVariants.{TooLarge, Unreadable}
-use Rattle.tfs_framing.specs.declared.part.Part.TheVariants.{Wanted}
+use Rattle.tfs_framing.specs.Chunks.{Chunk, IsShortLine, IsTrailer, HasBadEnd, HasBadLine, IsFlawBehind, IsFlawAt}
+use Rattle.tfs_framing.specs.Parts.{IsBegun, IsLineAt, HasNoFeedIn}
+use Rattle.tfs_framing.proofs.Next.{next_chunk, next_end, next_flaw, ComesNext, IsOpen, HasNoLine}
+use Rattle.tfs_framing.specs.declared.chunks.Flaw.{Flaw}
+use Rattle.tfs_framing.specs.declared.chunks.Flaw.TheVariants.{TooLarge, Unreadable}
 use Rattle.tfs_framing.proofs.HeadLemmas.{cuts, nothing_left}
-use Rattle.tfs_framing.proofs.ChunkLemmas.{line_parts, line_once, chunk_split}
+use Rattle.tfs_framing.proofs.ChunkLemmas.{flaw_behind, line_parts, line_once, chunk_split}
+
+-- No bytes have no line feed.
+pub no_feed_in_nothing : (before after : List ℕ) → ¬ ([] ≡ before ++ line_feed ∷ after)
+no_feed_in_nothing [] after e = cc
+no_feed_in_nothing (b ∷ before) after e = cc
 
 -- Of a line nothing was seen.
 pub nothing_seen : (left : List ℕ) → HasNoFeedIn 0 left
-nothing_seen left = record { front = []; rest = left; parts = refl; seen_is = refl; none = λ before after. no_feed_in_nothing before after }
-  where
-    no_feed_in_nothing : (before after : List ℕ) → ¬ ([] ≡ before ++ line_feed ∷ after)
-    no_feed_in_nothing [] after e = cc
-    no_feed_in_nothing (b ∷ before) after e = cc
-
--- Where nothing comes next yet, one byte more is wanted.
-pub one_more_wanted : (count total : ℕ) (left : List ℕ) (ahead : Ahead) → IsOpen count total left → IsAhead left ahead
-    → IsPart count total left (Wanted (length left + 1) ahead)
-one_more_wanted count total left ahead none known = (
-  omega arith,
-  omega arith,
-  λ others few.
-      let sizes = length-append left others in
-      let nothing : others ≡ [] = nothing_left others (omega arith) in
-      let same : left ++ others ≡ left = ap (λ t. left ++ t) nothing ∙ append-nil left in
-      subst (IsOpen count total) (sym same) none,
-  known,
-)
+nothing_seen left = record { front = []; rest = left; parts = refl; seen_is = refl; none = no_feed_in_nothing }
 
 -- Without a line nothing comes next yet.
 pub open_without_line : (count total : ℕ) (left : List ℕ) → HasNoLine left → IsOpen count total left
@@ -59,13 +45,8 @@ open_behind_line count total left after line is e no_chunk no_end no_flaw (next_
 open_behind_line count total left after line is e no_chunk no_end no_flaw (next_end behind) p =
     let same = line_once p.0 line (p.1 ++ behind) after p.2 is (sym p.5 ∙ e) in
     no_end p.1 behind (sym (ap chunk_size same.0) ∙ p.3) p.4 (sym same.1)
-open_behind_line count total left after line is e no_chunk no_end no_flaw (next_flaw flaw) p = elim p [
-  | inl q ↦ q.1.none line after is e
-  | inr q ↦
-      let same = line_once q.0 line q.1 after q.2 is (sym q.3 ∙ e) in
-      no_flaw flaw (subst (λ (t : List ℕ). IsFlawBehind count total (chunk_size line) t flaw) same.1
-      (subst (λ (l : ChunkLine). IsFlawBehind count total (chunk_size l) q.1 flaw) same.0 q.4))
-]
+open_behind_line count total left after line is e no_chunk no_end no_flaw (next_flaw flaw) p =
+    no_flaw flaw (flaw_behind count total left after line flaw is e p)
 
 -- A chunk line has a byte at least.
 pub line_has_bytes : (line : ChunkLine) → IsShortLine line → 0 < length (print_chunk_line line)
@@ -74,10 +55,16 @@ line_has_bytes line is =
     let size = ap length parts.2 ∙ length-append parts.0 (line_feed ∷ []) in
     omega arith
 
--- Too few bytes for a chunk and its end.
-pub open_chunk : (count total : ℕ) (left after : List ℕ) (line : ChunkLine) → IsShortLine line → left ≡ print_chunk_line line ++ after
-    → 0 < chunk_size line → count < 65536 → total + chunk_size line ≤ 16777216 → length after < chunk_size line + 2 → IsOpen count total left
-open_chunk count total left after line is e some few small short = open_behind_line count total left after line is e
+-- Without the bytes that lack of a chunk that has begun, and an end, nothing comes next yet.
+pub begun_open : (count total lacking : ℕ) (line : ChunkLine) (seen left : List ℕ) → IsBegun count total line seen lacking
+    → length left < lacking + 2 → IsOpen count total (print_chunk_line line ++ (seen ++ left))
+begun_open count total lacking line seen left b short =
+    let told = b.size in
+    let some = b.some in
+    let most = b.few in
+    let small = b.small in
+    let all = length-append seen left in
+    open_behind_line count total (print_chunk_line line ++ (seen ++ left)) (seen ++ left) line b.is_line refl
     (λ bytes rest size more f.
     let one = ap length f ∙ length-append bytes (print_end crlf ++ rest) in
     let two = length-append (print_end crlf) rest in
@@ -85,90 +72,79 @@ open_chunk count total left after line is e some few small short = open_behind_l
     (λ trailer rest none trails f. omega arith)
     no_flaw
   where
-    no_flaw : (flaw : Flaw) → ¬ (IsFlawBehind count total (chunk_size line) after flaw)
-    no_flaw TooLarge p = omega (arith, p)
+    no_flaw : (flaw : Flaw) → ¬ (IsFlawBehind count total (chunk_size line) (seen ++ left) flaw)
+    no_flaw TooLarge p = let small = b.small in omega (arith, p)
     no_flaw Unreadable p = elim p.1 [
-      | inl q ↦ let many = q.1 in omega arith
+      | inl q ↦ let most = b.few in let many = q.1 in omega arith
       | inr r ↦ elim r [
         | inl q ↦
+            let told = b.size in
+            let all = length-append seen left in
             let one = ap length q.2.parts ∙ length-append q.2.bytes (q.2.end ++ q.2.rest) in
             let two = length-append q.2.end q.2.rest in
             let size = q.2.size_is in
             let both = q.2.two in
             omega arith
-        | inr q ↦ let none = q.0 in omega arith
+        | inr q ↦ let some = b.some in let none = q.0 in omega arith
       ]
     ]
 
--- The chunk and its end are wanted.
-pub chunk_wanted : (count total len size : ℕ) (left : List ℕ) (line : ChunkLine) → IsLineAt left len size line → 0 < size → count < 65536
-    → total + size ≤ 16777216 → length left < len + size + 2 → IsPart count total left (Wanted (len + size + 2) (Ahead.Line 0))
-chunk_wanted count total len size left line at some few small short =
-    let is_len = at.len_is in
-    let is_size = at.size_is in
-    let whole = ap length at.parts ∙ length-append (print_chunk_line line) at.after in (
-      short,
-      omega arith,
-      λ others less.
-          let more = length-append left others in
-          let longer = length-append at.after others in
-          open_chunk count total (left ++ others) (at.after ++ others) line at.is_line
-          (ap (λ t. t ++ others) at.parts ∙ append_assoc (print_chunk_line line) at.after others)
-          (omega arith) few (omega arith) (omega arith),
-      nothing_seen left,
+-- With them and CR LF behind them it is a chunk.
+pub begun_whole : (count total lacking : ℕ) (line : ChunkLine) (seen left bytes behind : List ℕ) → IsBegun count total line seen lacking
+    → length bytes ≡ lacking → left ≡ bytes ++ (print_end crlf ++ behind)
+    → (c : Chunk) × (c.bytes ≡ seen ++ bytes) × ComesNext count total (print_chunk_line line ++ (seen ++ left)) (next_chunk c behind)
+begun_whole count total lacking line seen left bytes behind b is_long split =
+    let c : Chunk = record { line = line; bytes = seen ++ bytes } in
+    let told = b.size in
+    let some = b.some in
+    let small = b.small in
+    let both = length-append seen bytes in (
+      c,
+      refl,
+      (
+        record { line = b.is_line; size = omega arith; some = omega arith },
+        ap (λ t. print_chunk_line line ++ t) (ap (λ t. seen ++ t) split ∙ sym (append_assoc seen bytes (print_end crlf ++ behind))) ∙ sym (chunk_split c behind),
+        b.few,
+        omega arith,
+      ),
     )
+
+-- With another end it can't be there.
+pub begun_bad : (count total lacking : ℕ) (line : ChunkLine) (seen left : List ℕ) → IsBegun count total line seen lacking
+    → HasBadEnd lacking left → IsFlawAt count total (print_chunk_line line ++ (seen ++ left)) Unreadable
+begun_bad count total lacking line seen left b bad =
+    let told = b.size in
+    let size = bad.size_is in
+    let both = length-append seen bad.bytes in
+    let end : HasBadEnd (chunk_size line) (seen ++ left) = record {
+      bytes = seen ++ bad.bytes;
+      end = bad.end;
+      rest = bad.rest;
+      parts = ap (λ t. seen ++ t) bad.parts ∙ sym (append_assoc seen bad.bytes (bad.end ++ bad.rest));
+      size_is = omega arith;
+      two = bad.two;
+      other = bad.other;
+    } in
+    inr (line, seen ++ left, b.is_line, refl, (b.small, inr (inl (b.some, b.few, end))))
+
+-- Two bytes or more that don't begin with CR LF are a bad end.
+pub bad_end : (lacking : ℕ) (left bytes end : List ℕ) → left ≡ bytes ++ end → length bytes ≡ lacking → 2 ≤ length end
+    → ((rest : List ℕ) → ¬ (end ≡ print_end crlf ++ rest)) → HasBadEnd lacking left
+bad_end lacking left bytes end split size enough none = record {
+  bytes = bytes;
+  end = take 2 end;
+  rest = drop 2 end;
+  parts = split ∙ ap (λ t. bytes ++ t) (sym (take-append-drop 2 end));
+  size_is = size;
+  two = length-take 2 end ∙ (omega arith);
+  other = λ is. none (drop 2 end) (sym (take-append-drop 2 end) ∙ ap (λ t. t ++ drop 2 end) is);
+}
 
 -- What is behind a line.
 pub behind_line : (left : List ℕ) (len size : ℕ) (line : ChunkLine) → (at : IsLineAt left len size line) → drop len left ≡ at.after
 behind_line left len size line at =
     ap (λ (n : ℕ). drop n left) at.len_is ∙ ap (λ (t : List ℕ). drop (length (print_chunk_line line)) t) at.parts
     ∙ drop-append_seam (print_chunk_line line) at.after
-
--- A chunk whose bytes and end are there.
-pub chunk_there : (count total len size : ℕ) (left bytes behind : List ℕ) (line : ChunkLine) → IsLineAt left len size line → 0 < size → count < 65536
-    → total + size ≤ 16777216 → length bytes ≡ size → drop len left ≡ bytes ++ (print_end crlf ++ behind)
-    → (c : Chunk) × (c.bytes ≡ bytes) × ComesNext count total left (next_chunk c behind)
-chunk_there count total len size left bytes behind line at some few small is_size split =
-    let c : Chunk = record { line = line; bytes = bytes } in
-    let told = at.size_is in (
-      c,
-      refl,
-      (
-        record { line = at.is_line; size = sym told ∙ sym is_size; some = omega arith },
-        at.parts ∙ ap (λ t. print_chunk_line line ++ t) (sym (behind_line left len size line at) ∙ split) ∙ sym (chunk_split c behind),
-        few,
-        omega arith,
-      ),
-    )
-
--- A chunk with another end.
-pub chunk_bad : (count total len size : ℕ) (left bytes end rest : List ℕ) (line : ChunkLine) → IsLineAt left len size line → 0 < size → count < 65536
-    → total + size ≤ 16777216 → length bytes ≡ size → length end ≡ 2 → ¬ (end ≡ print_end crlf) → drop len left ≡ bytes ++ (end ++ rest)
-    → IsFlawAt count total left Unreadable
-chunk_bad count total len size left bytes end rest line at some few small is_size two other split =
-    let told = at.size_is in
-    inr (
-      line,
-      at.after,
-      at.is_line,
-      at.parts,
-      (
-        omega arith,
-        inr (inl (
-          omega arith,
-          few,
-          record {
-            bytes = bytes;
-            end = end;
-            rest = rest;
-            parts = sym (behind_line left len size line at) ∙ split;
-            size_is = is_size ∙ told;
-            two = two;
-            other = other;
-          },
-        )),
-      ),
-    )
 
 -- The line that is found in the first bytes is the line of all.
 pub line_in_window : (left window : List ℕ) (k len size : ℕ) (line : ChunkLine) → k ≤ 1024 → window ≡ take k left → IsChunkLineAt window len size line
@@ -291,15 +267,20 @@ pub long_line_in_window : (left window : List ℕ) (k : ℕ) → k ≡ min (leng
 long_line_in_window left window k is_k is none long = record { there = inl long; none = no_line_in_window left window k is_k is none }
 
 -- Fewer bytes without a line feed have no line yet.
-pub no_line_yet : (left window : List ℕ) (k : ℕ) → k ≡ min (length left) 1024 → window ≡ take k left → window ≡ left → length left < 1024
-    → ((before after : List ℕ) → ¬ (window ≡ before ++ line_feed ∷ after)) → HasNoLine left
-no_line_yet left window k is_k is all short none = record {
-  none = no_line_in_window left window k is_k is (no_line_without_feed window none);
-  not_bad = λ bad. elim bad.there [
-    | inl long ↦ omega arith
-    | inr w ↦ none w.0 w.1 (all ∙ w.2)
-  ];
+pub no_line_yet : (left : List ℕ) → HasNoFeedIn (length left) left → length left < 1024 → HasNoLine left
+no_line_yet left seen short = record {
+  none = λ line after is e.
+      let parts = line_parts line is.is_line in
+      none parts.0 after (e ∙ ap (λ t. t ++ after) parts.2 ∙ append_assoc parts.0 (line_feed ∷ []) after);
+  not_bad = λ bad. elim bad.there [ inl long ↦ omega arith | inr w ↦ none w.0 w.1 w.2 ];
 }
+  where
+    none : (before after : List ℕ) → ¬ (left ≡ before ++ line_feed ∷ after)
+    none before after e =
+        let sizes = ap length seen.parts ∙ length-append seen.front seen.rest in
+        let is = seen.seen_is in
+        let nothing : seen.rest ≡ [] = nothing_left seen.rest (omega arith) in
+        seen.none before after (sym (append-nil seen.front) ∙ ap (λ t. seen.front ++ t) (sym nothing) ∙ sym seen.parts ∙ e)
 
 -- Then all of them were seen.
 pub all_seen : (left window : List ℕ) → window ≡ left → ((before after : List ℕ) → ¬ (window ≡ before ++ line_feed ∷ after))

@@ -1,251 +1,248 @@
--- Laws of chunks that are passed over as they come.
-use Rattle.std.proofs.Common.{◌≡◌, ◌≤◌, ◌<◌, ◌+◌, ℕ, List, [], ◌∷◌, ◌++◌, length, Bool, false, refl, sym, ◌∙◌, ap, subst, arith, append_assoc}
-use Rattle.std.proofs.Common.{append-nil, length-append, length-take, length-drop, take-append-drop, inl, inr, take, drop}
-use Rattle.std.proofs.lemmas.Bool.{cases_lt}
-use Rattle.std.proofs.lemmas.Grind.{flat_map-append}
-use Rattle.std.proofs.lemmas.List.Elements.{All-nil, All-append}
-use Rattle.httparse.specs.Grammar.{crlf, print_end, ChunkLine, print_chunk_line, chunk_size}
-use Rattle.tfs_framing.specs.Chunks.{Chunk, print_chunk, print_chunks, joined, IsChunk, IsShortLine, HasBadLine}
-use Rattle.tfs_framing.specs.Parts.{next_chunk, next_end, next_flaw, ComesNext, HasNoLine, IsOpen, IsLineAt}
-use Rattle.tfs_framing.specs.Passed.{Passes, AreJoined, BeginsNone, IsBegun, IsLittle, begun_bytes, Walked}
-use Rattle.tfs_framing.specs.declared.part.Flaw.TheVariants.{TooLarge, Unreadable}
-use Rattle.tfs_framing.proofs.ChunkLemmas.{line_once}
-use Rattle.tfs_framing.proofs.PartLemmas.{open_chunk, chunk_there, chunk_bad, behind_line}
-use Rattle.tfs_framing.proofs.WalkLemmas.{print_more, joined_more, all_more}
+-- Laws of what was passed of a body in chunks.
+use Rattle.std.proofs.Common.{◌≡◌, ◌≤◌, ◌<◌, ◌+◌, ℕ, List, [], ◌∷◌, ◌++◌, length, false, Result, Ok, Err, refl, sym, ◌∙◌, ap, subst, arith, append_assoc, append-nil, length-append}
+use Rattle.httparse.specs.Ascii.{line_feed}
+use Rattle.httparse.specs.Grammar.{crlf, print_end, ChunkLine, print_chunk_line}
+use Rattle.tfs_framing.specs.Body.{HasNoBody}
+use Rattle.tfs_framing.specs.Chunks.{Chunk, print_chunks, joined, AreChunks, HasBadEnd, HasFlaw, IsFlawAt, SpellsChunks}
+use Rattle.tfs_framing.specs.Parts.{EndsWith, HasNoFeedIn, IsLineAt, IsPart, IsPassed, Stands}
+use Rattle.tfs_framing.specs.Decoded.{HasPassed}
+use Rattle.tfs_framing.specs.declared.body.ChunkedBody.{ChunkedBody}
+use Rattle.tfs_framing.specs.declared.body.Joined.{Joined}
+use Rattle.tfs_framing.specs.declared.chunks.Part.{Part}
+use Rattle.tfs_framing.specs.Sought.{HasNoEndYet}
+use Rattle.tfs_framing.specs.declared.chunks.Ahead.{Ahead}
+use Rattle.tfs_framing.specs.declared.chunks.Flaw.{Flaw}
+use Rattle.tfs_framing.specs.declared.chunks.Flaw.TheVariants.{Unreadable}
+use Rattle.tfs_framing.specs.declared.lines.BodyLength.TheVariants.{Chunked}
+use Rattle.tfs_framing.proofs.Next.{next_end, ComesNext, IsOpen, Walked}
+use Rattle.tfs_framing.proofs.KnownLemmas.{feed_more, line_more, none_more}
+use Rattle.tfs_framing.proofs.PartLemmas.{begun_open, begun_whole, begun_bad, no_line_yet, nothing_seen, open_without_line}
+use Rattle.tfs_framing.proofs.SoughtLemmas.{none_at_first}
+use Rattle.tfs_framing.proofs.WalkLemmas.{joined_more, no_body_here, walk_flawed, walk_on, whole_there}
 
--- At first none is passed.
-pub passes_nothing : (count total : ℕ) (from : List ℕ) → count ≤ 65536 → total ≤ 16777216 → Passes count total from from count total []
-passes_nothing count total from few small = record {
-  parts = refl;
-  each = All-nil IsChunk;
-  count_is = omega arith;
-  total_is = omega arith;
-  few = few;
-  small = small;
-}
+-- The limits hold.
+pub passed_fits : (rest : List ℕ) (count : ℕ) (body : List ℕ) (ahead : Ahead) (left : List ℕ) → IsPassed rest count body ahead left
+    → (count ≤ 65536) × (length body ≤ 16777216)
+passed_fits rest count body ahead left p =
+    let few = p.are.few in let is = p.count_is in (omega arith, fits ahead p.stands)
+  where
+    fits : (a : Ahead) → Stands rest p.chunks body a left → length body ≤ 16777216
+    fits (Ahead.Line seen) s = let small = p.are.small in let is = ap length s.1 in omega arith
+    fits (Ahead.Bytes lacking) s =
+        let is = ap length s.3 ∙ length-append (joined p.chunks) s.1 in
+        let small = s.4.small in
+        let size = s.4.size in
+        omega arith
+    fits (Ahead.Trailer len passed) s = let small = p.are.small in let is = ap length s.1 in omega arith
 
--- One chunk more is passed.
-pub passes_on : (count total counted summed : ℕ) (from left after bytes : List ℕ) (chunks : List Chunk) (c : Chunk)
-    → Passes count total from left counted summed chunks → ComesNext counted summed left (next_chunk c after) → c.bytes ≡ bytes
-    → Passes count total from after (counted + 1) (summed + length bytes) (chunks ++ c ∷ [])
-passes_on count total counted summed from left after bytes chunks c p next is =
-    let counts = length-append chunks (c ∷ []) in
-    let totals = ap length (joined_more chunks c) ∙ length-append (joined chunks) c.bytes in
-    let sizes = ap length is in
-    let few = next.2 in
-    let small = next.3 in
-    let count_was = p.count_is in
-    let total_was = p.total_is in
+-- Chunks that are whole are walked.
+walked : (rest body left : List ℕ) (count : ℕ) (chunks : List Chunk) → AreChunks chunks → count ≡ length chunks → rest ≡ print_chunks chunks ++ left
+    → body ≡ joined chunks → Walked rest left count (length body) chunks
+walked rest body left count chunks are is parts body_is = record { are = are; parts = parts; count_is = is; total_is = ap length body_is }
+
+-- No bytes more.
+pub no_more : (rest : List ℕ) (count : ℕ) (body none : List ℕ) (ahead : Ahead) (left : List ℕ) → none ≡ [] → IsPassed rest count body ahead left
+    → IsPassed rest count (body ++ none) ahead left
+no_more rest count body none ahead left is p =
+    subst (λ (t : List ℕ). IsPassed rest count t ahead left) (sym (append-nil body) ∙ ap (λ t. body ++ t) (sym is)) p
+
+-- A line that hasn't ended is wanted.
+pub line_wanted : (rest : List ℕ) (count : ℕ) (body none left : List ℕ) (seen : ℕ) → none ≡ [] → IsPassed rest count body (Ahead.Line seen) left
+    → HasNoFeedIn (length left) left → length left < 1024
+    → EndsWith left left × IsPassed rest count (body ++ none) (Ahead.Line (length left)) left × HasNoBody Chunked rest × (length left < 17408)
+line_wanted rest count body none left seen is p feed short = (
+  ([], refl),
+  no_more rest count body none _ left is
+      (record { chunks = p.chunks; are = p.are; count_is = p.count_is; stands = (p.stands.0, p.stands.1, feed) }),
+  no_body_here rest left count (length body) p.chunks (walked rest body left count p.chunks p.are p.count_is p.stands.0 p.stands.1)
+      (open_without_line count (length body) left (no_line_yet left feed short)),
+  omega arith,
+)
+
+-- What can't be there.
+pub line_flawed : (rest : List ℕ) (count : ℕ) (body left : List ℕ) (seen : ℕ) (flaw : Flaw) → IsPassed rest count body (Ahead.Line seen) left
+    → IsFlawAt count (length body) left flaw → HasFlaw rest flaw
+line_flawed rest count body left seen flaw p is =
+    walk_flawed rest left count (length body) p.chunks flaw (walked rest body left count p.chunks p.are p.count_is p.stands.0 p.stands.1) is
+
+-- The last line was passed.
+pub last_begins : (rest : List ℕ) (count : ℕ) (body left : List ℕ) (seen len : ℕ) (line : ChunkLine) → IsPassed rest count body (Ahead.Line seen) left
+    → IsLineAt left len 0 line → IsPassed rest count body (Ahead.Trailer len 0) left
+last_begins rest count body left seen len line p at =
+    record { chunks = p.chunks; are = p.are; count_is = p.count_is; stands = (p.stands.0, p.stands.1, line, at, none_at_first (line_feed ∷ at.after)) }
+
+-- The line of a chunk was passed.
+pub chunk_begins : (rest : List ℕ) (count : ℕ) (body left : List ℕ) (seen len size : ℕ) (line : ChunkLine) → IsPassed rest count body (Ahead.Line seen) left
+    → (at : IsLineAt left len size line) → 0 < size → count < 65536 → length body + size ≤ 16777216 → IsPassed rest count body (Ahead.Bytes size) at.after
+chunk_begins rest count body left seen len size line p at some few small =
+    let told = at.size_is in
+    let count_is = p.count_is in
+    let total_is = ap length p.stands.1 in
     record {
-      parts = p.parts ∙ ap (λ t. print_chunks chunks ++ t) next.1 ∙ sym (print_more chunks c after);
-      each = all_more chunks c p.each next.0;
-      count_is = omega arith;
-      total_is = omega arith;
-      few = omega arith;
-      small = omega arith;
+      chunks = p.chunks;
+      are = p.are;
+      count_is = p.count_is;
+      stands = (
+        line,
+        [],
+        p.stands.0 ∙ ap (λ t. print_chunks p.chunks ++ t) at.parts,
+        p.stands.1 ∙ sym (append-nil (joined p.chunks)),
+        record { is_line = at.is_line; size = omega arith; some = omega arith; few = omega arith; small = omega arith },
+      );
     }
 
--- Its bytes are behind the others.
-pub joins_on : (old mid new bytes : List ℕ) (was_lost mid_lost lost : Bool) (chunks : List Chunk) (c : Chunk)
-    → AreJoined was_lost old mid_lost mid chunks → (lost ≡ false → (mid_lost ≡ false) × (new ≡ mid ++ bytes)) → c.bytes ≡ bytes
-    → AreJoined was_lost old lost new (chunks ++ c ∷ [])
-joins_on old mid new bytes was_lost mid_lost lost chunks c are push is kept =
-    let step = push kept in
-    let before = are step.0 in (
-      before.0,
-      step.1 ∙ ap (λ t. t ++ bytes) before.1 ∙ append_assoc old (joined chunks) bytes
-          ∙ ap (λ t. old ++ (joined chunks ++ t)) (sym is) ∙ ap (λ t. old ++ t) (sym (joined_more chunks c)),
+-- The trailer is wanted.
+pub last_wanted : (rest : List ℕ) (count : ℕ) (body none left : List ℕ) (len passed n : ℕ) → none ≡ []
+    → (p : IsPassed rest count body (Ahead.Trailer len passed) left) → HasNoEndYet n (line_feed ∷ p.stands.3.after)
+    → length p.stands.3.after < 16384 → IsOpen count (length body) left
+    → EndsWith left left × IsPassed rest count (body ++ none) (Ahead.Trailer len n) left × HasNoBody Chunked rest × (length left < 17408)
+last_wanted rest count body none left len passed n is p yet few still =
+    let line = p.stands.2 in
+    let at = p.stands.3 in
+    let short = at.is_line.short in
+    let sizes = ap length at.parts ∙ length-append (print_chunk_line line) at.after in (
+      ([], refl),
+      no_more rest count body none _ left is
+          (record { chunks = p.chunks; are = p.are; count_is = p.count_is; stands = (p.stands.0, p.stands.1, line, at, yet) }),
+      no_body_here rest left count (length body) p.chunks (walked rest body left count p.chunks p.are p.count_is p.stands.0 p.stands.1) still,
+      omega arith,
     )
 
--- Chunks that are passed behind those that were walked are walked.
-pub walked_through : (rest from left : List ℕ) (count total counted summed : ℕ) (before chunks : List Chunk) → Walked rest from count total before
-    → Passes count total from left counted summed chunks → Walked rest left counted summed (before ++ chunks)
-walked_through rest from left count total counted summed before chunks w p =
-    let counts = length-append before chunks in
-    let both : joined (before ++ chunks) ≡ joined before ++ joined chunks = flat_map-append (λ c. c.bytes) before chunks in
-    let totals = ap length both ∙ length-append (joined before) (joined chunks) in
-    let count_was = w.count_is in
-    let total_was = w.total_is in
-    let count_now = p.count_is in
-    let total_now = p.total_is in
-    let few = p.few in
-    let small = p.small in
-    record {
-      are = record { each = All-append IsChunk before chunks w.are.each p.each; few = omega arith; small = omega arith };
-      parts = w.parts ∙ ap (λ t. print_chunks before ++ t) p.parts ∙ sym (append_assoc (print_chunks before) (print_chunks chunks) left)
-          ∙ ap (λ t. t ++ left) (sym (flat_map-append print_chunk before chunks));
-      count_is = omega arith;
-      total_is = omega arith;
-    }
+-- The body ends.
+pub last_there : (rest : List ℕ) (count : ℕ) (body left after : List ℕ) (len passed : ℕ) → IsPassed rest count body (Ahead.Trailer len passed) left
+    → ComesNext count (length body) left (next_end after) → EndsWith left after × (coded : List ℕ) × (rest ≡ coded ++ after) × SpellsChunks coded body
+last_there rest count body left after len passed p next =
+    let whole = whole_there rest left after count (length body) p.chunks
+    (walked rest body left count p.chunks p.are p.count_is p.stands.0 p.stands.1) next in (
+      (print_chunk_line next.0 ++ next.1, next.5 ∙ sym (append_assoc (print_chunk_line next.0) next.1 after)),
+      whole.0,
+      whole.1,
+      subst (SpellsChunks whole.0) (sym p.stands.1) whole.2,
+    )
 
--- The line of a chunk that has begun comes first.
-pub begun_line : (count total lacking : ℕ) (line : ChunkLine) (seen left : List ℕ) → IsBegun count total line seen lacking
-    → IsLineAt (begun_bytes line seen left) (length (print_chunk_line line)) (chunk_size line) line
-begun_line count total lacking line seen left b = record { is_line = b.is_line; after = seen ++ left; parts = refl; len_is = refl; size_is = refl }
+-- The trailer is too long.
+pub last_flawed : (rest : List ℕ) (count : ℕ) (body left : List ℕ) (len passed : ℕ) (flaw : Flaw) → IsPassed rest count body (Ahead.Trailer len passed) left
+    → IsFlawAt count (length body) left flaw → HasFlaw rest flaw
+last_flawed rest count body left len passed flaw p is =
+    walk_flawed rest left count (length body) p.chunks flaw (walked rest body left count p.chunks p.are p.count_is p.stands.0 p.stands.1) is
 
--- Without the bytes that lack and an end nothing comes next yet.
-pub begun_open : (count total lacking : ℕ) (line : ChunkLine) (seen left : List ℕ) → IsBegun count total line seen lacking
-    → length left < lacking + 2 → IsOpen count total (begun_bytes line seen left)
-begun_open count total lacking line seen left b short =
+-- Before a chunk that has begun the others are walked.
+begun_walked : (rest : List ℕ) (count : ℕ) (body left : List ℕ) (lacking : ℕ) → (p : IsPassed rest count body (Ahead.Bytes lacking) left)
+    → Walked rest (print_chunk_line p.stands.0 ++ (p.stands.1 ++ left)) (length p.chunks) (length (joined p.chunks)) p.chunks
+begun_walked rest count body left lacking p = record { are = p.are; parts = p.stands.2; count_is = refl; total_is = refl }
+
+-- More of its bytes are wanted.
+pub bytes_wanted : (rest : List ℕ) (count : ℕ) (body left bytes after : List ℕ) (lacking lacks : ℕ) → IsPassed rest count body (Ahead.Bytes lacking) left
+    → left ≡ bytes ++ after → lacking ≡ length bytes + lacks → length left < lacking + 2 → length after < 2
+    → EndsWith left after × IsPassed rest count (body ++ bytes) (Ahead.Bytes lacks) after × HasNoBody Chunked rest × (length after < 17408)
+bytes_wanted rest count body left bytes after lacking lacks p split is short few =
+    let line = p.stands.0 in
+    let seen = p.stands.1 in
+    let b = p.stands.4 in
     let size = b.size in
-    let some = b.some in
     let small = b.small in
-    let all = length-append seen left in
-    open_chunk count total (begun_bytes line seen left) (seen ++ left) line b.is_line refl b.some b.few b.small (omega arith)
+    let both = length-append seen bytes in
+    let none = few in (
+      (bytes, split),
+      record {
+        chunks = p.chunks;
+        are = p.are;
+        count_is = p.count_is;
+        stands = (
+          line,
+          seen ++ bytes,
+          p.stands.2
+              ∙ ap (λ t. print_chunks p.chunks ++ (print_chunk_line line ++ t)) (ap (λ t. seen ++ t) split ∙ sym (append_assoc seen bytes after)),
+          ap (λ t. t ++ bytes) p.stands.3 ∙ append_assoc (joined p.chunks) seen bytes,
+          record { is_line = b.is_line; size = omega arith; some = b.some; few = b.few; small = b.small },
+        );
+      },
+      no_body_here rest (print_chunk_line line ++ (seen ++ left)) (length p.chunks) (length (joined p.chunks)) p.chunks
+          (begun_walked rest count body left lacking p) (begun_open (length p.chunks) (length (joined p.chunks)) lacking line seen left b short),
+      omega arith,
+    )
 
--- What is behind the line of a chunk that has begun.
-behind_begun : (count total lacking : ℕ) (line : ChunkLine) (seen left bytes other : List ℕ) → IsBegun count total line seen lacking
-    → left ≡ bytes ++ other → drop (length (print_chunk_line line)) (begun_bytes line seen left) ≡ (seen ++ bytes) ++ other
-unfolding begun_line
-behind_begun count total lacking line seen left bytes other b split =
-    behind_line (begun_bytes line seen left) (length (print_chunk_line line)) (chunk_size line) line (begun_line count total lacking line seen left b)
-    ∙ ap (λ t. seen ++ t) split ∙ sym (append_assoc seen bytes other)
-
--- With them and CR LF behind them it is a chunk.
-pub begun_whole : (count total lacking : ℕ) (line : ChunkLine) (seen left bytes behind : List ℕ) → IsBegun count total line seen lacking
+-- It is whole.
+pub chunk_whole : (rest : List ℕ) (count : ℕ) (body left bytes behind : List ℕ) (lacking : ℕ) → IsPassed rest count body (Ahead.Bytes lacking) left
     → length bytes ≡ lacking → left ≡ bytes ++ (print_end crlf ++ behind)
-    → (c : Chunk) × (c.bytes ≡ seen ++ bytes) × ComesNext count total (begun_bytes line seen left) (next_chunk c behind)
-begun_whole count total lacking line seen left bytes behind b is_long split =
-    let size = b.size in
-    let both = length-append seen bytes in
-    chunk_there count total (length (print_chunk_line line)) (chunk_size line) (begun_bytes line seen left) (seen ++ bytes) behind line
-    (begun_line count total lacking line seen left b) b.some b.few b.small (omega arith)
-    (behind_begun count total lacking line seen left bytes (print_end crlf ++ behind) b split)
+    → EndsWith left behind × IsPassed rest (count + 1) (body ++ bytes) (Ahead.Line 0) behind
+chunk_whole rest count body left bytes behind lacking p size split =
+    let seen = p.stands.1 in
+    let whole = begun_whole (length p.chunks) (length (joined p.chunks)) lacking p.stands.0 seen left bytes behind p.stands.4 size split in
+    let w = walk_on rest _ behind (seen ++ bytes) _ _ p.chunks whole.0 (begun_walked rest count body left lacking p) whole.2 whole.1 in (
+      (bytes ++ print_end crlf, split ∙ sym (append_assoc bytes (print_end crlf) behind)),
+      record {
+        chunks = p.chunks ++ whole.0 ∷ [];
+        are = w.are;
+        count_is = ap (λ (n : ℕ). n + 1) p.count_is ∙ w.count_is;
+        stands = (
+          w.parts,
+          ap (λ t. t ++ bytes) p.stands.3 ∙ append_assoc (joined p.chunks) seen bytes ∙ ap (λ t. joined p.chunks ++ t) (sym whole.1)
+              ∙ sym (joined_more p.chunks whole.0),
+          nothing_seen behind,
+        );
+      },
+    )
 
--- With another end it can't be there.
-pub begun_bad : (count total lacking : ℕ) (line : ChunkLine) (seen left bytes end rest : List ℕ) → IsBegun count total line seen lacking
-    → length bytes ≡ lacking → length end ≡ 2 → ¬ (end ≡ print_end crlf) → left ≡ bytes ++ (end ++ rest)
-    → ComesNext count total (begun_bytes line seen left) (next_flaw Unreadable)
-begun_bad count total lacking line seen left bytes end rest b is_long two other split =
-    let size = b.size in
-    let both = length-append seen bytes in
-    chunk_bad count total (length (print_chunk_line line)) (chunk_size line) (begun_bytes line seen left) (seen ++ bytes) end rest line
-    (begun_line count total lacking line seen left b) b.some b.few b.small (omega arith) two other
-    (behind_begun count total lacking line seen left bytes (end ++ rest) b split)
+-- It has another end.
+pub chunk_flawed : (rest : List ℕ) (count : ℕ) (body left : List ℕ) (lacking : ℕ) → IsPassed rest count body (Ahead.Bytes lacking) left
+    → HasBadEnd lacking left → HasFlaw rest Unreadable
+chunk_flawed rest count body left lacking p bad =
+    walk_flawed rest _ _ _ p.chunks Unreadable (begun_walked rest count body left lacking p)
+    (begun_bad (length p.chunks) (length (joined p.chunks)) lacking p.stands.0 p.stands.1 left p.stands.4 bad)
 
--- A line of some bytes behind which nothing comes next yet begins a chunk.
-pub begins : (count total len size : ℕ) (left : List ℕ) (line : ChunkLine) → count ≤ 65536 → IsOpen count total left → IsLineAt left len size line
-    → 0 < size → IsBegun count total line [] size
-begins count total len size left line most still at some =
-    let told = at.size_is in
-    let small : total + chunk_size line ≤ 16777216 = elim (cases_lt 16777216 (total + chunk_size line)) [
-      | inl large ↦ absurd (still (next_flaw TooLarge) (inr (line, at.after, at.is_line, at.parts, large)))
-      | inr fits ↦ fits
-    ] in
+-- What stands there stays whatever bytes follow.
+stands_more : (rest more : List ℕ) (chunks : List Chunk) (body : List ℕ) (ahead : Ahead) (left : List ℕ) → Stands rest chunks body ahead left
+    → Stands (rest ++ more) chunks body ahead (left ++ more)
+unfolding line_more
+stands_more rest more chunks body (Ahead.Line seen) left s =
+    (ap (λ t. t ++ more) s.0 ∙ append_assoc (print_chunks chunks) left more, s.1, feed_more seen left more s.2)
+stands_more rest more chunks body (Ahead.Bytes lacking) left s = (
+  s.0,
+  s.1,
+  ap (λ t. t ++ more) s.2 ∙ append_assoc (print_chunks chunks) (print_chunk_line s.0 ++ (s.1 ++ left)) more
+      ∙ ap (λ t. print_chunks chunks ++ t) (append_assoc (print_chunk_line s.0) (s.1 ++ left) more
+      ∙ ap (λ t. print_chunk_line s.0 ++ t) (append_assoc s.1 left more)),
+  s.3,
+  s.4,
+)
+stands_more rest more chunks body (Ahead.Trailer len passed) left s = (
+  ap (λ t. t ++ more) s.0 ∙ append_assoc (print_chunks chunks) left more,
+  s.1,
+  s.2,
+  line_more left more len 0 s.2 s.3,
+  none_more passed (line_feed ∷ s.3.after) more s.4,
+)
+
+-- What was passed stays whatever bytes follow.
+pub passed_more : (rest more : List ℕ) (count : ℕ) (body : List ℕ) (ahead : Ahead) (left : List ℕ) → IsPassed rest count body ahead left
+    → IsPassed (rest ++ more) count body ahead (left ++ more)
+passed_more rest more count body ahead left p =
+    record { chunks = p.chunks; are = p.are; count_is = p.count_is; stands = stands_more rest more p.chunks body ahead left p.stands }
+
+-- The end of an end of bytes ends them.
+pub ends_on : (a b c : List ℕ) → EndsWith a b → EndsWith b c → EndsWith a c
+ends_on a b c p q = (p.0 ++ q.0, p.1 ∙ ap (λ t. p.0 ++ t) q.1 ∙ sym (append_assoc p.0 q.0 c))
+
+-- What comes next behind the line of a chunk.
+pub part_behind : (rest : List ℕ) (count : ℕ) (body left behind : List ℕ) (r : Result Part Flaw) → EndsWith left behind → IsPart rest count body behind r
+    → IsPart rest count body left r
+part_behind rest count body left behind (Ok (Part.Wanted bytes ahead after)) ends p = (ends_on left behind after.now ends p.0, p.1, p.2, p.3)
+part_behind rest count body left behind (Ok (Part.Chunk bytes after)) ends p = (ends_on left behind after.now ends p.0, p.1)
+part_behind rest count body left behind (Ok (Part.Last after)) ends p = (ends_on left behind after.now ends p.0, p.1, p.2, p.3)
+part_behind rest count body left behind (Err flaw) ends p = p
+
+-- Bytes that are passed are joined.
+pub pushed : (rest : List ℕ) (b : ChunkedBody) (left bytes after : List ℕ) (count : ℕ) (ahead : Ahead) (body : Joined) → (h : HasPassed rest b left)
+    → IsPassed rest count (h.body ++ bytes) ahead after
+    → (body.lost ≡ false → (b.body.lost ≡ false) × (body.bytes.items ≡ b.body.bytes.items ++ bytes))
+    → HasPassed rest (record { count = count; total = b.total + length bytes; body = body; ahead = ahead }) after
+pushed rest b left bytes after count ahead body h passed push =
+    let sizes = length-append h.body bytes in
+    let total = h.total_is in
     record {
-      is_line = at.is_line;
-      size = omega arith;
-      some = omega arith;
-      few = elim (cases_lt count 65536) [
-        | inl few ↦ few
-        | inr many ↦ absurd (still (next_flaw Unreadable) (inr (line, at.after, at.is_line, at.parts, (small, inl (omega arith, omega arith)))))
-      ];
-      small = small;
+      body = h.body ++ bytes;
+      passed = passed;
+      total_is = omega arith;
+      kept = λ lost. let step = push lost in step.1 ∙ ap (λ t. t ++ bytes) (h.kept step.0);
     }
-
--- Some of the bytes that lack of a chunk that has begun come.
-pub begun_more : (count total lacking lacks : ℕ) (line : ChunkLine) (seen bytes : List ℕ) → IsBegun count total line seen lacking
-    → lacking ≡ length bytes + lacks → IsBegun count total line (seen ++ bytes) lacks
-begun_more count total lacking lacks line seen bytes b is =
-    let size = b.size in
-    let both = length-append seen bytes in
-    record { is_line = b.is_line; size = omega arith; some = b.some; few = b.few; small = b.small }
-
--- Where more is wanted, nothing comes next yet.
-pub open_now : (count total wanted : ℕ) (left : List ℕ) → length left < wanted
-    → ((others : List ℕ) → length (left ++ others) < wanted → IsOpen count total (left ++ others)) → IsOpen count total left
-open_now count total wanted left short until =
-    subst (IsOpen count total) (append-nil left) (until [] (subst (λ (t : List ℕ). length t < wanted) (sym (append-nil left)) short))
-
--- Where nothing comes next yet, no more came of a chunk that has begun than its bytes and a byte of its end.
-pub begun_short : (count total lacking : ℕ) (line : ChunkLine) (seen left : List ℕ) → IsBegun count total line seen lacking
-    → IsOpen count total (begun_bytes line seen left) → length left < lacking + 2
-begun_short count total lacking line seen left b still = elim (cases_lt (length left) (lacking + 2)) [
-  | inl short ↦ short
-  | inr long ↦ absurd (bad long (good long))
-]
-  where
-    front : List ℕ
-    front = take lacking left
-
-    end : List ℕ
-    end = take 2 (drop lacking left)
-
-    rest : List ℕ
-    rest = drop 2 (drop lacking left)
-
-    parts : left ≡ front ++ (end ++ rest)
-    parts = sym (take-append-drop lacking left) ∙ ap (λ t. front ++ t) (sym (take-append-drop 2 (drop lacking left)))
-
-    front_size : lacking + 2 ≤ length left → length front ≡ lacking
-    front_size long = let told = length-take lacking left in omega arith
-
-    end_size : lacking + 2 ≤ length left → length end ≡ 2
-    end_size long =
-        let told = length-take 2 (drop lacking left) in
-        let behind = length-drop lacking left in
-        omega arith
-
-    good : lacking + 2 ≤ length left → ¬ (end ≡ print_end crlf)
-    good long is =
-        let whole = begun_whole count total lacking line seen left front rest b (front_size long) (parts ∙ ap (λ t. front ++ (t ++ rest)) is) in
-        still (next_chunk whole.0 rest) whole.2
-
-    bad : lacking + 2 ≤ length left → ¬ (¬ (end ≡ print_end crlf))
-    bad long other = still (next_flaw Unreadable) (begun_bad count total lacking line seen left front end rest b (front_size long) (end_size long) other parts)
-
--- Where nothing comes next yet and no chunk begins, there is a piece of a line, or the last line and a piece of a trailer.
-pub little_left : (count total : ℕ) (left : List ℕ) → IsOpen count total left → BeginsNone left → IsLittle left
-little_left count total left still none = elim (cases_lt (length left) 17408) [
-  | inl little ↦ little
-  | inr much ↦ absurd (still (next_flaw Unreadable) (inl (refl, record { there = inl (omega arith); none = on_line much })))
-]
-  where
-    long : (line : ChunkLine) (after : List ℕ) → 17408 ≤ length left → IsShortLine line → left ≡ print_chunk_line line ++ after → 16384 ≤ length after
-    long line after much is parts =
-        let short = is.short in
-        let all = ap length parts ∙ length-append (print_chunk_line line) after in
-        omega arith
-
-    on_line : 17408 ≤ length left → (line : ChunkLine) (after : List ℕ) → IsShortLine line → ¬ (left ≡ print_chunk_line line ++ after)
-    on_line much line after is parts = elim (cases_lt 16777216 (total + chunk_size line)) [
-      | inl large ↦ still (next_flaw TooLarge) (inr (line, after, is, parts, large))
-      | inr fits ↦ elim (cases_lt 0 (chunk_size line)) [
-        | inl some ↦ none line after is parts some (omega arith)
-        | inr last ↦
-            let zero : chunk_size line ≡ 0 = omega arith in
-            still (next_flaw Unreadable) (inr (
-              line,
-              after,
-              is,
-              parts,
-              (
-                fits,
-                inr (inr (
-                  zero,
-                  record {
-                    long = long line after much is parts;
-                    none = λ trailer rest also split. still (next_end rest)
-                        (line, trailer, is, zero, also, parts ∙ ap (λ t. print_chunk_line line ++ t) split);
-                  },
-                )),
-              ),
-            ))
-      ]
-    ]
-
--- Where the line isn't there yet, no chunk begins.
-pub begins_none_yet : (left : List ℕ) → HasNoLine left → BeginsNone left
-begins_none_yet left h = λ line after is parts some fits. h.none line after is parts
-
--- Nor where there is no line.
-pub begins_none_bad : (left : List ℕ) → HasBadLine left → BeginsNone left
-begins_none_bad left h = λ line after is parts some fits. h.none line after is parts
-
--- Nor where the line tells no bytes, or more than a body may have.
-pub begins_none_else : (left : List ℕ) (len size : ℕ) (line : ChunkLine) → IsLineAt left len size line → ¬ ((0 < size) × (size ≤ 16777216)) → BeginsNone left
-begins_none_else left len size line at other_size = λ other after is parts some fits.
-    let one = line_once line other at.after after at.is_line is (sym at.parts ∙ parts) in
-    let same = ap chunk_size one.0 in
-    let told = at.size_is in
-    other_size (omega arith, omega arith)

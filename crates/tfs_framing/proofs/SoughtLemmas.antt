@@ -3,11 +3,11 @@ use Rattle.std.proofs.Common.{◌≡◌, ◌≤◌, ◌<◌, ◌-◌, ℕ, List,
 use Rattle.std.proofs.Common.{length-append, inl, inr, take, drop, min, take-append-drop, length-take}
 use Rattle.std.proofs.lemmas.Grind.{flat_map-append}
 use Rattle.httparse.specs.Ascii.{line_feed}
-use Rattle.httparse.specs.Grammar.{LineEnd, crlf, lf, print_end, print_blank}
+use Rattle.httparse.specs.Grammar.{LineEnd, print_end, print_blank}
 use Rattle.tfs_framing.specs.Head.{StartsWithEmptyLine, EndsWithEmptyLine}
 use Rattle.tfs_framing.specs.Sought.{HasNoEndIn, HasNoEndYet, IsSought}
 use Rattle.tfs_framing.specs.declared.head.Search.{Search}
-use Rattle.tfs_framing.proofs.HeadLemmas.{PassedOver, cuts, same_cut, nothing_left}
+use Rattle.tfs_framing.proofs.HeadLemmas.{PassedOver, cuts, print_end_len, same_cut, nothing_left}
 
 -- An empty line that comes first does so whatever bytes follow.
 starts_more : (text more : List ℕ) → StartsWithEmptyLine text → StartsWithEmptyLine (text ++ more)
@@ -30,11 +30,6 @@ none_behind n front text none = λ before after e less starts.
 pub none_at_first : (text : List ℕ) → HasNoEndYet 0 text
 none_at_first text = λ more before after e less starts. omega (arith, less)
 
--- A line end has two bytes at most.
-end_is_short : (end : LineEnd) → length (print_end end) ≤ 2
-end_is_short crlf = omega arith
-end_is_short lf = omega arith
-
 -- Where no part of a text ends with an empty line, the last two bytes alone may have a part in one.
 pub none_yet : (text : List ℕ) → ((part rest : List ℕ) → text ≡ part ++ rest → ¬ (EndsWithEmptyLine part)) → HasNoEndYet (length text - 2) text
 none_yet text none = λ more before after e less starts.
@@ -42,7 +37,7 @@ none_yet text none = λ more before after e less starts.
     let whole : text ++ more ≡ (before ++ line_feed ∷ print_end end) ++ starts.1 =
     e ∙ ap (λ t. before ++ line_feed ∷ t) starts.2 ∙ sym (append_assoc before (line_feed ∷ print_end end) starts.1) in
     let sizes = length-append before (line_feed ∷ print_end end) in
-    let short = end_is_short end in
+    let short = (print_end_len end).1 in
     elim (cuts text more (before ++ line_feed ∷ print_end end) starts.1 whole) [
       | inl w ↦ none (before ++ line_feed ∷ print_end end) w.0 w.1 (before, end, refl)
       | inr w ↦

@@ -7,13 +7,14 @@ use Rattle.httparse.specs.Grammar.{ChunkLine, print_chunk_line, chunk_size}
 use Rattle.tfs_framing.specs.Head.{IsMessageHead, EndsWithEmptyLine}
 use Rattle.tfs_framing.specs.Sought.{HasNoEndIn, HasNoEndYet}
 use Rattle.tfs_framing.specs.Chunks.{IsTrailer, IsFlawBehind, IsFlawAt}
-use Rattle.tfs_framing.specs.Parts.{next_end, ComesNext, IsOpen, IsLineAt}
-use Rattle.tfs_framing.specs.declared.part.Flaw.{Flaw}
-use Rattle.tfs_framing.specs.declared.part.Flaw.TheVariants.{TooLarge, Unreadable}
+use Rattle.tfs_framing.specs.Parts.{IsLineAt}
+use Rattle.tfs_framing.proofs.Next.{next_end, ComesNext, IsOpen}
+use Rattle.tfs_framing.specs.declared.chunks.Flaw.{Flaw}
+use Rattle.tfs_framing.specs.declared.chunks.Flaw.TheVariants.{TooLarge, Unreadable}
 use Rattle.tfs_framing.proofs.HeadLemmas.{cuts, nothing_left}
 use Rattle.tfs_framing.proofs.ChunkLemmas.{line_parts}
 use Rattle.tfs_framing.proofs.SoughtLemmas.{none_in_window, none_yet, all_in_window}
-use Rattle.tfs_framing.proofs.PartLemmas.{open_behind_line}
+use Rattle.tfs_framing.proofs.PartLemmas.{no_feed_in_nothing, open_behind_line}
 
 -- The line feed of the line and what is behind it.
 pub from_line_feed : (left : List ℕ) (len size : ℕ) (line : ChunkLine) → (at : IsLineAt left len size line)
@@ -27,17 +28,12 @@ from_line_feed left len size line at =
     ∙ ap (λ (t : List ℕ). drop (length parts.0) t) (at.parts ∙ ap (λ t. t ++ at.after) parts.2 ∙ append_assoc parts.0 (line_feed ∷ []) at.after)
     ∙ drop-append_seam parts.0 (line_feed ∷ at.after)
 
--- Something that ends with an empty line has bytes.
-ends_with_bytes : (front : List ℕ) (rest : List ℕ) → ¬ ([] ≡ front ++ line_feed ∷ rest)
-ends_with_bytes [] rest e = cc
-ends_with_bytes (x ∷ front) rest e = cc
-
 -- The head that the bytes from the line feed on have is this line feed and a trailer.
 pub trailer_found : (from window head rest behind after : List ℕ) (k n : ℕ) → k ≡ min (length from) 16385 → window ≡ take k from → window ≡ head ++ rest
     → length head ≡ n → IsMessageHead head → from ≡ line_feed ∷ after → behind ≡ drop n from
     → (trailer : List ℕ) × IsTrailer trailer × (after ≡ trailer ++ behind)
 trailer_found from window [] rest behind after k n is_k is split size is_head starts is_behind =
-    absurd (ends_with_bytes is_head.ends.0 _ is_head.ends.2)
+    absurd (no_feed_in_nothing is_head.ends.0 _ is_head.ends.2)
 trailer_found from window (b ∷ trailer) rest behind after k n is_k is split size is_head starts is_behind =
     let whole : from ≡ (b ∷ trailer) ++ (rest ++ drop k from) =
     sym (take-append-drop k from) ∙ ap (λ t. t ++ drop k from) (sym is ∙ split) ∙ append_assoc (b ∷ trailer) rest (drop k from) in

@@ -1,5 +1,5 @@
 -- The body of a message: how long its head says that it is (RFC 9112, section 6.3), and which bytes spell it.
-use Rattle.std.specs.Prelude.{◌≡◌, ◌≤◌, ◌<◌, ◌+◌, ◌==◌, ◌&&◌, ℕ, nat_lt, nat_le, Bool, true, false, List, [], ◌∷◌, ◌++◌, length, take, codes}
+use Rattle.std.specs.Prelude.{◌≡◌, ◌==◌, ◌&&◌, ℕ, nat_lt, nat_le, Bool, true, false, List, [], ◌∷◌, ◌++◌, length, codes}
 use Rattle.std.specs.Prelude.{if◌then◌else◌, Result, Ok, Err}
 use Rattle.std.specs.List.{list_all}
 use Rattle.std.specs.Char.{is_ascii_digit}
@@ -10,13 +10,10 @@ use Rattle.tfs_calls.specs.declared.refusal.Refusal.{Refusal}
 use Rattle.tfs_calls.specs.declared.refusal.Refusal.TheVariants.{NoHost, BadLength, TransferCoding, BodyTooLarge, BadChunk}
 use Rattle.tfs_framing.specs.Fields.{fields_of, lower, values_named}
 use Rattle.tfs_framing.specs.Chunks.{SpellsChunks, HasFlaw}
-use Rattle.tfs_framing.specs.Walked.{IsWalked}
-use Rattle.tfs_framing.specs.declared.length.BodyLength.{BodyLength}
-use Rattle.tfs_framing.specs.declared.length.BodyLength.TheVariants.{Absent, Sized, Chunked}
-use Rattle.tfs_framing.specs.declared.part.Flaw.{Flaw}
-use Rattle.tfs_framing.specs.declared.part.Flaw.TheVariants.{TooLarge, Unreadable}
-use Rattle.tfs_framing.specs.declared.body.Extent.{Extent}
-use Rattle.tfs_framing.specs.declared.body.Extent.TheVariants.{Wanted, Whole, Flawed}
+use Rattle.tfs_framing.specs.declared.lines.BodyLength.{BodyLength}
+use Rattle.tfs_framing.specs.declared.lines.BodyLength.TheVariants.{Absent, Sized, Chunked}
+use Rattle.tfs_framing.specs.declared.chunks.Flaw.{Flaw}
+use Rattle.tfs_framing.specs.declared.chunks.Flaw.TheVariants.{TooLarge, Unreadable}
 
 -- The head names its host: one `Host` field, or in version 1.0 none (RFC 9112, section 3.2).
 abbrev pub names_host : ℕ → List (List ℕ) → Bool
@@ -73,21 +70,7 @@ abbrev pub refusal_of : Flaw → Refusal
 refusal_of TooLarge = BodyTooLarge
 refusal_of Unreadable = BadChunk
 
--- A body of this length has at most 16 MiB.
-abbrev pub Fits : BodyLength → Type 0
-Fits Absent = Unit {0}
-Fits (Sized size) = size ≤ 16777216
-Fits Chunked = Unit {0}
-
 -- No bytes at the front of the rest spell a body of this length, and nothing is wrong with them yet.
 pub record HasNoBody (size : BodyLength) (rest : List ℕ) : Type 0 where
   pub none : (coded body after : List ℕ) → rest ≡ coded ++ after → ¬ (SpellsBody size coded body)
   pub no_flaw : (flaw : Flaw) → ¬ (HasBadBody size rest flaw)
-
--- So many bytes are wanted before the rest can begin with a body, of which so much was walked; or so many spell one; or it can't
--- begin with one.
-abbrev pub Reaches : BodyLength → List ℕ → Extent → Type 0
-Reaches size rest (Flawed flaw) = HasBadBody size rest flaw
-Reaches size rest (Wanted wanted walk) = (length rest < wanted) × (wanted ≤ length rest + 16777218)
-    × ((others : List ℕ) → length (rest ++ others) < wanted → HasNoBody size (rest ++ others)) × IsWalked rest walk
-Reaches size rest (Whole used) = (used ≤ length rest) × (body : List ℕ) × SpellsBody size (take used rest) body

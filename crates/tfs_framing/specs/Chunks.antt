@@ -4,8 +4,8 @@ use Rattle.std.specs.List.{flat_map}
 use Rattle.httparse.specs.Ascii.{line_feed}
 use Rattle.httparse.specs.Grammar.{crlf, print_end, ChunkLine, IsChunkLine, print_chunk_line, chunk_size}
 use Rattle.tfs_framing.specs.Head.{IsMessageHead}
-use Rattle.tfs_framing.specs.declared.part.Flaw.{Flaw}
-use Rattle.tfs_framing.specs.declared.part.Flaw.TheVariants.{TooLarge, Unreadable}
+use Rattle.tfs_framing.specs.declared.chunks.Flaw.{Flaw}
+use Rattle.tfs_framing.specs.declared.chunks.Flaw.TheVariants.{TooLarge, Unreadable}
 
 -- A chunk: its line, and its bytes.
 pub record Chunk : Type 0 where

@@ -2,7 +2,7 @@
 use Rattle.std.specs.Prelude.{codes}
 use Rattle.std.specs.Str.{bytes_eq}
 use Rattle.tfs_framing.specs.Request.{RequestValue}
-use Rattle.tfs_framing.specs.declared.form.Form.{Form}
+use Rattle.tfs_framing.specs.declared.request.Form.{Form}
 
 -- The reply to HEAD has no body (RFC 9110, section 9.3.2).
 abbrev pub form_of : RequestValue → Form

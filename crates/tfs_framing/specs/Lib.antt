@@ -3,8 +3,6 @@ pub mod Sought
 pub mod Fields
 pub mod Chunks
 pub mod Parts
-pub mod Passed
-pub mod Walked
 pub mod Body
 pub mod Connection
 pub mod Lines
@@ -13,3 +11,4 @@ pub mod Request
 pub mod Framing
 pub mod Form
 pub mod Decoded
+pub mod Decoder

@@ -1,87 +1,164 @@
-//! A body in chunks: where it ends, and what it spells (RFC 9112, section 7.1).
+//! The parts of a body in chunks (RFC 9112, section 7.1), as they come.
 
-ghost use Rattle.std.specs.Prelude.{◌≡◌, ℕ, List, IfOk};
-ghost use Rattle.tfs_framing.specs.Chunks.{SpellsChunks};
-ghost use Rattle.tfs_framing.specs.Body.{Reaches};
-ghost use Rattle.tfs_framing.specs.Walked.{IsWalked};
-ghost use Rattle.tfs_framing.specs.declared.length.BodyLength.TheVariants.{Chunked};
+ghost use Rattle.std.specs.Prelude.{◌≡◌, ◌≤◌, ◌<◌, ℕ, List, ◌∷◌, ◌++◌, length, IfSome, IfNone, IfOk, IfErr};
+ghost use Rattle.httparse.specs.Ascii.{line_feed};
+ghost use Rattle.httparse.specs.Grammar.{crlf, print_end, ChunkLine, HasNoChunkLine};
+ghost use Rattle.httparse.specs.Spans.{IsChunkLineAt};
+ghost use Rattle.tfs_framing.specs.Chunks.{HasBadLine};
+ghost use Rattle.tfs_framing.specs.Parts.{HasNoFeedIn, IsLineAt, IsPart, IsPassed};
+ghost use Rattle.tfs_framing.specs.Sought.{HasNoEndYet};
+ghost use Rattle.tfs_framing.specs.declared.chunks.Ahead.TheVariants.{Bytes, Trailer};
+ghost use Rattle.tfs_framing.specs.declared.chunks.Flaw.TheVariants.{Unreadable};
 
-use crate::body::Extent;
-use crate::part::{Ahead, Part, part_at};
-use std::alloc::{AllocError, Global};
+use crate::head::head_len;
+use crate::limits::{MAX_BODY_BYTES, MAX_CHUNK_LINE_BYTES, MAX_CHUNKS, MAX_TRAILER_BYTES};
+use httparse::{Status, parse_chunk_size};
 
-/// How far a body in chunks was walked.
+/// Why bytes begin with no body in chunks.
 #[derive(Clone, Copy)]
-pub(crate) struct Walk {
-    /// So many chunks come first.
+pub(crate) enum Flaw {
+    /// The chunks have more bytes than a body may have.
+    TooLarge,
+    /// There is no chunk and no end where one has to be.
+    Unreadable,
+}
+
+/// What is known of what comes next in a body in chunks.
+#[derive(Clone, Copy)]
+pub(crate) enum Ahead {
+    /// So many first bytes have no line feed.
+    Line(usize),
+    /// So many bytes of a chunk, behind its line and others of its bytes.
+    Bytes(usize),
+    /// The last line comes, so long; from its line feed on, so many bytes have no line feed with an empty line behind it.
+    Trailer(usize, usize),
+}
+
+/// What comes next in a body in chunks.
+#[derive(Clone, Copy)]
+pub(crate) enum Part<'b> {
+    /// These bytes of a chunk that isn't whole, or none; what is known of what is behind them, and that.
+    Wanted(&'b [u8], Ahead, &'b [u8]),
+    /// The bytes of a chunk, and what is behind it.
+    Chunk(&'b [u8], &'b [u8]),
+    /// The end of the body, and what is behind it.
+    Last(&'b [u8]),
+}
+
+/// What comes next, behind so many chunks with so many bytes.
+pub(crate) fn part_at(
     count: usize,
-    /// So many bytes they have together.
     total: usize,
-    /// So many bytes they take, with their lines.
-    end: usize,
-    /// What is known of what is behind them.
+    left: &[u8],
     ahead: Ahead,
+) -> Result<Part<'_>, Flaw>
+    requires { (rest : List ℕ) × (body : List ℕ) × IsPassed rest count body ahead left.now × (total ≡ length body) }
+    ensures { (rest body : List ℕ) → IsPassed rest count body ahead left.now → total ≡ length body → IsPart rest count body left.now result }
+{
+    let seen = match ahead {
+        Ahead::Line(seen) => seen,
+        Ahead::Bytes(lacking) => return rest_of_chunk(left, lacking),
+        Ahead::Trailer(len, passed) => return last_behind(left, len, passed),
+    };
+    let Some((len, size)) = chunk_line_at(left, seen)? else {
+        let (none, _) = left.split_at(0);
+        return Ok(Part::Wanted(none, Ahead::Line(left.len()), left));
+    };
+    if size > (MAX_BODY_BYTES - total) as u64 {
+        return Err(Flaw::TooLarge);
+    }
+    if size == 0 {
+        return last_behind(left, len, 0);
+    }
+    if count == MAX_CHUNKS {
+        return Err(Flaw::Unreadable);
+    }
+    let (_, behind) = left.split_at(len);
+    rest_of_chunk(behind, size as usize)
 }
 
-impl Walk {
-    /// Nothing was walked.
-    pub(crate) fn start() -> Walk
-        ensures { (rest : List ℕ) → IsWalked rest result }
-    {
-        Walk {
-            count: 0,
-            total: 0,
-            end: 0,
-            ahead: Ahead::Line(0),
+/// The length and the size of the chunk line that comes first, in the first 1,024 bytes; so many of them have no line feed.
+fn chunk_line_at(left: &[u8], seen: usize) -> Result<Option<(usize, u64)>, Flaw>
+    requires { HasNoFeedIn seen left.now }
+    ensures found { IfOk result (λ told. IfSome told (λ at. (line : ChunkLine) × IsLineAt left.now at.0 at.1 line)) }
+    ensures absent { IfOk result (λ told. IfNone told (HasNoFeedIn (length left.now) left.now × (length left.now < 1024))) }
+    ensures err { IfErr result (λ flaw. (flaw ≡ Unreadable) × HasBadLine left.now) }
+{
+    let (window, _) = left.split_at(left.len().min(MAX_CHUNK_LINE_BYTES));
+    let (_, new) = window.split_at(seen.min(window.len()));
+    if new.contains(&b'\n') {
+        match parse_line(window) {
+            Some(line) => Ok(Some(line)),
+            None => Err(Flaw::Unreadable),
+        }
+    } else if left.len() >= MAX_CHUNK_LINE_BYTES {
+        Err(Flaw::Unreadable)
+    } else {
+        Ok(None)
+    }
+}
+
+/// The length and the size of the chunk line that the bytes begin with.
+fn parse_line(bytes: &[u8]) -> Option<(usize, u64)>
+    ensures found { IfSome result (λ told. (line : ChunkLine) × IsChunkLineAt bytes.now told.0 told.1 line) }
+    ensures absent { IfNone result (HasNoChunkLine bytes.now) }
+{
+    match parse_chunk_size(bytes) {
+        Ok(Status::Complete(told)) => Some(told),
+        _ => None,
+    }
+}
+
+/// What comes of a chunk of which so many bytes lack.
+fn rest_of_chunk(left: &[u8], lacking: usize) -> Result<Part<'_>, Flaw>
+    requires { lacking ≤ 16777216 }
+    ensures { (rest : List ℕ) (count : ℕ) (body : List ℕ) → IsPassed rest count body (Bytes lacking) left.now → IsPart rest count body left.now result }
+{
+    let (bytes, end) = left.split_at(lacking.min(left.len()));
+    if left.len() < lacking + 2 {
+        return Ok(Part::Wanted(bytes, Ahead::Bytes(lacking - bytes.len()), end));
+    }
+    match strip_line_end(end) {
+        Some(behind) => Ok(Part::Chunk(bytes, behind)),
+        None => Err(Flaw::Unreadable),
+    }
+}
+
+/// The bytes behind the CR LF that comes first, if it does.
+fn strip_line_end(bytes: &[u8]) -> Option<&[u8]>
+    ensures found { IfSome result (λ rest. bytes.now ≡ print_end crlf ++ rest.now) }
+    ensures absent { IfNone result ((rest : List ℕ) → ¬ (bytes.now ≡ print_end crlf ++ rest)) }
+{
+    match bytes {
+        [b'\r', b'\n', rest @ ..] => Some(rest),
+        _ => None,
+    }
+}
+
+/// The trailer behind the last line, which is so long; the line feed of this line is looked at as the trailer's first byte. So
+/// many bytes from it on were passed over.
+fn last_behind(left: &[u8], len: usize, passed: usize) -> Result<Part<'_>, Flaw>
+    requires some { 0 < len }
+    requires inside { len ≤ length left.now }
+    requires last { (line : ChunkLine) × (at : IsLineAt left.now len 0 line) × HasNoEndYet passed (line_feed ∷ at.after) }
+    ensures { (rest : List ℕ) (count : ℕ) (body : List ℕ) → IsPassed rest count body (Trailer len passed) left.now
+        → IsPart rest count body left.now result }
+{
+    let (_, from) = left.split_at(len - 1);
+    let (window, _) = from.split_at(from.len().min(MAX_TRAILER_BYTES + 1));
+    match head_len(window, passed) {
+        Some(end) => {
+            let (_, behind) = from.split_at(end);
+            Ok(Part::Last(behind))
+        }
+        None => {
+            if from.len() <= MAX_TRAILER_BYTES {
+                let (none, _) = left.split_at(0);
+                let known = Ahead::Trailer(len, from.len().saturating_sub(2));
+                Ok(Part::Wanted(none, known, left))
+            } else {
+                Err(Flaw::Unreadable)
+            }
         }
     }
-}
-
-/// How far a body in chunks reaches in the bytes behind a head, of which so much was walked.
-pub(crate) fn chunks_end(rest: &[u8], walk: Walk) -> Extent
-    requires { IsWalked rest.now walk }
-    ensures { Reaches Chunked rest.now result }
-{
-    let mut count = walk.count;
-    let mut total = walk.total;
-    let (_, mut left) = rest.split_at(walk.end);
-    let mut ahead = walk.ahead;
-    loop {
-        match part_at(count, total, left, ahead) {
-            Part::Chunk(bytes, after) => {
-                count += 1;
-                total += bytes.len();
-                left = after;
-                ahead = Ahead::Line(0);
-            }
-            Part::Last(after) => return Extent::Whole(rest.len() - after.len()),
-            Part::Wanted(wanted, ahead) => {
-                let end = rest.len() - left.len();
-                let walk = Walk {
-                    count,
-                    total,
-                    end,
-                    ahead,
-                };
-                return Extent::Wanted(end + wanted, walk);
-            }
-            Part::Flawed(flaw) => return Extent::Flawed(flaw),
-        }
-    }
-}
-
-/// The bytes of the chunks, joined, in a vector that has no more room than they take where memory for such a one is there.
-pub(crate) fn join_chunks(alloc: Global, coded: &[u8]) -> Result<Vec<u8>, AllocError>
-    ensures { (body : List ℕ) → SpellsChunks coded.now body → IfOk result (λ read. read.items ≡ body) }
-{
-    let mut body = Vec::new(alloc);
-    let mut count = 0;
-    let mut left = coded;
-    while let Part::Chunk(bytes, after) = part_at(count, body.len(), left, Ahead::Line(0)) {
-        body.extend_from_slice(bytes)?;
-        count += 1;
-        left = after;
-    }
-    body.shrink_to_fit();
-    Ok(body)
 }

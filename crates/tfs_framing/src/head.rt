@@ -9,11 +9,23 @@ use crate::limits::MAX_HEAD_BYTES;
 
 /// How far the end of a head was sought.
 #[derive(Clone, Copy)]
-pub struct Search {
+pub(crate) struct Search {
     /// So many bytes of empty lines come first.
     pub(crate) skipped: usize,
     /// Behind them come so many bytes of which no line feed has an empty line behind it.
     pub(crate) passed: usize,
+}
+
+impl Search {
+    /// It wasn't sought.
+    pub(crate) fn start() -> Search
+        ensures { (bytes : List ℕ) → IsSought bytes result }
+    {
+        Search {
+            skipped: 0,
+            passed: 0,
+        }
+    }
 }
 
 /// The head of the message, and the bytes behind it; where no head ends in the first 16,384 bytes, how far it was sought.

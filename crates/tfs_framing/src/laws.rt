@@ -5,13 +5,14 @@ ghost use Rattle.http_header.specs.FieldName.{IsFieldName};
 ghost use Rattle.http_header.specs.FieldValue.{IsFieldValue};
 ghost use Rattle.httparse.specs.Grammar.{RequestHead, field_value};
 ghost use Rattle.tfs_framing.specs.Head.{IsHeadOf};
-ghost use Rattle.tfs_framing.specs.Framing.{Frames, IsKnown, IsSizedHead};
+ghost use Rattle.tfs_framing.specs.Framing.{Frames, IsSizedHead};
+ghost use Rattle.tfs_framing.specs.Sought.{IsSought};
 ghost use Rattle.tfs_framing.specs.Decoded.{Decodes};
-ghost use Rattle.tfs_framing.specs.declared.decoded.ChunkedBody.{ChunkedBody};
-ghost use Rattle.tfs_framing.specs.declared.known.Known.{Known};
-ghost use Rattle.tfs_framing.specs.declared.known.SizedHead.{SizedHead};
-ghost use Rattle.tfs_framing.specs.declared.taken.Take.{Take};
-ghost use Rattle.tfs_framing.specs.declared.taken.Take.TheVariants.{Need};
+ghost use Rattle.tfs_framing.specs.declared.body.ChunkedBody.{ChunkedBody};
+ghost use Rattle.tfs_framing.specs.declared.framing.SizedHead.{SizedHead};
+ghost use Rattle.tfs_framing.specs.declared.head.Search.{Search};
+ghost use Rattle.tfs_framing.specs.declared.framing.Take.{Take};
+ghost use Rattle.tfs_framing.specs.declared.framing.Take.TheVariants.{Need};
 
 /// Bytes begin with a message, or are refused, or neither yet; with one of these alone; and a message or a refusal stays
 /// whatever bytes follow.
@@ -23,8 +24,8 @@ pub fn what_bytes_begin_with_is_one_thing_and_stays()
 {}
 
 /// What is known of a message stays whatever bytes follow.
-pub fn what_is_known_stays_whatever_bytes_follow()
-    ensures stays { (bytes more : List ℕ) (known : Known) → IsKnown bytes known → IsKnown (bytes ++ more) known }
+pub(crate) fn what_is_known_stays_whatever_bytes_follow()
+    ensures sought { (bytes more : List ℕ) (search : Search) → IsSought bytes search → IsSought (bytes ++ more) search }
     ensures sized { (bytes more : List ℕ) (head : SizedHead) → IsSizedHead bytes head → IsSizedHead (bytes ++ more) head }
     ensures decoded { (bytes more before left : List ℕ) (body : ChunkedBody) → Decodes bytes before body left
         → Decodes (bytes ++ more) before body (left ++ more) }

@@ -4,35 +4,21 @@
 
 mod body;
 mod chunks;
-mod connection;
-mod decoded;
-mod digest;
+mod decoder;
 mod fields;
-mod form;
 mod framing;
 mod head;
-mod known;
 mod laws;
-mod length;
 mod limits;
 mod lines;
-mod part;
-mod passing;
 mod request;
-mod taken;
+mod state;
 
-pub use decoded::{ChunkedBody, FramedChunks, frame_chunks};
-pub use form::Form;
-pub use framing::{frame, frame_with_body, take};
-pub use head::Search;
-pub use known::{Headed, Known, SizedHead};
-pub use laws::{
-    each_field_is_one_of_http_header, what_bytes_begin_with_is_one_thing_and_stays,
-    what_is_known_stays_whatever_bytes_follow,
-};
+pub use decoder::{RequestDecoder, take};
+pub use framing::{Received, Take};
+pub use laws::{each_field_is_one_of_http_header, what_bytes_begin_with_is_one_thing_and_stays};
 pub use limits::{
     MAX_BODY_BYTES, MAX_CHUNK_LINE_BYTES, MAX_CHUNKS, MAX_FIELDS, MAX_HEAD_BYTES, MAX_HEAD_LINES,
     MAX_TRAILER_BYTES,
 };
-pub use request::Request;
-pub use taken::{Framed, Take};
+pub use request::{Form, Request};

@@ -1,19 +1,21 @@
-//! What the lines of a head say (RFC 9112, sections 3 and 5).
+//! What the lines of a head say (RFC 9112, sections 3, 5 and 6.3): how long the body behind it is, too.
 
-ghost use Rattle.std.specs.Prelude.{◌≡◌, IfOk, IfErr, IfSome, IfNone};
+ghost use Rattle.std.specs.Prelude.{◌≡◌, IfOk, IfErr, IfSome, IfNone, ◌&&◌, nat_lt, map, length, codes, All, ℕ, List};
 ghost use Rattle.httparse.specs.Grammar.{RequestHead};
-ghost use Rattle.httparse.specs.Spans.{IsRequestAt, IsRequestWithin};
+ghost use Rattle.httparse.specs.Spans.{IsRequestAt, IsRequestWithin, IsHeaderWithin, header_bytes};
 ghost use Rattle.tfs_framing.specs.Head.{IsHeadOf, line_feeds};
-ghost use Rattle.tfs_framing.specs.Body.{Fits};
+ghost use Rattle.tfs_framing.specs.Body.{length_of_coding, length_of_text, length_told, length_of_fields, names_host};
 ghost use Rattle.tfs_framing.specs.Lines.{IsToldBy};
 ghost use Rattle.tfs_framing.specs.Framing.{ReadsHead, IsHeadRefused};
+ghost use Rattle.std.specs.List.{list_all};
+ghost use Rattle.std.specs.Char.{is_ascii_digit};
+ghost use Rattle.tfs_framing.specs.Fields.{TellsValues};
 
-use crate::connection::asks_to_close;
-use crate::fields::{Values, values_named};
-use crate::length::{BodyLength, body_length};
-use crate::limits::{MAX_FIELDS, MAX_HEAD_LINES};
+use crate::fields::{Values, asks_to_close, is_word, values_named};
+use crate::limits::{MAX_BODY_BYTES, MAX_FIELDS, MAX_HEAD_LINES};
 use httparse::Status;
 use httparse::spans::{EMPTY_HEADER_SPAN, HeaderSpan, RequestSpans, parse_request};
+use std::str;
 use tfs_calls::Refusal;
 
 /// What a head says.
@@ -32,7 +34,6 @@ pub(crate) struct Lines<'h> {
 /// Reads a head, or tells its refusal.
 pub(crate) fn read_head(head: &[u8]) -> Result<Lines<'_>, Refusal>
     ensures ok { IfOk result (λ lines. (h : RequestHead) × ReadsHead head.now h lines.size × IsToldBy lines h) }
-    ensures fits { IfOk result (λ lines. Fits lines.size) }
     ensures err { IfErr result (IsHeadRefused head.now) }
 {
     if count_line_feeds(head) > MAX_HEAD_LINES {
@@ -71,4 +72,100 @@ fn count_line_feeds(head: &[u8]) -> usize
     ensures { result ≡ line_feeds head.now }
 {
     head.iter().filter(|byte| **byte == b'\n').count()
+}
+
+/// How long a body is.
+#[derive(Clone, Copy)]
+pub(crate) enum BodyLength {
+    /// There is none.
+    Absent,
+    /// So many bytes.
+    Sized(usize),
+    /// As many as its chunks have.
+    Chunked,
+}
+
+/// What the version and the fields of a head say of the body, or the first refusal. The spans of the fields lie in the head.
+pub(crate) fn body_length(
+    minor: u8,
+    head: &[u8],
+    fields: &[HeaderSpan],
+) -> Result<BodyLength, Refusal>
+    requires { All (IsHeaderWithin (length head.now)) fields.now }
+    ensures { result ≡ length_of_fields minor (map (header_bytes head.now) fields.now) }
+{
+    if !names_host(minor, values_named(head, fields, b"host")) {
+        return Err(Refusal::NoHost);
+    }
+    length_told(
+        minor,
+        values_named(head, fields, b"content-length"),
+        values_named(head, fields, b"transfer-encoding"),
+    )
+}
+
+/// Whether the values of the `Host` fields are as many as the version asks for.
+fn names_host(minor: u8, hosts: Values<'_>) -> bool
+    ensures { (values : List (List ℕ)) → TellsValues hosts.entry values → result ≡ names_host minor values }
+{
+    match hosts {
+        Values::Absent => minor == 0,
+        Values::One(_) => true,
+        Values::Several => false,
+    }
+}
+
+/// The length, from the version and from the values of the `Content-Length` and of the `Transfer-Encoding` fields.
+fn length_told(minor: u8, lengths: Values<'_>, codings: Values<'_>) -> Result<BodyLength, Refusal>
+    ensures { (texts others : List (List ℕ)) → TellsValues lengths.entry texts → TellsValues codings.entry others → result ≡ length_told minor texts others }
+{
+    match (lengths, codings) {
+        (Values::Absent, Values::Absent) => Ok(BodyLength::Absent),
+        (Values::Absent, Values::One(coding)) => length_of_coding(minor, coding),
+        (Values::Absent, Values::Several) => Err(Refusal::TransferCoding),
+        (Values::One(text), Values::Absent) => length_of_text(text),
+        _ => Err(Refusal::BadLength),
+    }
+}
+
+/// The length that the only transfer coding gives.
+fn length_of_coding(minor: u8, coding: &[u8]) -> Result<BodyLength, Refusal>
+    ensures { result ≡ length_of_coding minor coding.now }
+{
+    if minor == 1 && is_word(coding, b"chunked") {
+        Ok(BodyLength::Chunked)
+    } else {
+        Err(Refusal::TransferCoding)
+    }
+}
+
+/// The length that the text of a `Content-Length` gives.
+fn length_of_text(text: &[u8]) -> Result<BodyLength, Refusal>
+    ensures { result ≡ length_of_text text.now }
+{
+    if !is_numeral(text) {
+        return Err(Refusal::BadLength);
+    }
+    let Ok(digits) = str::from_utf8(text) else {
+        return Err(Refusal::BadLength);
+    };
+    let Ok(length) = digits.parse::<u64>() else {
+        return Err(Refusal::BodyTooLarge);
+    };
+    if length > MAX_BODY_BYTES as u64 {
+        return Err(Refusal::BodyTooLarge);
+    }
+    Ok(BodyLength::Sized(length as usize))
+}
+
+fn is_numeral(text: &[u8]) -> bool
+    ensures { result ≡ (nat_lt 0 (length text.now) && list_all is_ascii_digit text.now) }
+{
+    0 < text.len() && has_digits_only(text)
+}
+
+fn has_digits_only(text: &[u8]) -> bool
+    ensures { result ≡ list_all is_ascii_digit text.now }
+{
+    text.iter().all(u8::is_ascii_digit)
 }

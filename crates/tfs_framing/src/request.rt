@@ -1,9 +1,8 @@
-//! A request of a client.
+//! A request of a client, and the form that it gives its reply.
 
-ghost use Rattle.std.specs.Prelude.{◌≡◌, IfOk};
+ghost use Rattle.std.specs.Prelude.{◌≡◌, IfOk, false, true};
 ghost use Rattle.tfs_framing.specs.Request.{RequestValue};
 
-use crate::form::Form;
 use std::alloc::{AllocError, Global};
 use std::marker::Model;
 use tfs_calls::Bytes;
@@ -12,11 +11,11 @@ use tfs_calls::Bytes;
 /// whether the body has the digest that the head tells, if it tells one.
 #[derive(Drop)]
 pub struct Request {
-    method: Vec<u8>,
-    target: Vec<u8>,
-    body: Vec<u8>,
-    close: bool,
-    intact: bool,
+    pub(crate) method: Vec<u8>,
+    pub(crate) target: Vec<u8>,
+    pub(crate) body: Vec<u8>,
+    pub(crate) close: bool,
+    pub(crate) intact: bool,
 }
 
 impl Model for Request {
@@ -30,23 +29,21 @@ impl Model for Request {
 impl Request {
     ghost use Rattle.tfs_framing.specs.Form.{form_of};
 
-    /// A request of these parts.
+    /// A request of these parts, after whose reply the conversation goes on, and whose head tells no digest.
     pub fn new(
         alloc: Global,
         method: &[u8],
         target: &[u8],
         body: Vec<u8>,
-        close: bool,
-        intact: bool,
     ) -> Result<Request, AllocError>
-        ensures value { IfOk result (λ r. r ≡ record { method = method.now; target = target.now; body = body.items; close = close; intact = intact }) }
+        ensures value { IfOk result (λ r. r ≡ record { method = method.now; target = target.now; body = body.items; close = false; intact = true }) }
     {
         Ok(Request {
             method: Vec::from_slice(alloc, method)?,
             target: Vec::from_slice(alloc, target)?,
             body,
-            close,
-            intact,
+            close: false,
+            intact: true,
         })
     }
 
@@ -94,4 +91,13 @@ impl Request {
             bare: self.method() == b"HEAD".as_slice(),
         }
     }
+}
+
+/// What a request asks of the reply's form.
+#[derive(Clone, Copy)]
+pub struct Form {
+    /// The conversation ends after the reply (RFC 9112, section 9.6).
+    pub close: bool,
+    /// The body's bytes are left out (RFC 9110, section 9.3.2).
+    pub bare: bool,
 }

@@ -7,7 +7,7 @@ use Rattle.tfs_calls.specs.Refusal.{serial_reused, no_state, no_address, too_man
 use Rattle.tfs_calls.specs.Refusal.{table_full, journal_full, out_of_memory, journal_fault, no_copy, row_of}
 use Rattle.tfs_calls.specs.Reply.{ReplyValue, done, state, impact, refused}
 use Rattle.tfs_http.specs.ReplyText.{status_of, status_line, close_line, type_line, phrase_of, head_text}
-use Rattle.tfs_framing.specs.declared.form.Form.{Form}
+use Rattle.tfs_framing.specs.declared.request.Form.{Form}
 
 -- Seven parts added one after another, the last of which is twice a line's end, and the lines that they are.
 joined : (old a b c d e f g : List ℕ) → ((((((old ++ a) ++ b) ++ c) ++ d) ++ e) ++ f) ++ (g ++ g) ≡ old ++ (a ++ b ++ c ++ d ++ ((e ++ f) ++ g) ++ g)

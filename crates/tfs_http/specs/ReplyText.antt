@@ -10,7 +10,7 @@ use Rattle.tfs_state.specs.Dependency.{address_of}
 use Rattle.tfs_calls.specs.Reply.{ReplyValue, done, state, impact, refused}
 use Rattle.tfs_calls.specs.Refusal.{RefusalValue, locked, method_not_allowed, row_of}
 use Rattle.tfs_http.specs.Routing.{methods_of}
-use Rattle.tfs_framing.specs.declared.form.Form.{Form}
+use Rattle.tfs_framing.specs.declared.request.Form.{Form}
 
 -- A line, with its end.
 abbrev pub line : List ℕ → List ℕ

@@ -1,10 +1,10 @@
 //! Messages, each worked out by hand from RFC 9112.
 
 use crate::texts::{PUSH_AND_READ, S1};
-use std::alloc::{AllocError, Global};
+use std::alloc::Global;
 use std::process::Abort;
 use std::test::Fail;
-use tfs_framing::{Framed, Known, Take, frame, take};
+use tfs_framing::{Received, RequestDecoder, Take, take};
 
 /// A push of S1 in one chunk, of 115 bytes.
 const PUSH_IN_CHUNKS: &str =
@@ -56,43 +56,66 @@ fn a_message_is_taken_where_it_is_whole(rt: HostRuntime) -> Result<(), Fail> {
     expect_first_push(&rt, PUSH_IN_CHUNKS, 115)
 }
 
-/// What bytes begin with of which nothing is known.
-fn frame_at_once(alloc: Global, bytes: &[u8]) -> Result<Framed, AllocError> {
-    frame(alloc, bytes, Known::nothing())
+/// A decoder needs more bytes, of which it takes so many at once, and is fed with these.
+fn feed(
+    rt: &(impl Alloc<A = Global> + Abort),
+    decoder: &mut RequestDecoder,
+    bytes: &[u8],
+    wanted: usize,
+) -> Result<(), Fail> {
+    match decoder.next(rt.alloc())? {
+        Received::More(room) => {
+            assert!(rt; room == wanted, "room for {room} bytes");
+            assert!(rt; bytes.len() <= room);
+            decoder.feed(bytes);
+            Ok(())
+        }
+        _ => panic!(rt; "{} bytes complete a message", bytes.len()),
+    }
 }
 
-/// Of the first so many bytes of a text so many are wanted.
+/// A decoder has a push of S1, and no bytes behind it.
+fn expect_received(
+    rt: &(impl Alloc<A = Global> + Abort),
+    decoder: &mut RequestDecoder,
+) -> Result<(), Fail> {
+    match decoder.next(rt.alloc())? {
+        Received::Message(request) => {
+            assert!(rt; request.into_body().as_slice() == S1.as_bytes());
+            assert!(rt; decoder.is_empty());
+            Ok(())
+        }
+        _ => panic!(rt; "the push is whole"),
+    }
+}
+
+/// Of a text that begins with a push of so many bytes, behind the first so many so many are taken at once; the rest of the push
+/// completes it.
 fn expect_wanted(
     rt: &(impl Alloc<A = Global> + Abort),
     text: &str,
+    len: usize,
     (n, wanted): (usize, usize),
 ) -> Result<(), Fail> {
-    assert!(rt; n <= text.len());
-    match frame_at_once(rt.alloc(), &text.as_bytes()[..n])? {
-        Framed::Want(found, _) => Ok(assert!(rt; found == wanted, "{n} bytes")),
-        _ => panic!(rt; "{n} bytes are no message yet"),
-    }
+    assert!(rt; n <= len && len <= text.len());
+    let mut decoder = RequestDecoder::new(rt.alloc());
+    feed(rt, &mut decoder, &text.as_bytes()[..n], 65_536)?;
+    feed(rt, &mut decoder, &text.as_bytes()[n..len], wanted)?;
+    expect_received(rt, &mut decoder)
 }
 
 #[test]
 fn what_a_head_tells_of_is_wanted_at_once(rt: HostRuntime) -> Result<(), Fail> {
-    for row in [(0, 1), (1, 2), (54, 55), (55, 96), (95, 96)] {
-        expect_wanted(&rt, PUSH_AND_READ, row)?;
+    for row in [(0, 65_536), (1, 65_536), (54, 65_536), (55, 41), (95, 1)] {
+        expect_wanted(&rt, PUSH_AND_READ, 96, row)?;
     }
     Ok(())
 }
 
 #[test]
 fn a_chunk_is_wanted_with_its_end(rt: HostRuntime) -> Result<(), Fail> {
-    for row in [
-        (63, 64),
-        (66, 67),
-        (67, 110),
-        (109, 110),
-        (110, 111),
-        (113, 114),
-    ] {
-        expect_wanted(&rt, PUSH_IN_CHUNKS, row)?;
+    for n in [63, 66, 67, 109, 110, 113] {
+        expect_wanted(&rt, PUSH_IN_CHUNKS, 115, (n, 65_536))?;
     }
     Ok(())
 }

@@ -15,7 +15,7 @@ use tfs_state::{Doc, MAX_STATE_BYTES};
 fn has_no_route(rt: &(impl Alloc<A = Global> + Abort), target: &[u8]) -> Result<(), Fail> {
     let routes = Routes::new(rt.alloc())?;
     let body = Vec::new(rt.alloc());
-    let request = Request::new(rt.alloc(), b"GET", target, body, false, true)?;
+    let request = Request::new(rt.alloc(), b"GET", target, body)?;
     let refusal = call_of(rt.alloc(), &routes, request).err();
     assert!(rt; matches!(refusal, Some(Refusal::NoRoute)));
     Ok(())

@@ -1,0 +1,160 @@
+//! What bytes begin with, told of all of them at once, or by a decoder as they come.
+
+ghost use Rattle.std.specs.Prelude.{◌≡◌, ℕ, List, [], ◌++◌, IfOk, OnErr};
+ghost use Rattle.std.specs.Borrow.{ftrue};
+ghost use Rattle.std.specs.Coded.{coded_ℕ, coded_list};
+ghost use Rattle.tfs_framing.specs.Framing.{BeginsWith, Frames};
+ghost use Rattle.tfs_framing.specs.Request.{RequestValue};
+
+use crate::framing::{Framed, Received, Take, frame};
+use crate::head::Search;
+use crate::state::{State, put, step};
+use bytes::BytesMut;
+use std::alloc::{AllocError, Global};
+use std::marker::Model;
+
+/// What the bytes begin with: a message with its length, its refusal, or neither yet. The answer to a message's own bytes
+/// is that message, whatever comes behind it.
+pub fn take(alloc: Global, bytes: &[u8]) -> Result<Take, AllocError>
+    ensures ok { IfOk result (Frames bytes.now) }
+    ensures memory { OnErr result ((request : RequestValue) × (used : ℕ) × BeginsWith bytes.now request used) }
+{
+    match frame(alloc, bytes, Search::start())? {
+        Framed::Sought(_) | Framed::Sized(_) | Framed::Chunked(_, _, _, _) => Ok(Take::Need),
+        Framed::Got(request, used) => Ok(Take::Got(request, used)),
+        Framed::Fault(refusal) => Ok(Take::Fault(refusal)),
+    }
+}
+
+/// It is fed with the bytes of a connection in any pieces, and gives the messages that they begin with, one after the other.
+#[derive(Drop)]
+pub struct RequestDecoder {
+    state: State,
+    /// The bytes that were fed and aren't used, but for those that the state keeps.
+    unused: BytesMut,
+    /// There is room for so many more.
+    room: usize,
+    fed: Fed,
+}
+
+impl Model for RequestDecoder {
+    ghost use Rattle.std.specs.Prelude.{◌≤◌, length};
+    ghost use Rattle.tfs_framing.specs.Decoder.{DecoderValue, HasRoomFor, IsAt};
+
+    ghost Value = { DecoderValue };
+
+    ghost view = { λ d. record { bytes = d.fed.bytes; room = d.room; unused = length d.unused.items } };
+
+    ghost invariant = { λ d. IsAt d.fed.bytes d.state d.unused.items × HasRoomFor d.room d.state d.unused.spare };
+}
+
+impl RequestDecoder {
+    ghost use Rattle.std.specs.Prelude.{◌≡◌, ◌≤◌, ◌++◌, ◌==◌, [], length, IfOk, OnErr};
+    ghost use Rattle.tfs_framing.specs.Decoder.{Gives, HasNoRefusal};
+
+    /// It was fed with no bytes.
+    pub fn new(alloc: Global) -> RequestDecoder
+        ensures value { result ≡ record { bytes = []; room = 0; unused = 0 } }
+    {
+        RequestDecoder {
+            state: State::start(),
+            unused: BytesMut::new(alloc),
+            room: 0,
+            fed: Fed::new(),
+        }
+    }
+
+    /// What comes of the bytes. Where more are needed, there is room for them then.
+    pub fn next(&mut self, alloc: Global) -> Result<Received, AllocError>
+        ensures ok { IfOk result (Gives self.old.bytes self.new) }
+        ensures memory { OnErr result (HasNoRefusal self.old.bytes) }
+    {
+        self.room = 0;
+        let received = match step(alloc, &mut self.state, &mut self.unused) {
+            Ok(received) => received,
+            Err(fault) => {
+                self.state = State::start();
+                self.fed = Fed::of(self.unused.as_slice());
+                return Err(fault);
+            }
+        };
+        match received {
+            Received::More(room) => {
+                self.room = room;
+                Ok(Received::More(room))
+            }
+            Received::Message(request) => {
+                self.state = State::start();
+                self.fed = Fed::of(self.unused.as_slice());
+                Ok(Received::Message(request))
+            }
+            Received::Refused(refusal) => {
+                self.state = State::start();
+                self.fed = Fed::of(self.unused.as_slice());
+                Ok(Received::Refused(refusal))
+            }
+        }
+    }
+
+    /// Takes bytes behind the others.
+    pub fn feed(&mut self, bytes: &[u8])
+        requires room { length bytes.now ≤ self.old.room }
+        ensures bytes { self.new.bytes ≡ self.old.bytes ++ bytes.now }
+    {
+        put(&mut self.state, &mut self.unused, bytes);
+        self.room = 0;
+        self.fed = self.fed.then(&Piece { text: bytes });
+    }
+
+    /// Whether no message has begun.
+    pub fn is_empty(&self) -> bool
+        ensures value { result ≡ (length self.now.bytes == 0) }
+    {
+        match &self.state {
+            State::Head(_) => self.unused.is_empty(),
+            State::Sized(_) | State::Chunks(_) => false,
+        }
+    }
+}
+
+/// The bytes that a decoder was fed with; a clause reads them as `bytes`. Only proofs do: they take no memory, and the methods do
+/// nothing at run time.
+#[derive(Drop)]
+pub(crate) struct Fed {
+    pub(crate) ghost bytes: { List ℕ } by { coded_list coded_ℕ },
+}
+
+impl Model for Fed {
+    ghost also_owns = { λ _. ftrue };
+}
+
+/// Bytes that come behind those.
+#[derive(Clone, Copy, Drop)]
+pub(crate) struct Piece<'b> {
+    pub(crate) text: &'b [u8],
+}
+
+impl Fed {
+    /// No bytes.
+    #[inline(always)]
+    pub(crate) fn new() -> Fed
+        ensures { result.bytes ≡ [] }
+    {
+        Fed {}
+    }
+
+    /// The bytes with a piece behind them.
+    #[inline(always)]
+    pub(crate) fn then(&self, _piece: &Piece<'_>) -> Fed
+        ensures { result.bytes ≡ self.now.bytes ++ _piece.now.text.now }
+    {
+        Fed {}
+    }
+
+    /// These bytes.
+    pub(crate) fn of(text: &[u8]) -> Fed
+        ensures { result.bytes ≡ text.now }
+    {
+        Fed::new().then(&Piece { text })
+    }
+}
