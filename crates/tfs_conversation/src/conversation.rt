@@ -149,9 +149,9 @@ fn turn<R: Source, W: Outlet, D: Desk>(
     };
     match arrived {
         Arrived::Message(request) => {
-            let asks_to_close = request.form().close;
-            match reply_to(connection, writer, desk, request) {
-                Ok(()) => Ok(end_after(asks_to_close)),
+            let form = request.form();
+            match reply_to(connection, writer, desk, request, form) {
+                Ok(()) => Ok(end_after(form.close)),
                 Err(fault) => Err(fault),
             }
         }
@@ -183,14 +183,16 @@ fn end_after(asks_to_close: bool) -> Option<Ended>
     }
 }
 
-/// Answers a request, and writes the text of the reply.
+/// Answers a request, and writes the text of the reply in the form that it asks for.
 fn reply_to<W: Outlet, D: Desk>(
     connection: &mut Connection,
     writer: &mut W,
     desk: &mut D,
     request: Request,
+    form: Form,
 ) -> Result<(), ServeFault>
-    requires { length request.body ≤ 16777216 }
+    requires body { length request.body ≤ 16777216 }
+    requires form { form ≡ form_of request }
     ensures ok { OnOk result ((reply : ReplyValue) × AnswersRequest D.step desk.old request reply desk.new
         × Appends (W.contents writer.old) (W.contents writer.new) (reply_text reply (form_of request))) }
     ensures err { IfErr result (λ fault. (reply : ReplyValue) × AnswersRequest D.step desk.old request reply desk.new
@@ -198,7 +200,6 @@ fn reply_to<W: Outlet, D: Desk>(
     ensures input { connection.new.input ≡ connection.old.input }
     ensures writer { TellsWriter result (W.failed writer.old) (W.failed writer.new) }
 {
-    let form = request.form();
     let reply = answer(connection.alloc, &connection.routes, desk, request);
     if let Err(fault) = send(connection.alloc, &mut connection.text, writer, &reply, form) {
         return Err(fault);

@@ -97,7 +97,8 @@ pub head_found : (bytes front rest after behind : List ℕ) (byte : ℕ) (end : 
     → (head : List ℕ) × (tail : List ℕ) × (bytes ≡ head ++ tail) × (length head ≡ length bytes - length behind) × IsMessageHead head
 head_found bytes front left after behind byte end passed cut same split =
     let whole : bytes ≡ (front ++ line_feed ∷ print_end end) ++ behind =
-    passed.parts ∙ ap (λ t. front ++ t) (cut ∙ ap (λ b. b ∷ after) same) ∙ ap (λ t. front ++ line_feed ∷ t) split ∙ sym (append_assoc front (line_feed ∷ print_end end) behind) in
+    passed.parts ∙ ap (λ t. front ++ t) (cut ∙ ap (λ b. b ∷ after) same) ∙ ap (λ t. front ++ line_feed ∷ t) split
+    ∙ sym (append_assoc front (line_feed ∷ print_end end) behind) in
     let long : length bytes ≡ length (front ++ line_feed ∷ print_end end) + length behind = ap length whole ∙ length-append _ _ in (
       front ++ line_feed ∷ print_end end,
       behind,

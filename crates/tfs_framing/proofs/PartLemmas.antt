@@ -103,7 +103,8 @@ begun_whole count total lacking line seen left bytes behind b is_long split =
       refl,
       (
         record { line = b.is_line; size = omega arith; some = omega arith },
-        ap (λ t. print_chunk_line line ++ t) (ap (λ t. seen ++ t) split ∙ sym (append_assoc seen bytes (print_end crlf ++ behind))) ∙ sym (chunk_split c behind),
+        ap (λ t. print_chunk_line line ++ t) (ap (λ t. seen ++ t) split ∙ sym (append_assoc seen bytes (print_end crlf ++ behind)))
+            ∙ sym (chunk_split c behind),
         b.few,
         omega arith,
       ),

@@ -17,7 +17,6 @@ use Rattle.tfs_framing.specs.declared.lines.BodyLength.TheVariants.{Chunked}
 use Rattle.tfs_framing.proofs.Next.{next_end, ComesNext, IsOpen, Walked}
 use Rattle.tfs_framing.proofs.KnownLemmas.{feed_more, line_more, none_more}
 use Rattle.tfs_framing.proofs.PartLemmas.{begun_open, begun_whole, begun_bad, no_line_yet, nothing_seen, open_without_line}
-use Rattle.tfs_framing.proofs.SoughtLemmas.{none_at_first}
 use Rattle.tfs_framing.proofs.WalkLemmas.{joined_more, no_body_here, walk_flawed, walk_on, whole_there}
 
 -- The limits hold.
@@ -60,16 +59,10 @@ line_wanted rest count body none left seen is p feed short = (
 )
 
 -- What can't be there.
-pub line_flawed : (rest : List ℕ) (count : ℕ) (body left : List ℕ) (seen : ℕ) (flaw : Flaw) → IsPassed rest count body (Ahead.Line seen) left
-    → IsFlawAt count (length body) left flaw → HasFlaw rest flaw
-line_flawed rest count body left seen flaw p is =
-    walk_flawed rest left count (length body) p.chunks flaw (walked rest body left count p.chunks p.are p.count_is p.stands.0 p.stands.1) is
-
--- The last line was passed.
-pub last_begins : (rest : List ℕ) (count : ℕ) (body left : List ℕ) (seen len : ℕ) (line : ChunkLine) → IsPassed rest count body (Ahead.Line seen) left
-    → IsLineAt left len 0 line → IsPassed rest count body (Ahead.Trailer len 0) left
-last_begins rest count body left seen len line p at =
-    record { chunks = p.chunks; are = p.are; count_is = p.count_is; stands = (p.stands.0, p.stands.1, line, at, none_at_first (line_feed ∷ at.after)) }
+pub passed_flawed : (rest : List ℕ) (count : ℕ) (body left : List ℕ) (ahead : Ahead) (flaw : Flaw) → (p : IsPassed rest count body ahead left)
+    → rest ≡ print_chunks p.chunks ++ left → body ≡ joined p.chunks → IsFlawAt count (length body) left flaw → HasFlaw rest flaw
+passed_flawed rest count body left ahead flaw p parts is flawed =
+    walk_flawed rest left count (length body) p.chunks flaw (walked rest body left count p.chunks p.are p.count_is parts is) flawed
 
 -- The line of a chunk was passed.
 pub chunk_begins : (rest : List ℕ) (count : ℕ) (body left : List ℕ) (seen len size : ℕ) (line : ChunkLine) → IsPassed rest count body (Ahead.Line seen) left
@@ -119,12 +112,6 @@ last_there rest count body left after len passed p next =
       whole.1,
       subst (SpellsChunks whole.0) (sym p.stands.1) whole.2,
     )
-
--- The trailer is too long.
-pub last_flawed : (rest : List ℕ) (count : ℕ) (body left : List ℕ) (len passed : ℕ) (flaw : Flaw) → IsPassed rest count body (Ahead.Trailer len passed) left
-    → IsFlawAt count (length body) left flaw → HasFlaw rest flaw
-last_flawed rest count body left len passed flaw p is =
-    walk_flawed rest left count (length body) p.chunks flaw (walked rest body left count p.chunks p.are p.count_is p.stands.0 p.stands.1) is
 
 -- Before a chunk that has begun the others are walked.
 begun_walked : (rest : List ℕ) (count : ℕ) (body left : List ℕ) (lacking : ℕ) → (p : IsPassed rest count body (Ahead.Bytes lacking) left)
@@ -231,6 +218,12 @@ part_behind rest count body left behind (Ok (Part.Wanted bytes ahead after)) end
 part_behind rest count body left behind (Ok (Part.Chunk bytes after)) ends p = (ends_on left behind after.now ends p.0, p.1)
 part_behind rest count body left behind (Ok (Part.Last after)) ends p = (ends_on left behind after.now ends p.0, p.1, p.2, p.3)
 part_behind rest count body left behind (Err flaw) ends p = p
+
+-- What the next part is, behind what was passed.
+pub part_told : (rest left : List ℕ) (b : ChunkedBody) (h : HasPassed rest b left) (part told : Part) → part ≡ told
+    → ((t body : List ℕ) → IsPassed t b.count body b.ahead left → b.total ≡ length body → IsPart t b.count body left (Ok part))
+    → IsPart rest b.count h.body left (Ok told)
+part_told rest left b h part told is ensures = subst (λ (p : Part). IsPart rest b.count h.body left (Ok p)) is (ensures rest h.body h.passed h.total_is)
 
 -- Bytes that are passed are joined.
 pub pushed : (rest : List ℕ) (b : ChunkedBody) (left bytes after : List ℕ) (count : ℕ) (ahead : Ahead) (body : Joined) → (h : HasPassed rest b left)

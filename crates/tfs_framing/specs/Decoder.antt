@@ -1,5 +1,5 @@
 -- What a decoder of requests knows of the bytes that it was fed with, and what comes of them.
-use Rattle.std.specs.Prelude.{◌≡◌, ◌≤◌, ◌<◌, ◌+◌, ◌⊎◌, ℕ, List, ◌++◌, length, take, drop, vec_capacity}
+use Rattle.std.specs.Prelude.{◌≡◌, ◌≤◌, ◌<◌, ◌+◌, ◌⊎◌, ℕ, List, ◌++◌, length, take, drop, vec_capacity, Result, Ok, Err}
 use Rattle.tfs_framing.specs.Decoded.{Decodes}
 use Rattle.tfs_framing.specs.Parts.{EndsWith}
 use Rattle.tfs_framing.specs.Framing.{BeginsWith, IsSizedHead, IsUnfinished, framing_refusal}
@@ -63,3 +63,10 @@ Comes bytes unused spare state (Received.More room) = IsUnfinished bytes × IsAt
     × (length unused < 17408)
 Comes bytes unused spare state (Received.Message r) = (used : ℕ) × BeginsWith bytes r used × (unused ≡ drop used bytes)
 Comes bytes unused spare state (Received.Refused refusal) = framing_refusal bytes refusal
+
+-- For how many more bytes there is room: for none but where more are needed.
+abbrev pub room_told : {E : Type 0} → Result Received E → ℕ
+room_told (Ok (Received.More room)) = room
+room_told (Ok (Received.Message r)) = 0
+room_told (Ok (Received.Refused refusal)) = 0
+room_told (Err fault) = 0

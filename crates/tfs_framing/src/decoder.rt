@@ -3,6 +3,7 @@
 ghost use Rattle.std.specs.Prelude.{◌≡◌, ℕ, List, [], ◌++◌, IfOk, OnErr};
 ghost use Rattle.std.specs.Borrow.{ftrue};
 ghost use Rattle.std.specs.Coded.{coded_ℕ, coded_list};
+ghost use Rattle.tfs_framing.specs.Decoder.{room_told};
 ghost use Rattle.tfs_framing.specs.Framing.{BeginsWith, Frames};
 ghost use Rattle.tfs_framing.specs.Request.{RequestValue};
 
@@ -69,31 +70,14 @@ impl RequestDecoder {
         ensures ok { IfOk result (Gives self.old.bytes self.new) }
         ensures memory { OnErr result (HasNoRefusal self.old.bytes) }
     {
-        self.room = 0;
-        let received = match step(alloc, &mut self.state, &mut self.unused) {
-            Ok(received) => received,
-            Err(fault) => {
-                self.state = State::start();
-                self.fed = Fed::of(self.unused.as_slice());
-                return Err(fault);
-            }
-        };
-        match received {
-            Received::More(room) => {
-                self.room = room;
-                Ok(Received::More(room))
-            }
-            Received::Message(request) => {
-                self.state = State::start();
-                self.fed = Fed::of(self.unused.as_slice());
-                Ok(Received::Message(request))
-            }
-            Received::Refused(refusal) => {
-                self.state = State::start();
-                self.fed = Fed::of(self.unused.as_slice());
-                Ok(Received::Refused(refusal))
-            }
+        let received = step(alloc, &mut self.state, &mut self.unused);
+        self.room = room_told(&received);
+        if self.room > 0 {
+            return received;
         }
+        self.state.forget();
+        self.fed = Fed::of(self.unused.as_slice());
+        received
     }
 
     /// Takes bytes behind the others.
@@ -114,6 +98,16 @@ impl RequestDecoder {
             State::Head(_) => self.unused.is_empty(),
             State::Sized(_) | State::Chunks(_) => false,
         }
+    }
+}
+
+/// For how many more bytes there is room: for none but where more are needed.
+fn room_told(received: &Result<Received, AllocError>) -> usize
+    ensures { result ≡ room_told received.now }
+{
+    match received {
+        Ok(Received::More(room)) => *room,
+        _ => 0,
     }
 }
 

@@ -127,7 +127,7 @@ fn frame_body(
     let start = bytes.len() - rest.len();
     let skipped = start - head.len();
     match lines.size {
-        BodyLength::Absent => got(alloc, lines, Vec::new(alloc), start),
+        BodyLength::Absent => got(alloc, &lines, Vec::new(alloc), start),
         BodyLength::Sized(size) => {
             if rest.len() < size {
                 let len = head.len();
@@ -135,7 +135,7 @@ fn frame_body(
             }
             let (body, after) = rest.split_at(size);
             let body = Vec::from_slice(alloc, body)?;
-            got(alloc, lines, body, bytes.len() - after.len())
+            got(alloc, &lines, body, bytes.len() - after.len())
         }
         BodyLength::Chunked => match decode_body(ChunkedBody::start(alloc), rest) {
             Ok(Decoded::Wanted(decoded, left)) => {
@@ -143,7 +143,7 @@ fn frame_body(
             }
             Ok(Decoded::Whole(joined, left)) => {
                 let body = joined.into_bytes()?;
-                got(alloc, lines, body, bytes.len() - left)
+                got(alloc, &lines, body, bytes.len() - left)
             }
             Err(flaw) => Ok(Framed::Fault(refusal_of(flaw))),
         },
@@ -151,8 +151,8 @@ fn frame_body(
 }
 
 /// The message of a head and its body, which has so many bytes.
-fn got(alloc: Global, lines: Lines<'_>, body: Vec<u8>, used: usize) -> Result<Framed, AllocError>
-    ensures { (bytes : List ℕ) (h : RequestHead) → IsToldBy lines.entry h → BeginsWith bytes (request_of h body.items) used
+fn got(alloc: Global, lines: &Lines<'_>, body: Vec<u8>, used: usize) -> Result<Framed, AllocError>
+    ensures { (bytes : List ℕ) (h : RequestHead) → IsToldBy lines.now h → BeginsWith bytes (request_of h body.items) used
         → IfOk result (IsFramed bytes) × OnErr result ((request : RequestValue) × (used : ℕ) × BeginsWith bytes request used) }
 {
     Ok(Framed::Got(request_of(alloc, lines, body)?, used))
@@ -164,7 +164,7 @@ pub(crate) fn receive(alloc: Global, head: &[u8], body: Vec<u8>) -> Result<Recei
 {
     match read_head(head) {
         Ok(lines) => {
-            let request = request_of(alloc, lines, body)?;
+            let request = request_of(alloc, &lines, body)?;
             Ok(Received::Message(request))
         }
         Err(refusal) => Ok(Received::Refused(refusal)),
@@ -182,8 +182,8 @@ pub(crate) fn refusal_of(flaw: Flaw) -> Refusal
 }
 
 /// The request of a head and its body.
-fn request_of(alloc: Global, lines: Lines<'_>, body: Vec<u8>) -> Result<Request, AllocError>
-    ensures { (h : RequestHead) → IsToldBy lines.entry h → IfOk result (λ request. request ≡ request_of h body.items) }
+fn request_of(alloc: Global, lines: &Lines<'_>, body: Vec<u8>) -> Result<Request, AllocError>
+    ensures { (h : RequestHead) → IsToldBy lines.now h → IfOk result (λ request. request ≡ request_of h body.items) }
 {
     let intact = fits_digest(lines.digest, body.as_slice());
     Ok(Request {

@@ -53,6 +53,17 @@ impl State {
     {
         State::Head(Search::start())
     }
+
+    /// Makes that nothing is known.
+    pub(crate) fn forget(&mut self)
+        ensures at { (bytes : List ℕ) → IsAt bytes self.new bytes }
+        ensures room { (spare : ℕ) → HasRoomFor 0 self.new spare }
+    {
+        match self {
+            State::Head(search) => *search = Search::start(),
+            State::Sized(_) | State::Chunks(_) => *self = State::start(),
+        }
+    }
 }
 
 /// What comes of the bytes. What is known then of those that are left is said where more are needed.

@@ -12,7 +12,7 @@ returns-clause-ok g c = (
   reply_value c.answer-reply.result,
   c.answer-reply.ensures,
   subst (λ (f : Form). Appends (g.W.Outlet.contents c.args.writer.now) (g.W.Outlet.contents c.send.new.writer)
-      (reply_text (reply_value c.answer-reply.result) f)) c.form-form.ensures.value
+      (reply_text (reply_value c.answer-reply.result) f)) c.requires.form
       c.in_default.ensures.ok,
 )
 
@@ -21,6 +21,6 @@ returns-in-Err-clause-err g c = (
   reply_value c.answer-reply.result,
   c.answer-reply.ensures,
   subst (λ (f : Form). WritesPart (g.W.Outlet.contents c.args.writer.now) (g.W.Outlet.contents c.send.new.writer)
-      (reply_text (reply_value c.answer-reply.result) f) c.in-Err.fault) c.form-form.ensures.value
+      (reply_text (reply_value c.answer-reply.result) f) c.in-Err.fault) c.requires.form
       c.in-Err.ensures.err,
 )

@@ -32,8 +32,8 @@ returns-in-Err-clause-fault g c =
 
 -- ---- a message
 
-pub reply_to-requires : goal.reply_to-requires
-reply_to-requires g c =
+pub reply_to-requires-clause-body : goal.reply_to-requires-clause-body
+reply_to-requires-clause-body g c =
     let read = c.in-Ok-Some.ensures.bytes in
     let message = some_arrives (c.args.connection.now.input ++ read.0) c.arrive.new.self c.in-Ok-Some.field-0 c.in-Ok-Some.arrived
     (Arrived.Message c.in-Message.request) c.in-Ok-Some.field-0-is c.in-Message.is read.3 in
@@ -58,7 +58,7 @@ returns-in-Ok-clause-went g c e =
     (g.W.Outlet.contents c.reply_to.new.writer) c.arrive.new.reads (c.args.connection.now.input ++ read.0)
     c.reply_to.new.connection.input c.in-Message.request message.0
     reply.0 message.1 (c.in-Ok.ensures.input ∙ message.2) reply.1 reply.2
-    (sym (ap (λ (f : Form). f.close) c.form-asks_to_close.ensures.value) ∙ not_asked c.form-asks_to_close.result.close c.end_after.result
+    (sym (ap (λ (f : Form). f.close) c.form-form.ensures.value) ∙ not_asked c.form-form.result.close c.end_after.result
     c.end_after.ensures (ap (λ r. unwrap_or (result_ok r) None) e)))
 
 pub returns-in-Ok-clause-less : goal.returns-in-Ok-clause-less
@@ -79,7 +79,7 @@ returns-in-Ok-clause-ended g c =
     (moment c.args.desk.now (g.R.Source.remaining c.args.reader.now) (g.W.Outlet.contents c.args.writer.now) c.args.reads.now c.args.connection.now.input)
     (moment c.reply_to.new.desk (g.R.Source.remaining c.arrive.new.reader) (g.W.Outlet.contents c.reply_to.new.writer)
     c.arrive.new.reads c.reply_to.new.connection.input))
-    c.form-asks_to_close.result.close c.end_after.result c.end_after.ensures
+    c.form-form.result.close c.end_after.result c.end_after.ensures
     (λ asks. went_then_ended g.D.Desk.step
     (moment c.args.desk.now (g.R.Source.remaining c.args.reader.now) (g.W.Outlet.contents c.args.writer.now) c.args.reads.now c.args.connection.now.input)
     (moment c.args.desk.now (g.R.Source.remaining c.arrive.new.reader) (g.W.Outlet.contents c.args.writer.now)
@@ -93,7 +93,7 @@ returns-in-Ok-clause-ended g c =
     (g.W.Outlet.contents c.reply_to.new.writer) c.arrive.new.reads (c.args.connection.now.input ++ read.0)
     c.reply_to.new.connection.input c.in-Message.request message.0
     reply.0 message.1 (c.in-Ok.ensures.input ∙ message.2) reply.1 reply.2
-    (sym (ap (λ (f : Form). f.close) c.form-asks_to_close.ensures.value) ∙ asks)))
+    (sym (ap (λ (f : Form). f.close) c.form-form.ensures.value) ∙ asks)))
 
 pub returns-in-Message-clause-fault : goal.returns-in-Message-clause-fault
 returns-in-Message-clause-fault g c =

@@ -1,6 +1,6 @@
 -- The trailer ends in its first bytes, or isn't whole yet, or is too long.
 use Rattle.std.proofs.Common.{arith, ap, length, ◌∙◌}
-use Rattle.tfs_framing.proofs.PassedLemmas.{last_flawed, last_there, last_wanted, passed_fits}
+use Rattle.tfs_framing.proofs.PassedLemmas.{last_there, last_wanted, passed_fits, passed_flawed}
 use Rattle.tfs_framing.proofs.TrailerLemmas.{from_line_feed, trailer_found, no_trailer, end_there, trailer_wanted, trailer_bad, trailer_passed, trailer_sought}
 use Rattle.tfs_framing.proofs.chunks.last_behind.Goals as goal
 
@@ -37,5 +37,6 @@ returns-else-from-le-MAX_TRAILER_BYTES c = λ rest count body p.
     let starts = c.split_at.ensures.back ∙ from_line_feed _ _ _ line at in
     let sizes = ap length starts in
     let many = c.if-from-le-MAX_TRAILER_BYTES.false in
-    last_flawed rest count body _ _ _ _ p (trailer_bad count (length body) c.args.len _ line at (passed_fits rest count body _ _ p).1 (omega arith)
+    passed_flawed rest count body _ _ _ p p.stands.0 p.stands.1
+    (trailer_bad count (length body) c.args.len _ line at (passed_fits rest count body _ _ p).1 (omega arith)
     (no_trailer _ _ at.after _ c.min.ensures c.split_at-2.ensures.front starts c.in-None.ensures.absent))

@@ -5,7 +5,7 @@ use Rattle.tfs_framing.specs.Parts.{IsPassed}
 use Rattle.tfs_framing.specs.declared.chunks.Ahead.{Ahead}
 use Rattle.tfs_framing.specs.declared.chunks.Flaw.TheVariants.{TooLarge, Unreadable}
 use Rattle.tfs_framing.proofs.PartLemmas.{behind_line, line_has_bytes}
-use Rattle.tfs_framing.proofs.PassedLemmas.{chunk_begins, line_flawed, line_wanted, part_behind, passed_fits}
+use Rattle.tfs_framing.proofs.PassedLemmas.{chunk_begins, line_wanted, part_behind, passed_fits, passed_flawed}
 use Rattle.tfs_framing.proofs.chunks.part_at.Goals as goal
 
 pub last_behind-requires-clause-some : goal.last_behind-requires-clause-some
@@ -39,7 +39,8 @@ returns-then-size-total c = λ rest body p total.
     let at = rw c.in-Some.is at c.in_ok-len.ensures.found in
     let large = c.if-size-total.true in
     let size = at.1.size_is in
-    line_flawed rest c.args.count body c.args.left.now _ TooLarge known (inr (at.0, at.1.after, at.1.is_line, at.1.parts, omega arith))
+    passed_flawed rest c.args.count body c.args.left.now _ TooLarge known known.stands.0 known.stands.1
+    (inr (at.0, at.1.after, at.1.is_line, at.1.parts, omega arith))
 
 pub last_behind-requires-then-size-eq0-clause-some : goal.last_behind-requires-then-size-eq0-clause-some
 last_behind-requires-then-size-eq0-clause-some c =
@@ -55,7 +56,7 @@ returns-then-count-eq-MAX_CHUNKS c = λ rest body p total.
     let fits = c.if-size-total.false in
     let some = c.if-size-eq0.false in
     let size = at.1.size_is in
-    line_flawed rest c.args.count body c.args.left.now _ Unreadable known
+    passed_flawed rest c.args.count body c.args.left.now _ Unreadable known known.stands.0 known.stands.1
     (inr (at.0, at.1.after, at.1.is_line, at.1.parts, (omega arith, inl (omega arith, c.if-count-eq-MAX_CHUNKS.true))))
 
 pub returns : goal.returns

@@ -29,4 +29,5 @@ returns-in-None c = λ rest count body p.
     let front = c.split_at.ensures.front_len in
     let back = c.split_at.ensures.back_len in
     chunk_flawed rest count body _ _ p
-    (bad_end c.args.lacking c.args.left.now c.split_at.result.0.now c.split_at.result.1.now (halves _ _ _ _ c.split_at.ensures.front c.split_at.ensures.back) (omega arith) (omega arith) c.in-None.ensures.absent)
+    (bad_end c.args.lacking c.args.left.now c.split_at.result.0.now c.split_at.result.1.now (halves _ _ _ _ c.split_at.ensures.front c.split_at.ensures.back)
+    (omega arith) (omega arith) c.in-None.ensures.absent)

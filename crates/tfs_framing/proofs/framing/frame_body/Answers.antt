@@ -39,7 +39,8 @@ returns-in_ok-body-in-Sized c =
     let enough = c.if-rest-size.false in
     let size = c.split_at.ensures.front_len in
     let same = ap length c.in_ok-body-in-Sized.ensures.items in
-    let both = c.got-in-Sized.ensures _ reads.0 reads.2 (begins_so _ c.requires.has.0 _ _ c.split_at.result.0.now c.in_ok-body-in-Sized.body.items _ reads.0 _ _ c.requires.has.1 reads.1 c.in-Sized.is
+    let both = c.got-in-Sized.ensures _ reads.0 reads.2
+    (begins_so _ c.requires.has.0 _ _ c.split_at.result.0.now c.in_ok-body-in-Sized.body.items _ reads.0 _ _ c.requires.has.1 reads.1 c.in-Sized.is
     (halves _ _ _ _ c.split_at.ensures.front c.split_at.ensures.back) (sym c.in_ok-body-in-Sized.ensures.items, omega arith)) in
     record { ok = both.0; memory = both.1 }
 
@@ -65,8 +66,7 @@ overflow_sub-bytes-in-Ok-Whole c =
     let told = subst (λ (d : Decoded). IsDecoded c.args.rest.now c.args.rest.now (Ok d)) c.in-Ok-Whole.field-0-is
     (c.in-Ok-Whole.ensures c.args.rest.now (c.start.ensures c.args.rest.now)) in
     let few = few_left _ told.0 (ends_all _ c.requires.has.0 _ _ told.0 c.requires.has.1 told.1) in
-    let is = told.2 in
-    omega arith
+    omega (arith, told.2)
 
 pub returns-in_ok-body-in-Ok-Whole : goal.returns-in_ok-body-in-Ok-Whole
 returns-in_ok-body-in-Ok-Whole c =
@@ -77,7 +77,8 @@ returns-in_ok-body-in-Ok-Whole c =
     let begins = begins_so _ c.requires.has.0 _ _ told.3 _ told.0 reads.0 _ _ c.requires.has.1 reads.1 c.in-Chunked.is told.5
     (subst (SpellsChunks told.3) (sym (body.1 ∙ told.7 body.0)) told.6) in
     let both = c.got-in-Ok-Whole.ensures _ reads.0 reads.2
-    (subst (λ (n : ℕ). BeginsWith c.args.bytes.now (request_of reads.0 c.in_ok-body-in-Ok-Whole.body.items) (length c.args.bytes.now - n)) (sym told.2) begins) in
+    (subst (λ (n : ℕ). BeginsWith c.args.bytes.now (request_of reads.0 c.in_ok-body-in-Ok-Whole.body.items) (length c.args.bytes.now - n))
+    (sym told.2) begins) in
     record { ok = both.0; memory = both.1 }
 
 pub returns-in-Err-clause-ok : goal.returns-in-Err-clause-ok

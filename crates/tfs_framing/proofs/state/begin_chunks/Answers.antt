@@ -16,7 +16,8 @@ returns-clause-ok c =
     let told = c.requires.left in
     let size = told.2 in
     let little = told.3 in
-    let items : c.reserve.new.self.items ≡ told.0 = c.in_ok-reserve.ensures.items ∙ c.advance.ensures.items ∙ left_behind _ told.0 _ _ c.len.ensures.value told.1 told.2 in
+    let items : c.reserve.new.self.items ≡ told.0 =
+    c.in_ok-reserve.ensures.items ∙ c.advance.ensures.items ∙ left_behind _ told.0 _ _ c.len.ensures.value told.1 told.2 in
     let sizes = ap (λ (t : List ℕ). length t) items in (
       c.requires.unfinished,
       subst (λ (t : List ℕ). Decodes c.args.unused.now.items c.args.chunks.head.items c.args.chunks.decoded t) (sym items) told.4,

@@ -8,7 +8,8 @@ pub returns-clause-ok : goal.returns-clause-ok
 returns-clause-ok c =
     let all = c.args.unused.now.items in
     let few : length all < (c.args.head.skipped + c.args.head.len) + c.args.head.size =
-    subst (λ (n : ℕ). length all < (c.args.head.skipped + c.args.head.len) + n) c.size-size.ensures.value (c.size-size.ensures.lacking all c.requires.head c.requires.unfinished) in
+    subst (λ (n : ℕ). length all < (c.args.head.skipped + c.args.head.len) + n) c.size-size.ensures.value
+    (c.size-size.ensures.lacking all c.requires.head c.requires.unfinished) in
     let own = c.extend_from_slice.new.self.ok in
     let read : c.extend_from_slice.new.self.items ≡ drop c.start-start.result all =
     c.in_ok-extend_from_slice.ensures.items ∙ ap (λ (t : List ℕ). t ++ c.split_at.result.1.now) c.in_ok-body.ensures.items

@@ -18,15 +18,18 @@ pub overflow_sub-used : goal.overflow_sub-used
 overflow_sub-used c =
     let bytes = c.requires.at.0 in
     let d = c.requires.at.1 in
-    (decoded_wanted bytes _ _ _ _ _ _ _ _ _ c.len.ensures.value c.in-Ok-Wanted.field-0-is c.as_slice.ensures c.replace-body.ensures.value d c.in-Ok-Wanted.ensures).1
+    (decoded_wanted bytes _ _ _ _ _ _ _ _ _ c.len.ensures.value c.in-Ok-Wanted.field-0-is c.as_slice.ensures
+    c.replace-body.ensures.value d c.in-Ok-Wanted.ensures).1
 
 pub returns-in_err-reserve-in-Ok-Wanted-clause-memory : goal.returns-in_err-reserve-in-Ok-Wanted-clause-memory
 returns-in_err-reserve-in-Ok-Wanted-clause-memory c = λ bytes d.
-    anyway _ (inl (decoded_wanted bytes _ _ _ _ _ _ _ _ _ c.len.ensures.value c.in-Ok-Wanted.field-0-is c.as_slice.ensures c.replace-body.ensures.value d c.in-Ok-Wanted.ensures).0)
+    anyway _ (inl (decoded_wanted bytes _ _ _ _ _ _ _ _ _ c.len.ensures.value c.in-Ok-Wanted.field-0-is c.as_slice.ensures
+    c.replace-body.ensures.value d c.in-Ok-Wanted.ensures).0)
 
 pub returns-in_ok-reserve-in-Ok-Wanted-clause-ok : goal.returns-in_ok-reserve-in-Ok-Wanted-clause-ok
 returns-in_ok-reserve-in-Ok-Wanted-clause-ok c = λ bytes d.
-    let told = decoded_wanted bytes _ _ _ _ _ _ _ _ _ c.len.ensures.value c.in-Ok-Wanted.field-0-is c.as_slice.ensures c.replace-body.ensures.value d c.in-Ok-Wanted.ensures in
+    let told = decoded_wanted bytes _ _ _ _ _ _ _ _ _ c.len.ensures.value c.in-Ok-Wanted.field-0-is c.as_slice.ensures
+    c.replace-body.ensures.value d c.in-Ok-Wanted.ensures in
     let items = c.in_ok-reserve-in-Ok-Wanted.ensures.items ∙ c.advance.ensures.items in
     let little = told.3 in
     let sizes = ap (λ (t : List ℕ). length t) items in (
@@ -52,16 +55,19 @@ pub overflow_sub-used-in-Ok-Whole : goal.overflow_sub-used-in-Ok-Whole
 overflow_sub-used-in-Ok-Whole c =
     let bytes = c.requires.at.0 in
     let d = c.requires.at.1 in
-    (decoded_whole bytes _ _ _ _ _ _ _ _ _ c.len-in-Ok-Whole.ensures.value c.in-Ok-Whole.field-0-is c.as_slice.ensures c.replace-body.ensures.value d c.in-Ok-Whole.ensures).3
+    (decoded_whole bytes _ _ _ _ _ _ _ _ _ c.len-in-Ok-Whole.ensures.value c.in-Ok-Whole.field-0-is c.as_slice.ensures
+    c.replace-body.ensures.value d c.in-Ok-Whole.ensures).3
 
 pub returns-in_ok-received-in-Ok-Whole-clause-ok : goal.returns-in_ok-received-in-Ok-Whole-clause-ok
 returns-in_ok-received-in-Ok-Whole-clause-ok c = λ bytes d.
-    let whole = decoded_whole bytes _ _ _ _ _ _ _ _ _ c.len-in-Ok-Whole.ensures.value c.in-Ok-Whole.field-0-is c.as_slice.ensures c.replace-body.ensures.value d c.in-Ok-Whole.ensures in
+    let whole = decoded_whole bytes _ _ _ _ _ _ _ _ _ c.len-in-Ok-Whole.ensures.value c.in-Ok-Whole.field-0-is c.as_slice.ensures
+    c.replace-body.ensures.value d c.in-Ok-Whole.ensures in
     let body = c.in_ok-body-in-Ok-Whole.ensures in
     comes_told bytes _ c.advance-in-Ok-Whole.new.self.spare
     (ChunksState (record { head = c.args.chunks.now.head; decoded = c.replace-body.new.dest })) _ (request_of d.h whole.0) whole.1
     (c.in_ok-received-in-Ok-Whole.ensures d.h Chunked
-    (subst (λ (t : List ℕ). ReadsHead t d.h Chunked) (sym c.as_slice-in-Ok-Whole.ensures.value) d.reads) ∙ ap (λ (t : List ℕ). Message (request_of d.h t)) (body.1 ∙ whole.5 body.0))
+    (subst (λ (t : List ℕ). ReadsHead t d.h Chunked) (sym c.as_slice-in-Ok-Whole.ensures.value) d.reads)
+    ∙ ap (λ (t : List ℕ). Message (request_of d.h t)) (body.1 ∙ whole.5 body.0))
     whole.2 (c.advance-in-Ok-Whole.ensures.items ∙ whole.4)
 
 pub returns-in-Err-clause-ok : goal.returns-in-Err-clause-ok
