@@ -1,178 +1,257 @@
-//! The arguments of the program's commands, as the parser of the command line takes them.
+//! The arguments of the program's commands, and how the parser of the command line takes them.
 
-use clap::{Arg, ArgAction, value_parser};
+use clap::builder::ValueParser;
+use clap::{Arg, ArgAction};
 use std::alloc::{AllocError, Global};
 
-/// A folder.
-pub(crate) fn folder<'a>(alloc: Global, name: &'a str, help: &'a str) -> Arg<'a> {
-    Arg::new(alloc, name).required(true).help(help)
+/// An argument of a command: its name, what it takes, and what it is for.
+#[derive(Clone, Copy)]
+pub(crate) struct Argument {
+    name: &'static str,
+    takes: Takes,
+    help: &'static str,
 }
+
+/// What an argument takes.
+#[derive(Clone, Copy)]
+enum Takes {
+    /// A word at its place.
+    Word,
+    /// One of these words at its place.
+    OneOf(&'static [&'static str]),
+    /// A word or more at its place.
+    Words,
+    /// Nothing: it is a flag.
+    Nothing,
+    /// The value of an option, which is called so.
+    Value(&'static str, Value),
+}
+
+/// The value of an option.
+#[derive(Clone, Copy)]
+enum Value {
+    /// One that may be left out.
+    Optional(ValueParser<'static>),
+    /// One that has to be given.
+    Required(ValueParser<'static>),
+    /// One that is this where it is left out.
+    Default(ValueParser<'static>, &'static str),
+    /// One that may be left out behind the option's name.
+    Perhaps,
+    /// One that is given where this option isn't.
+    Unless(&'static str),
+}
+
+/// Any number.
+const NUMBER: ValueParser<'static> = ValueParser::Unsigned(0, u64::MAX);
 
 /// The folder of the journals.
-pub(crate) fn journals<'a>(alloc: Global) -> Arg<'a> {
-    folder(alloc, "FOLDER", "The folder of the journals")
-}
+pub(crate) const JOURNALS: Argument = Argument {
+    name: "FOLDER",
+    takes: Takes::Word,
+    help: "The folder of the journals",
+};
 
 /// A folder of journals that is read alone.
-pub(crate) fn served<'a>(alloc: Global) -> Arg<'a> {
-    folder(
-        alloc,
-        "FOLDER",
-        "The folder of the journals, which may be served meanwhile",
-    )
-}
+pub(crate) const SERVED: Argument = Argument {
+    name: "FOLDER",
+    takes: Takes::Word,
+    help: "The folder of the journals, which may be served meanwhile",
+};
+
+/// The folder that is copied.
+pub(crate) const FROM: Argument = Argument {
+    name: "FROM",
+    takes: Takes::Word,
+    help: "The folder of the journals, which may be served meanwhile",
+};
+
+/// The folder of the copies.
+pub(crate) const TO: Argument = Argument {
+    name: "TO",
+    takes: Takes::Word,
+    help: "The folder of the copies, which has none, or earlier copies of the same journals",
+};
 
 /// The name of a workspace.
-pub(crate) fn workspace<'a>(alloc: Global) -> Arg<'a> {
-    Arg::new(alloc, "NAME")
-        .required(true)
-        .help("The name of the workspace")
-}
-
-/// A flag.
-pub(crate) fn flag<'a>(alloc: Global, name: &'a str, help: &'a str) -> Arg<'a> {
-    Arg::new(alloc, name)
-        .long(name)
-        .action(ArgAction::SetTrue)
-        .help(help)
-}
+pub(crate) const WORKSPACE: Argument = Argument {
+    name: "NAME",
+    takes: Takes::Word,
+    help: "The name of the workspace",
+};
 
 /// Whether JSON is printed.
-pub(crate) fn json<'a>(alloc: Global) -> Arg<'a> {
-    flag(
-        alloc,
-        "json",
-        "Prints JSON for programs, in place of a table",
-    )
-}
+pub(crate) const JSON: Argument = Argument {
+    name: "json",
+    takes: Takes::Nothing,
+    help: "Prints JSON for programs, in place of a table",
+};
 
-/// An option with a value of this name.
-pub(crate) fn option<'a>(alloc: Global, name: &'a str, value: &'a str, help: &'a str) -> Arg<'a> {
-    Arg::new(alloc, name)
-        .long(name)
-        .value_name(value)
-        .help(help)
-}
+/// Whether a picture is printed.
+pub(crate) const DOT: Argument = Argument {
+    name: "dot",
+    takes: Takes::Nothing,
+    help: "Prints a picture for Graphviz, in which the answer is filled",
+};
 
-/// A position.
-pub(crate) fn position<'a>(alloc: Global) -> Arg<'a> {
-    option(
-        alloc,
-        "position",
-        "POSITION",
-        "A position that `history` tells",
-    )
-    .value_parser(value_parser!(u64))
-}
+/// Whether a picture of the answer is printed.
+pub(crate) const ANSWER_ONLY: Argument = Argument {
+    name: "answer-only",
+    takes: Takes::Nothing,
+    help: "Prints a picture of the answer alone",
+};
+
+/// Whether reads are still answered once the journal can't be written.
+pub(crate) const SERVE_READS: Argument = Argument {
+    name: "serve-reads",
+    takes: Takes::Nothing,
+    help: "Goes on answering reads once the journal can't be written, in place of ending",
+};
+
+/// A position, if one is given.
+pub(crate) const POSITION: Argument = Argument {
+    name: "position",
+    takes: Takes::Value("POSITION", Value::Optional(NUMBER)),
+    help: "A position that `history` tells",
+};
+
+/// A position, which has to be given.
+pub(crate) const SOME_POSITION: Argument = Argument {
+    name: "position",
+    takes: Takes::Value("POSITION", Value::Required(NUMBER)),
+    help: "A position that `history` tells",
+};
 
 /// The folder of copies.
-pub(crate) fn copies<'a>(alloc: Global) -> Arg<'a> {
-    option(
-        alloc,
-        "copies",
-        "FOLDER",
-        "A folder of copies, whose newest journal's age is told",
-    )
-}
+pub(crate) const COPIES: Argument = Argument {
+    name: "copies",
+    takes: Takes::Value("FOLDER", Value::Optional(ValueParser::String)),
+    help: "A folder of copies, whose newest journal's age is told",
+};
 
-/// How many files are kept.
-pub(crate) fn keep<'a>(alloc: Global, help: &'a str) -> Arg<'a> {
-    option(alloc, "keep", "NUMBER", help)
-        .value_parser(value_parser!(u64))
-        .default_value("10")
-}
+/// How many files are kept of a folder that is served.
+pub(crate) const KEEP: Argument = Argument {
+    name: "keep",
+    takes: Takes::Value("NUMBER", Value::Default(NUMBER, "10")),
+    help: "How many of the newest files stay in the folder's old/",
+};
+
+/// How many files are kept of copies.
+pub(crate) const KEEP_COPIES: Argument = Argument {
+    name: "keep",
+    takes: Takes::Value("NUMBER", Value::Default(NUMBER, "10")),
+    help: "How many of the newest files stay in the old/ of the copies",
+};
 
 /// Where to listen.
-pub(crate) fn listen<'a>(alloc: Global) -> Arg<'a> {
-    option(alloc, "listen", "ADDRESS", "Where to listen").default_value("127.0.0.1:8080")
-}
+pub(crate) const LISTEN: Argument = Argument {
+    name: "listen",
+    takes: Takes::Value(
+        "ADDRESS",
+        Value::Default(ValueParser::String, "127.0.0.1:8080"),
+    ),
+    help: "Where to listen",
+};
 
 /// The number of workers.
-pub(crate) fn workers<'a>(alloc: Global) -> Arg<'a> {
-    option(
-        alloc,
-        "workers",
-        "NUMBER",
-        "How many connections are answered at once, 1 to 16",
-    )
-    .value_parser(value_parser!(usize).range(1..=16))
-    .default_value("16")
-}
+pub(crate) const WORKERS: Argument = Argument {
+    name: "workers",
+    takes: Takes::Value("NUMBER", Value::Default(ValueParser::Unsigned(1, 16), "16")),
+    help: "How many connections are answered at once, 1 to 16",
+};
 
 /// How many bytes a journal may grow by.
-pub(crate) fn compact_bytes<'a>(alloc: Global) -> Arg<'a> {
-    option(
-        alloc,
-        "compact-bytes",
+pub(crate) const COMPACT_BYTES: Argument = Argument {
+    name: "compact-bytes",
+    takes: Takes::Value(
         "NUMBER",
-        "Goes on in a shorter journal after so many bytes: 256M, K, M and G are powers of 1,024",
-    )
-    .value_parser(value_parser!(u64).range(1..))
-    .default_value("268435456")
-}
+        Value::Default(ValueParser::Unsigned(1, u64::MAX), "268435456"),
+    ),
+    help: "Goes on in a shorter journal after so many bytes: 256M, K, M and G are powers of 1,024",
+};
 
 /// How many entries a journal may grow by. 536 more are left for what is underway when the most have come.
-pub(crate) fn compact_entries<'a>(alloc: Global) -> Arg<'a> {
-    option(
-        alloc,
-        "compact-entries",
+pub(crate) const COMPACT_ENTRIES: Argument = Argument {
+    name: "compact-entries",
+    takes: Takes::Value(
         "NUMBER",
-        "Goes on in a shorter journal after so many changes: 32K, at most 65,000",
-    )
-    .value_parser(value_parser!(u64).range(1..=65_000))
-    .default_value("32768")
-}
+        Value::Default(ValueParser::Unsigned(1, 65_000), "32768"),
+    ),
+    help: "Goes on in a shorter journal after so many changes: 32K, at most 65,000",
+};
 
 /// Whether a folder is begun, and with which journal.
-pub(crate) fn first<'a>(alloc: Global) -> Arg<'a> {
-    option(
-        alloc,
-        "first",
-        "FILE",
-        "Begins a folder that never had a journal, with an empty one or with that of a file",
-    )
-    .num_args(0..=1)
-    .default_missing_value("")
-}
+pub(crate) const FIRST: Argument = Argument {
+    name: "first",
+    takes: Takes::Value("FILE", Value::Perhaps),
+    help: "Begins a folder that never had a journal, with an empty one or with that of a file",
+};
 
 /// The journal that is passed over.
-pub(crate) fn past<'a>(alloc: Global) -> Result<Arg<'a>, AllocError> {
-    option(
-        alloc,
-        "accept-past",
-        "FILE",
-        "Passes over an earlier journal of the folder, whose entries beyond the newest one's base are lost",
-    )
-    .conflicts_with("first")
-}
+pub(crate) const PAST: Argument = Argument {
+    name: "accept-past",
+    takes: Takes::Value("FILE", Value::Unless("first")),
+    help: "Passes over an earlier journal of the folder, whose entries beyond the newest one's base are lost",
+};
 
 /// The least position.
-pub(crate) fn least<'a>(alloc: Global) -> Arg<'a> {
-    option(
-        alloc,
-        "at-least",
-        "POSITION",
-        "Refuses to start from a journal with a lower position",
-    )
-    .value_parser(value_parser!(u64))
-}
+pub(crate) const LEAST: Argument = Argument {
+    name: "at-least",
+    takes: Takes::Value("POSITION", Value::Optional(NUMBER)),
+    help: "Refuses to start from a journal with a lower position",
+};
 
-/// The file of a least position.
-pub(crate) fn least_file<'a>(alloc: Global, help: &'a str) -> Arg<'a> {
-    option(alloc, "at-least-file", "FILE", help)
-}
+/// The file of the least position of a server.
+pub(crate) const LEAST_FILE: Argument = Argument {
+    name: "at-least-file",
+    takes: Takes::Value("FILE", Value::Optional(ValueParser::String)),
+    help: "The same with the position that a file has, which the server raises with each change",
+};
+
+/// The file of the least position of copies.
+pub(crate) const LEAST_OF_COPIES: Argument = Argument {
+    name: "at-least-file",
+    takes: Takes::Value("FILE", Value::Optional(ValueParser::String)),
+    help: "A file whose position is raised to that of the copy",
+};
 
 /// What is asked of the addresses.
-pub(crate) fn query<'a>(alloc: Global) -> Arg<'a> {
-    Arg::new(alloc, "QUERY")
-        .required(true)
-        .value_parser(["any", "all"].as_slice())
-        .help("any: what a change of some of the addresses reaches; all: what each of them reaches")
-}
+pub(crate) const QUERY: Argument = Argument {
+    name: "QUERY",
+    takes: Takes::OneOf(&["any", "all"]),
+    help: "any: what a change of some of the addresses reaches; all: what each of them reaches",
+};
 
 /// The addresses that a change touches.
-pub(crate) fn addresses<'a>(alloc: Global) -> Arg<'a> {
-    Arg::new(alloc, "ADDRESS").required(true).num_args(1..).help(
-        "Addresses of instances, or of resources for all their instances",
-    )
+pub(crate) const ADDRESSES: Argument = Argument {
+    name: "ADDRESS",
+    takes: Takes::Words,
+    help: "Addresses of instances, or of resources for all their instances",
+};
+
+impl Argument {
+    /// The argument, as the parser takes it.
+    pub(crate) fn made<'a>(&self, alloc: Global) -> Result<Arg<'a>, AllocError> {
+        let arg = Arg::new(alloc, self.name).help(self.help);
+        match self.takes {
+            Takes::Word => Ok(arg.required(true)),
+            Takes::OneOf(words) => Ok(arg.required(true).value_parser(words)),
+            Takes::Words => Ok(arg.required(true).num_args(1..)),
+            Takes::Nothing => Ok(arg.long(self.name).action(ArgAction::SetTrue)),
+            Takes::Value(called, value) => value.given(arg.long(self.name).value_name(called)),
+        }
+    }
+}
+
+impl Value {
+    /// The option with this value.
+    fn given<'a>(self, option: Arg<'a>) -> Result<Arg<'a>, AllocError> {
+        match self {
+            Value::Optional(parser) => Ok(option.value_parser(parser)),
+            Value::Required(parser) => Ok(option.value_parser(parser).required(true)),
+            Value::Default(parser, value) => Ok(option.value_parser(parser).default_value(value)),
+            Value::Perhaps => Ok(option.num_args(0..=1).default_missing_value("")),
+            Value::Unless(other) => option.conflicts_with(other),
+        }
+    }
 }
