@@ -2,6 +2,7 @@
 //! same.
 
 use anyhow::Result;
+use std::alloc::Global;
 use tfs_addr::{AddrFault, Key, Mode, config_text, instance_text, strip};
 
 /// Module paths: texts that read, with keys and without, and texts with a fault.
@@ -28,17 +29,41 @@ const KEYS: [(Option<Key<'static>>, Option<&'static str>); 4] = [
 pub(crate) fn print_answers(rt: &(impl AllocGlobal + Print)) -> Result<()> {
     for module in MODULES {
         print_answer(rt, "strip", strip(rt.alloc(), module))?;
-        let config = config_text(rt.alloc(), module, Mode::DataSource, "aws_ami", "base");
-        print_answer(rt, "config", config)?;
+        print_answer(rt, "config", config(rt.alloc(), module))?;
     }
     for (key, deposed) in KEYS {
-        for module in ["", "module.m[7]"] {
-            let mode = Mode::Managed;
-            let text = instance_text(rt.alloc(), module, mode, "aws_vpc", "main", key, deposed);
-            print_answer(rt, "instance", text.map_err(AddrFault::from))?;
-        }
+        print_answer(rt, "instance", instance(rt.alloc(), "", key, deposed))?;
+        print_answer(
+            rt,
+            "instance",
+            instance(rt.alloc(), "module.m[7]", key, deposed),
+        )?;
     }
     Ok(())
+}
+
+/// The configuration address of a data source in a module.
+fn config(alloc: Global, module: &str) -> Result<String, AddrFault> {
+    config_text(alloc, module, Mode::DataSource, "aws_ami", "base")
+}
+
+/// The address of an instance of a managed resource in a module.
+fn instance(
+    alloc: Global,
+    module: &str,
+    key: Option<Key>,
+    deposed: Option<&str>,
+) -> Result<String, AddrFault> {
+    let text = instance_text(
+        alloc,
+        module,
+        Mode::Managed,
+        "aws_vpc",
+        "main",
+        key,
+        deposed,
+    )?;
+    Ok(text)
 }
 
 /// Prints one answer on a line.

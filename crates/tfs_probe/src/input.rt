@@ -2,7 +2,7 @@
 
 use anyhow::{Result, bail};
 use std::alloc::Global;
-use tfs_calls::{Bytes, Draft, Raw, Text};
+use tfs_calls::{Bytes, Draft, Kind, Query, Raw, Text, Texts};
 use tfs_rules::Name;
 use tfs_state::MAX_STATE_BYTES;
 
@@ -24,6 +24,22 @@ pub(crate) fn push_of(alloc: Global, id: Option<Text>, state: &[u8]) -> Result<D
         Ok(draft) => Ok(draft),
         Err(refusal) => bail!("the push is no draft: {}", refusal.name()),
     }
+}
+
+/// The push of a state to the workspace `a`.
+pub(crate) fn named_push(alloc: Global, state: &[u8]) -> Result<(Name, Draft)> {
+    let name = name_of(alloc, "a")?;
+    Ok((name, push_of(alloc, None, state)?))
+}
+
+/// A query for what an address reaches.
+pub(crate) fn query_for(alloc: Global, address: String) -> Result<Query> {
+    let mut texts = Vec::new(alloc);
+    texts.push(Text::new(address))?;
+    Ok(Query {
+        kind: Kind::Any,
+        texts: Texts::new(texts),
+    })
 }
 
 /// A workspace's name.

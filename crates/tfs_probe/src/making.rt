@@ -33,35 +33,32 @@ pub(crate) fn print_made(rt: &(impl AllocGlobal + Print), word: &str, digits: &s
     let bytes = AtomicU64::new(0);
     let sink = Counting { bytes: &bytes };
     let made = match word {
-        "new" => Table::new(rt.alloc(), sink),
+        "new" => created(rt.alloc(), sink),
         "open" => opened(rt.alloc(), journal.as_slice(), sink),
         "rebase" => rebased(rt.alloc(), journal.as_slice(), sink),
         _ => bail!("the word is none of read, apply, new, open and rebase"),
     };
     let given = bytes.load(Ordering::SeqCst);
     match made {
-        Ok(table) => println!(rt; "made at {}, {given} bytes", table.position())?,
+        Ok(position) => println!(rt; "made at {position}, {given} bytes")?,
         Err(fault) => println!(rt; "{fault:?}, {given} bytes")?,
     }
     Ok(())
 }
 
-/// The table that is opened from a journal.
-fn opened<'c>(
-    alloc: Global,
-    journal: &[u8],
-    sink: Counting<'c>,
-) -> Result<Table<Counting<'c>>, OpenFault> {
-    let (table, _end) = Table::open(alloc, journal, sink)?;
-    Ok(table)
+/// The position of a new table.
+fn created(alloc: Global, sink: Counting) -> Result<u64, OpenFault> {
+    Ok(Table::new(alloc, sink)?.position())
 }
 
-/// The table that is rebased from the one that is opened from a journal.
-fn rebased<'c>(
-    alloc: Global,
-    journal: &[u8],
-    sink: Counting<'c>,
-) -> Result<Table<Counting<'c>>, OpenFault> {
+/// The position of the table that is opened from a journal.
+fn opened(alloc: Global, journal: &[u8], sink: Counting) -> Result<u64, OpenFault> {
+    let (table, _end) = Table::open(alloc, journal, sink)?;
+    Ok(table.position())
+}
+
+/// The position of the table that is rebased from the one that is opened from a journal.
+fn rebased(alloc: Global, journal: &[u8], sink: Counting) -> Result<u64, OpenFault> {
     let (table, _end) = Table::open(alloc, journal, Discard)?;
-    table.rebase(sink)
+    Ok(table.rebase(sink)?.position())
 }

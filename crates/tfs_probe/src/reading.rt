@@ -1,7 +1,7 @@
 //! What journals are read as, in lines.
 
 use anyhow::Result;
-use std::alloc::Global;
+use std::alloc::{AllocError, Global};
 use tfs_journal::{Decoded, End, decode};
 use tfs_lock::Id;
 use tfs_records::{BaseRow, Entry, encode, encode_base};
@@ -26,7 +26,7 @@ fn print_reading(rt: &(impl AllocGlobal + Print), read: &Decoded) -> Result<()> 
 }
 
 /// The header, the base and the record of each entry of a reading, written again.
-fn text_line(alloc: Global, read: &Decoded) -> Result<String> {
+fn text_line(alloc: Global, read: &Decoded) -> Result<String, AllocError> {
     let mut line = String::from_str(alloc, "text")?;
     if read.format == 1 {
         push_hex(&mut line, b"TFJ1\n")?;
@@ -41,7 +41,7 @@ fn text_line(alloc: Global, read: &Decoded) -> Result<String> {
 }
 
 /// The format, the position and the rows of the base, the entries, and the end of a reading.
-fn reading_line(alloc: Global, read: &Decoded) -> Result<String> {
+fn reading_line(alloc: Global, read: &Decoded) -> Result<String, AllocError> {
     let position = read.base.position();
     let mut line = format!(in alloc; "format {} base {position}", read.format)?;
     for row in read.base.rows() {
@@ -59,7 +59,7 @@ fn reading_line(alloc: Global, read: &Decoded) -> Result<String> {
 }
 
 /// Adds the name, the holder and the state of a row.
-fn push_row(line: &mut String, row: &BaseRow) -> Result<()> {
+fn push_row(line: &mut String, row: &BaseRow) -> Result<(), AllocError> {
     let name = row.name.text();
     write!(line, " row {name}")?;
     match &row.holder {
@@ -73,7 +73,7 @@ fn push_row(line: &mut String, row: &BaseRow) -> Result<()> {
 }
 
 /// Adds the kind and the name of an entry, and what its act carries.
-pub(crate) fn push_entry(line: &mut String, entry: &Entry) -> Result<()> {
+pub(crate) fn push_entry(line: &mut String, entry: &Entry) -> Result<(), AllocError> {
     let name = entry.name.text();
     match &entry.act {
         Act::Lock(info) => {
@@ -97,7 +97,7 @@ pub(crate) fn push_entry(line: &mut String, entry: &Entry) -> Result<()> {
 }
 
 /// Adds an identifier.
-fn push_id(line: &mut String, id: &Option<Id>) -> Result<()> {
+fn push_id(line: &mut String, id: &Option<Id>) -> Result<(), AllocError> {
     match id {
         Some(id) => push_hex(line, id.text().as_bytes()),
         None => push_hex(line, b""),
@@ -105,7 +105,7 @@ fn push_id(line: &mut String, id: &Option<Id>) -> Result<()> {
 }
 
 /// Adds a space and the hex digits of bytes; a dash where there are none.
-fn push_hex(line: &mut String, bytes: &[u8]) -> Result<()> {
+fn push_hex(line: &mut String, bytes: &[u8]) -> Result<(), AllocError> {
     line.push(' ')?;
     if bytes.is_empty() {
         line.push('-')?;

@@ -4,13 +4,13 @@
 
 ghost use Rattle.std.specs.Prelude.{◌≡◌, ◌≤◌, ◌<◌, length};
 
-use crate::input::{name_of, push_of};
+use crate::input::{name_of, named_push, query_for};
 use anyhow::{Result, bail};
 use std::alloc::Global;
 use std::marker::Brand;
 use std::sync::Wait;
 use std::sync::ledger::Blank;
-use tfs_calls::{Draft, Kind, Query, Refusal, Text, Texts};
+use tfs_calls::{Draft, Query, Refusal};
 use tfs_records::Discard;
 use tfs_rules::{Act, Name};
 use tfs_shared::{Naming, Opened, Session, Shared, Strangers, Unshared, gather, share};
@@ -41,43 +41,45 @@ impl Word {
     }
 }
 
-/// The push of a state, its name, and a query for the state's first address.
+/// The calls that are made: how far, of which state, and with what was read of it before the table is shared. The push is there until it
+/// is made.
 #[derive(Drop)]
-struct Asked {
-    push: (Name, Draft),
+struct Calls<'a> {
+    word: Word,
+    state: &'a [u8],
+    push: Option<(Name, Draft)>,
     name: Name,
     query: Query,
 }
 
-/// What is asked of a state.
-fn asked_of(alloc: Global, state: &[u8]) -> Result<Asked> {
+/// The calls of a state.
+fn calls_of(alloc: Global, word: Word, state: &[u8]) -> Result<Calls> {
     let push = named_push(alloc, state)?;
-    let query = match push.1.act() {
-        Act::Push(_, doc) => query_of(alloc, doc)?,
+    let query = query_of(alloc, &push.1)?;
+    Ok(Calls {
+        word,
+        state,
+        push: Some(push),
+        name: name_of(alloc, "a")?,
+        query,
+    })
+}
+
+/// A query for what the first address of the state that is pushed reaches.
+fn query_of(alloc: Global, draft: &Draft) -> Result<Query> {
+    match draft.act() {
+        Act::Push(_, doc) => query_for(alloc, first_address(alloc, doc)?),
         _ => bail!("the draft is no push"),
-    };
-    let name = name_of(alloc, "a")?;
-    Ok(Asked { push, name, query })
+    }
 }
 
-/// The push of a state, with its name.
-fn named_push(alloc: Global, state: &[u8]) -> Result<(Name, Draft)> {
-    let name = name_of(alloc, "a")?;
-    Ok((name, push_of(alloc, None, state)?))
-}
-
-/// A query for what the first address of a state reaches.
-fn query_of(alloc: Global, doc: &Doc) -> Result<Query> {
+/// The first address of a state.
+fn first_address(alloc: Global, doc: &Doc) -> Result<String> {
     if doc.len() == 0 {
         bail!("the state has no address");
     }
     let (front, tail) = doc.address(0).parts();
-    let mut texts = Vec::new(alloc);
-    texts.push(Text::new(format!(in alloc; "{front}{tail}")?))?;
-    Ok(Query {
-        kind: Kind::Any,
-        texts: Texts::new(texts),
-    })
+    Ok(format!(in alloc; "{front}{tail}")?)
 }
 
 /// Has the calls made over a new table, as far as the word goes. A line tells what became of each.
@@ -89,13 +91,17 @@ pub(crate) fn make_calls<R: AllocGlobal + Print + Wait>(
     let Ok(table) = Table::new(rt.alloc(), Discard) else {
         bail!("there is no memory for a table");
     };
+    if word == Word::Read {
+        calls_of(rt.alloc(), word, state)?;
+        return Ok(());
+    }
     let Some(table) = attempt(rt, table, word, state)? else {
         return Ok(());
     };
-    if attempt(rt, table, word, state)?.is_some() {
-        bail!("the table isn't shared");
+    match attempt(rt, table, word, state)? {
+        Some(_table) => bail!("the table isn't shared"),
+        None => Ok(()),
     }
-    Ok(())
 }
 
 /// Reads what is asked, and shares the table for it. A table that isn't shared comes back.
@@ -105,27 +111,15 @@ fn attempt<R: AllocGlobal + Print + Wait>(
     word: Word,
     state: &[u8],
 ) -> Result<Option<Table<Discard>>> {
-    let asked = asked_of(rt.alloc(), state)?;
-    if word == Word::Read {
-        return Ok(None);
-    }
-    let calls = Calls { word, state, asked };
-    play::<Brand, R>(rt, table, calls, Blank::new(2), Opened::new())
-}
-
-/// The calls that are made: how far, of which state, and with what was read of it.
-#[derive(Drop)]
-struct Calls<'a> {
-    word: Word,
-    state: &'a [u8],
-    asked: Asked,
+    let mut calls = calls_of(rt.alloc(), word, state)?;
+    play::<Brand, R>(rt, table, &mut calls, Blank::new(2), Opened::new())
 }
 
 /// Shares the table, has the calls made, and gathers the table. A table that isn't shared comes back.
 fn play<J: Naming, R: AllocGlobal + Print + Wait>(
     rt: &R,
     table: Table<Discard>,
-    calls: Calls,
+    calls: &mut Calls,
     blank: Blank,
     opened: Opened,
 ) -> Result<Option<Table<Discard>>>
@@ -134,20 +128,46 @@ fn play<J: Naming, R: AllocGlobal + Print + Wait>(
     requires book { opened ≡ J.book }
     requires opening { table.journal ≡ J.opening }
 {
-    let made = share::<J, Discard, R>(rt, rt.alloc(), table, 2, blank, opened);
-    let (shared, mut sessions) = match made {
-        Ok(made) => made,
-        Err(unshared) => {
-            let Unshared { table, why } = unshared;
-            println!(rt; "refused {why:?}")?;
-            return Ok(Some(table));
+    match share::<J, Discard, R>(rt, rt.alloc(), table, 2, blank, opened) {
+        Ok((shared, sessions)) => {
+            call_and_end(rt, shared, sessions, calls)?;
+            Ok(None)
         }
-    };
+        Err(Unshared { table, why }) => {
+            println!(rt; "refused {why:?}")?;
+            Ok(Some(table))
+        }
+    }
+}
+
+/// Has the calls made, and gathers the table.
+fn call_and_end<J: Naming, R: AllocGlobal + Print + Wait>(
+    rt: &R,
+    shared: Shared<J, Discard>,
+    sessions: Vec<Session<J>>,
+    calls: &mut Calls,
+) -> Result<()>
+    requires parts { J.parts ≡ J.sessions }
+    requires some { 1 ≤ J.sessions }
+{
+    let mut sessions = sessions;
     let outcome = call(rt, &shared, sessions.as_mut_slice(), calls);
+    print_end(rt, shared, sessions)?;
+    outcome
+}
+
+/// Gathers the table, and prints how many entries it has.
+fn print_end<J: Naming, R: AllocGlobal + Print + Wait>(
+    rt: &R,
+    shared: Shared<J, Discard>,
+    sessions: Vec<Session<J>>,
+) -> Result<()>
+    requires parts { J.parts ≡ J.sessions }
+    requires some { 1 ≤ J.sessions }
+{
     let table = end(rt, shared, sessions)?;
     println!(rt; "gathered {}", table.len())?;
-    outcome?;
-    Ok(None)
+    Ok(())
 }
 
 /// Gathers the table.
@@ -178,21 +198,19 @@ fn call<J: Naming, R: AllocGlobal + Print + Wait>(
     rt: &R,
     shared: &Shared<J, Discard>,
     sessions: &mut [Session<J>],
-    calls: Calls,
+    calls: &mut Calls,
 ) -> Result<()> {
     if sessions.len() != 2 {
         bail!("there aren't two sessions");
     }
     println!(rt; "shared")?;
-    let Calls { word, state, asked } = calls;
-    if word == Word::Share {
+    if calls.word == Word::Share {
         return Ok(());
     }
-    let Asked { push, name, query } = asked;
-    submit(rt, shared, &mut sessions[0], push, state)?;
-    match word {
-        Word::State => read(rt, shared, &mut sessions[1], &name),
-        Word::Impact => impact(rt, shared, &mut sessions[0], &name, &query),
+    submit(rt, shared, &mut sessions[0], calls)?;
+    match calls.word {
+        Word::State => read(rt, shared, &mut sessions[1], &calls.name),
+        Word::Impact => impact(rt, shared, &mut sessions[0], calls),
         _ => Ok(()),
     }
 }
@@ -202,18 +220,27 @@ fn submit<J: Naming, R: AllocGlobal + Print + Wait>(
     rt: &R,
     shared: &Shared<J, Discard>,
     session: &mut Session<J>,
-    push: (Name, Draft),
-    state: &[u8],
+    calls: &mut Calls,
 ) -> Result<()> {
-    let (name, draft) = push;
-    let answer = session.submit(rt, shared, name, draft);
-    if tell(rt, session, answer)? {
-        return Ok(());
+    let Some(push) = calls.push.take() else {
+        bail!("the push is made");
+    };
+    if !submit_once(rt, shared, session, push)? {
+        let push = named_push(rt.alloc(), calls.state)?;
+        submit_once(rt, shared, session, push)?;
     }
-    let (name, draft) = named_push(rt.alloc(), state)?;
-    let answer = session.submit(rt, shared, name, draft);
-    tell(rt, session, answer)?;
     Ok(())
+}
+
+/// Makes a push. Whether it was accepted.
+fn submit_once<J: Naming, R: Print + Wait>(
+    rt: &R,
+    shared: &Shared<J, Discard>,
+    session: &mut Session<J>,
+    (name, draft): (Name, Draft),
+) -> Result<bool> {
+    let answer = session.submit(rt, shared, name, draft);
+    tell(rt, session, answer)
 }
 
 /// Asks for the state, of which the serial is told; where that was refused, once more.
@@ -237,11 +264,10 @@ fn impact<J: Naming, R: Print>(
     rt: &R,
     shared: &Shared<J, Discard>,
     session: &mut Session<J>,
-    name: &Name,
-    query: &Query,
+    calls: &Calls,
 ) -> Result<()> {
     for _attempt in 0..2 {
-        let answer = session.impact(shared, name, query);
+        let answer = session.impact(shared, &calls.name, &calls.query);
         let answer = answer.map(|impact| impact.chosen.as_slice().len() as u64);
         if tell(rt, session, answer)? {
             return Ok(());

@@ -1,7 +1,7 @@
 //! The reading of a state, its index, and queries.
 
 use anyhow::{Result, bail};
-use std::alloc::Global;
+use std::alloc::{AllocError, Global};
 use std::sync::Arc;
 use tfs_index::Version;
 use tfs_state::{Doc, MAX_STATE_BYTES};
@@ -29,18 +29,34 @@ pub(crate) fn print_impacts(
 ) -> Result<()> {
     let doc = doc_of(rt.alloc(), state)?;
     println!(rt; "read")?;
-    let version = Version::build(rt.alloc(), Arc::new(rt.alloc(), doc)?)?;
+    let version = version_of(rt.alloc(), doc)?;
     println!(rt; "built")?;
-    let mut texts = Vec::new(rt.alloc());
-    for line in addresses.lines() {
-        texts.push(line)?;
+    let texts = lines_of(rt.alloc(), addresses)?;
+    print_chosen(rt, &version, texts.as_slice())
+}
+
+/// The index of a state.
+fn version_of(alloc: Global, doc: Doc) -> Result<Version> {
+    Ok(Version::build(alloc, Arc::new(alloc, doc)?)?)
+}
+
+/// The lines of a text.
+fn lines_of(alloc: Global, text: &str) -> Result<Vec<&str>, AllocError> {
+    let mut lines = Vec::new(alloc);
+    for line in text.lines() {
+        lines.push(line)?;
     }
-    print_numbers(rt, "any", version.any(rt.alloc(), texts.as_slice())?)?;
-    print_numbers(rt, "all", version.all(rt.alloc(), texts.as_slice())?)
+    Ok(lines)
+}
+
+/// Prints the numbers of what an index has for any and all of the addresses.
+fn print_chosen(rt: &(impl AllocGlobal + Print), version: &Version, texts: &[&str]) -> Result<()> {
+    print_numbers(rt, "any", version.any(rt.alloc(), texts)?.as_slice())?;
+    print_numbers(rt, "all", version.all(rt.alloc(), texts)?.as_slice())
 }
 
 /// Prints a line for each number.
-fn print_numbers(rt: &impl Print, word: &str, numbers: Vec<usize>) -> Result<()> {
+fn print_numbers(rt: &impl Print, word: &str, numbers: &[usize]) -> Result<()> {
     for number in numbers {
         println!(rt; "{word} {number}")?;
     }

@@ -2,16 +2,17 @@
 
 ghost use Rattle.std.specs.Prelude.{◌≡◌, ◌≤◌};
 
+use crate::input::text_of;
 use crate::reading::push_entry;
 use crate::shared::end;
-use crate::worker::{Told, Worker, work_all};
+use crate::worker::{Told, Worker, sessions_of, work_all, workers_of};
 use anyhow::{Result, bail};
-use std::alloc::Global;
+use std::alloc::{AllocError, Global};
 use std::marker::Brand;
 use std::sync::Wait;
 use std::sync::ledger::Blank;
 use std::thread::Threads;
-use tfs_records::Discard;
+use tfs_records::{Discard, Entry};
 use tfs_shared::{Naming, Opened, Session, Shared, share};
 use tfs_table::Table;
 
@@ -70,32 +71,23 @@ fn steps<J: Naming + Send + Sync, R: Threads + Wait + Print + AllocGlobal + Sync
     sessions: Vec<Session<J>>,
     rest: &[u8],
 ) -> Result<Vec<Session<J>>> {
-    let mut workers = Vec::with_capacity(rt.alloc(), sessions.len())?;
-    for session in sessions {
-        let number = workers.len();
-        workers.push(Worker::new(rt.alloc(), number, session, rest)?)?;
-    }
+    let mut workers = workers_of(rt.alloc(), sessions, text_of(rest)?)?;
     work_all(rt, shared, workers.as_mut_slice());
-    ended(rt, workers)
+    print_told(rt, workers.as_slice())?;
+    Ok(sessions_of(rt.alloc(), workers)?)
 }
 
 /// Prints what the sessions of workers were answered.
-fn ended<J: Naming>(
-    rt: &(impl AllocGlobal + Print),
-    workers: Vec<Worker<J>>,
-) -> Result<Vec<Session<J>>> {
-    let mut sessions = Vec::with_capacity(rt.alloc(), workers.len())?;
+fn print_told<J: Naming>(rt: &(impl AllocGlobal + Print), workers: &[Worker<J>]) -> Result<()> {
     for worker in workers {
-        let (session, told) = worker.into_parts();
-        sessions.push(session)?;
-        let line = told_line(rt.alloc(), told.as_slice())?;
+        let line = told_line(rt.alloc(), worker.told())?;
         println!(rt; "{line}")?;
     }
-    Ok(sessions)
+    Ok(())
 }
 
 /// What a session was answered by each call, and the position that it had seen then.
-fn told_line(alloc: Global, told: &[Told]) -> Result<String> {
+fn told_line(alloc: Global, told: &[Told]) -> Result<String, AllocError> {
     let mut line = String::from_str(alloc, "session")?;
     for Told { answer, seen } in told {
         match answer {
@@ -109,9 +101,15 @@ fn told_line(alloc: Global, told: &[Told]) -> Result<String> {
 /// Prints the entries of a table.
 fn print_entries(rt: &(impl AllocGlobal + Print), table: &Table<Discard>) -> Result<()> {
     for i in 0..table.len() {
-        let mut line = String::from_str(rt.alloc(), "entry")?;
-        push_entry(&mut line, table.entry(i))?;
+        let line = entry_line(rt.alloc(), table.entry(i))?;
         println!(rt; "{line}")?;
     }
     Ok(())
+}
+
+/// The line of an entry.
+fn entry_line(alloc: Global, entry: &Entry) -> Result<String, AllocError> {
+    let mut line = String::from_str(alloc, "entry")?;
+    push_entry(&mut line, entry)?;
+    Ok(line)
 }

@@ -1,6 +1,6 @@
 //! One push over a new table, so that its requests for memory can be counted, and refused.
 
-use crate::input::{name_of, push_of};
+use crate::input::named_push;
 use anyhow::{Result, bail};
 use tfs_calls::Refusal;
 use tfs_records::Discard;
@@ -12,19 +12,22 @@ pub(crate) fn push(rt: &(impl AllocGlobal + Print), is_applied: bool, state: &[u
     let Ok(mut table) = Table::new(rt.alloc(), Discard) else {
         bail!("there is no memory for a table");
     };
-    let name = name_of(rt.alloc(), "a")?;
-    let draft = push_of(rt.alloc(), None, state)?;
     if !is_applied {
-        return Ok(());
+        named_push(rt.alloc(), state)?;
+    } else if !apply(rt, &mut table, state)? {
+        apply(rt, &mut table, state)?;
     }
-    let first = table.apply(name, draft);
-    if tell(rt, first)? {
-        return Ok(());
-    }
-    let name = name_of(rt.alloc(), "a")?;
-    let draft = push_of(rt.alloc(), None, state)?;
-    tell(rt, table.apply(name, draft))?;
     Ok(())
+}
+
+/// Reads the push of a state and applies it. Whether it was accepted.
+fn apply(
+    rt: &(impl AllocGlobal + Print),
+    table: &mut Table<Discard>,
+    state: &[u8],
+) -> Result<bool> {
+    let (name, draft) = named_push(rt.alloc(), state)?;
+    tell(rt, table.apply(name, draft))
 }
 
 /// Prints what became of a push. Whether it was accepted.

@@ -2,13 +2,13 @@
 
 ghost use Rattle.tfs_calls.specs.Draft.{HasFittingState};
 
-use crate::input::{name_of, push_of, text_of};
+use crate::input::{name_of, push_of, query_for};
 use anyhow::{Result, bail};
 use std::alloc::{AllocError, Global};
 use std::sync::Wait;
 use std::thread;
 use std::thread::Threads;
-use tfs_calls::{Bytes, Draft, Kind, Query, Raw, Refusal, Text, Texts};
+use tfs_calls::{Bytes, Draft, Impact, Raw, Refusal, Text};
 use tfs_records::Sink;
 use tfs_rules::Name;
 use tfs_shared::{Naming, Session, Shared};
@@ -29,38 +29,53 @@ pub(crate) struct Told {
 
 /// A session with its number, the text of its states behind the serial, and what it was told.
 #[derive(Drop)]
-pub(crate) struct Worker<J: Naming> {
+pub(crate) struct Worker<'a, J: Naming> {
     session: Session<J>,
     number: usize,
-    rest: String,
+    rest: &'a str,
     told: Vec<Told>,
 }
 
-impl<J: Naming> Worker<J> {
-    /// The worker of a number.
-    pub(crate) fn new(
-        alloc: Global,
-        number: usize,
-        session: Session<J>,
-        rest: &[u8],
-    ) -> Result<Worker<J>> {
-        Ok(Worker {
+/// A worker for each session.
+pub(crate) fn workers_of<'a, J: Naming>(
+    alloc: Global,
+    sessions: Vec<Session<J>>,
+    rest: &'a str,
+) -> Result<Vec<Worker<'a, J>>, AllocError> {
+    let mut workers = Vec::new(alloc);
+    for (number, session) in sessions.into_iter().enumerate() {
+        workers.push(Worker {
             session,
             number,
-            rest: String::from_str(alloc, text_of(rest)?)?,
+            rest,
             told: Vec::new(alloc),
-        })
+        })?;
+    }
+    Ok(workers)
+}
+
+/// The sessions of workers.
+pub(crate) fn sessions_of<J: Naming>(
+    alloc: Global,
+    workers: Vec<Worker<J>>,
+) -> Result<Vec<Session<J>>, AllocError> {
+    let mut sessions = Vec::new(alloc);
+    for worker in workers {
+        sessions.push(worker.into_session())?;
+    }
+    Ok(sessions)
+}
+
+impl<J: Naming> Worker<'_, J> {
+    /// Its session.
+    fn into_session(self) -> Session<J> {
+        let Worker { session, .. } = self;
+        session
     }
 
-    /// Its session, and what it was told.
-    pub(crate) fn into_parts(self) -> (Session<J>, Vec<Told>) {
-        let Worker {
-            session,
-            number: _,
-            rest: _rest,
-            told,
-        } = self;
-        (session, told)
+    /// What it was told.
+    pub(crate) fn told(&self) -> &[Told] {
+        self.told.as_slice()
     }
 
     /// Makes its calls. Where there is no memory for one it makes no more.
@@ -79,16 +94,26 @@ impl<J: Naming> Worker<J> {
         shared: &Shared<J, K>,
         step: u64,
     ) -> Result<()> {
-        let place = (self.number ^ (step / 8) as usize) % NAMES.len();
-        let name = name_of(rt.alloc(), NAMES[place])?;
-        let answer = match step % 8 {
-            0 | 2 | 3 | 5 => self.change(rt, shared, name, step)?,
-            6 => self.state(rt, shared, &name),
-            _ => self.impact(shared, &name, &query(rt.alloc())?),
-        };
+        let answer = self.answer(rt, shared, step)?;
         let seen = self.session.seen();
         self.told.push(Told { answer, seen })?;
         Ok(())
+    }
+
+    /// What the call of a step is answered.
+    fn answer<K: Sink, R: Wait + AllocGlobal>(
+        &mut self,
+        rt: &R,
+        shared: &Shared<J, K>,
+        step: u64,
+    ) -> Result<Result<u64, &'static str>> {
+        let place = (self.number ^ (step / 8) as usize) % NAMES.len();
+        let name = name_of(rt.alloc(), NAMES[place])?;
+        match step % 8 {
+            0 | 2 | 3 | 5 => self.change(rt, shared, name, step),
+            6 => Ok(self.state(rt, shared, &name)),
+            _ => self.impact(rt, shared, &name),
+        }
     }
 
     /// Makes the change of a step.
@@ -117,7 +142,7 @@ impl<J: Naming> Worker<J> {
     /// The push of the state whose serial is the step and one.
     fn push(&self, alloc: Global, step: u64, id: Option<Text>) -> Result<Draft> {
         let serial = step.saturating_add(1);
-        let rest = self.rest.as_str();
+        let rest = self.rest;
         let text = format!(in alloc; "{{\"version\":4,\"serial\":{serial}{rest}")?;
         push_of(alloc, id, text.as_bytes())
     }
@@ -135,20 +160,27 @@ impl<J: Naming> Worker<J> {
         }
     }
 
-    /// Asks for the impact, of which the serial is told. Its position is the one that the session has seen.
-    fn impact<K: Sink>(
+    /// Asks for the impact on the instance t.a, of which the serial is told. Its position is the one that the session has seen.
+    fn impact<K: Sink, R: AllocGlobal>(
         &mut self,
+        rt: &R,
         shared: &Shared<J, K>,
         name: &Name,
-        query: &Query,
-    ) -> Result<u64, &'static str> {
-        match self.session.impact(shared, name, query) {
-            Ok(answer) if answer.position == self.session.seen() => Ok(
-                answer.version.doc().serial(),
-            ),
-            Ok(_) => Err("AnotherPosition"),
-            Err(refusal) => Err(refusal.name()),
-        }
+    ) -> Result<Result<u64, &'static str>> {
+        let query = query_for(rt.alloc(), String::from_str(rt.alloc(), "t.a")?)?;
+        Ok(serial_of(
+            &self.session.impact(shared, name, &query),
+            self.session.seen(),
+        ))
+    }
+}
+
+/// The serial of the state of an impact whose position is the one that was seen, or a refusal's name.
+fn serial_of(answer: &Result<Impact, Refusal>, seen: u64) -> Result<u64, &'static str> {
+    match answer {
+        Ok(impact) if impact.position == seen => Ok(impact.version.doc().serial()),
+        Ok(_) => Err("AnotherPosition"),
+        Err(refusal) => Err(refusal.name()),
     }
 }
 
@@ -174,16 +206,6 @@ fn draft_of(alloc: Global, raw: Raw) -> Result<Draft>
         Ok(draft) => Ok(draft),
         Err(refusal) => bail!("there is no draft: {}", refusal.name()),
     }
-}
-
-/// A query for what the instance t.a reaches.
-fn query(alloc: Global) -> Result<Query, AllocError> {
-    let mut texts = Vec::new(alloc);
-    texts.push(Text::new(String::from_str(alloc, "t.a")?))?;
-    Ok(Query {
-        kind: Kind::Any,
-        texts: Texts::new(texts),
-    })
 }
 
 /// Has each worker make its calls, at the same time where the system makes the threads.
