@@ -2,9 +2,10 @@
 
 use crate::helpers::{draft_of, name_of};
 use crate::journals::journal_bytes;
+use crate::lines::expect_that;
 use std::alloc::Global;
 use std::process::Abort;
-use tfs_journal::decode;
+use tfs_journal::{Decoded, decode};
 use tfs_records::Discard;
 use tfs_table::{Kind, Prepared, Query, Ready, Table, Text, Texts, first_unlawful};
 
@@ -51,7 +52,7 @@ fn make(
     serial: u64,
 ) {
     let found = finished(table, prepared_of(rt, change), serial);
-    assert!(rt; found == Some(position), "{change}");
+    expect_that(rt, found == Some(position), change);
 }
 
 /// A table of `a` with TWO and its lock.
@@ -84,13 +85,22 @@ fn expect_chosen(
     let impact = table.impact(&name_of(rt, "a"), &query_of(rt, text));
     let impact = impact.ok().expect(rt, "an answer");
     let found = impact.chosen.as_slice().len();
-    assert!(rt; impact.position == 3 && found == count, "{text}");
+    expect_that(rt, impact.position == 3 && found == count, text);
+}
+
+/// Checks that a table has no entries, and begins at this position.
+fn is_new(rt: &impl Abort, table: &Table<Discard>, position: u64) {
+    expect_that(rt, table.position() == position, "the position");
+    expect_that(rt, table.len() == 0, "no entries");
 }
 
 /// Checks that a table is rebased to this position.
 fn is_rebased(rt: &impl Abort, table: &Table<Discard>, position: u64) {
-    let rebased = table.rebase(Discard).ok().expect(rt, "a table");
-    assert!(rt; rebased.position() == position && rebased.len() == 0);
+    is_new(
+        rt,
+        &table.rebase(Discard).ok().expect(rt, "a table"),
+        position,
+    );
 }
 
 #[test]
@@ -104,7 +114,11 @@ fn each_call_answers_with_ample_memory(rt: HostRuntime) {
 #[test]
 fn a_lawful_journal_is_judged_with_ample_memory(rt: HostRuntime) {
     let read = decode(rt.alloc(), journal_bytes(&rt, "192").as_slice());
-    let read = read.expect(&rt, "memory");
+    is_lawful(&rt, &read.expect(&rt, "memory"));
+}
+
+/// Checks that no entry of what was read is unlawful.
+fn is_lawful(rt: &(impl Alloc<A = Global> + Abort), read: &Decoded) {
     let found = first_unlawful(rt.alloc(), &read.base, read.entries.as_slice());
-    assert!(rt; found.expect(&rt, "memory") == None);
+    assert!(rt; found.expect(rt, "memory") == None);
 }

@@ -1,7 +1,8 @@
 //! The MD5 of four texts at once, against RFC 1321's test suite and against the MD5 of each alone.
 
 use crate::helpers::expect_vector;
-use crate::lines::{Judge, expect_lines};
+use crate::lines::{Judge, expect_at, expect_lines};
+use crate::sinks::bytes_of;
 use md5::{Digest, Md5};
 use std::alloc::Global;
 use std::process::Abort;
@@ -44,21 +45,22 @@ fn are_as_alone(a: &[u8], b: &[u8], c: &[u8], d: &[u8]) -> bool {
         && fourth == Md5::digest(d)
 }
 
+/// Looks at four parts of 1,000 bytes, which this length divides.
+fn expect_parts(rt: &impl Abort, bytes: &[u8], len: usize) {
+    assert!(rt; len <= 130 && bytes.len() == 1_000);
+    let are = are_as_alone(
+        &bytes[..len],
+        &bytes[len..2 * len],
+        &bytes[len..],
+        &bytes[..130 - len],
+    );
+    expect_at(rt, are, len);
+}
+
 #[test]
 fn texts_of_each_length_have_their_digests(rt: HostRuntime) {
-    let mut bytes = [0u8; 1000];
-    for i in 0..1000 {
-        bytes[i] = (i % 251) as u8;
-    }
-    for len in 0..=130 {
-        assert!(rt;
-            are_as_alone(
-                &bytes[..len],
-                &bytes[len..2 * len],
-                &bytes[len..],
-                &bytes[..130 - len]
-            ),
-            "{len}"
-        );
+    let bytes = bytes_of(&rt, 1_000);
+    for len in 0..131 {
+        expect_parts(&rt, bytes.as_slice(), len);
     }
 }

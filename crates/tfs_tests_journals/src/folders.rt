@@ -2,7 +2,7 @@
 //! its text and how many of its bytes are there, and then the choice.
 
 use crate::journals::{front_of, journal_bytes};
-use crate::lines::{Judge, expect_lines, expect_text, expect_words, number_in, split};
+use crate::lines::{Judge, expect_lines, expect_text, expect_that, expect_words, number_in, split};
 use crate::pieces::Pieces;
 use std::alloc::{AllocError, Global};
 use std::process::Abort;
@@ -86,8 +86,15 @@ fn choice_beside(
 ) -> Result<String, AllocError> {
     match choose_beside(alloc, readers, least) {
         Ok(chosen) => chosen_words(alloc, &chosen),
-        Err(NoChoice::Unchosen(unchosen)) => unchosen_words(alloc, unchosen),
-        Err(NoChoice::Unread(number, fault)) => format!(in alloc; "{number} unread {fault:?}"),
+        Err(why) => no_choice_words(alloc, why),
+    }
+}
+
+/// Why there is no choice among readers, in words.
+fn no_choice_words(alloc: Global, why: NoChoice) -> Result<String, AllocError> {
+    match why {
+        NoChoice::Unchosen(unchosen) => unchosen_words(alloc, unchosen),
+        NoChoice::Unread(number, fault) => format!(in alloc; "{number} unread {fault:?}"),
     }
 }
 
@@ -194,7 +201,7 @@ fn going_on(
 /// Compares the bytes of the sink of what goes on from the choice in a folder.
 fn expect_going_on(rt: &(impl Alloc<A = Global> + Abort), words: &str, wanted: &[u8]) {
     let table = going_on(rt, words, 1).ok().expect(rt, "a journal");
-    assert!(rt; table.sink().bytes() == wanted, "{words}");
+    expect_that(rt, table.sink().bytes() == wanted, words);
 }
 
 /// Folders whose choice has one base.
@@ -203,12 +210,16 @@ const OF_ONE_BASE: &str = "1:104:104
 1:104:104 2:92:50
 1:104:104 2:92:92";
 
+/// Compares the bytes of the sink of what goes on from each folder's choice.
+fn expect_one_base(rt: &(impl Alloc<A = Global> + Abort), wanted: &[u8]) {
+    for words in OF_ONE_BASE.lines() {
+        expect_going_on(rt, words, wanted);
+    }
+}
+
 #[test]
 fn the_next_journal_has_the_base_of_the_chosen_one(rt: HostRuntime) {
-    let wanted = journal_bytes(&rt, "92");
-    for words in OF_ONE_BASE.lines() {
-        expect_going_on(&rt, words, wanted.as_slice());
-    }
+    expect_one_base(&rt, journal_bytes(&rt, "92").as_slice());
     assert!(rt; going_on(&rt, "1:104:104", 0).err() == Some(OpenFault::SinkFault));
 }
 
@@ -229,7 +240,7 @@ journal-0000000042.tfj.part -";
 fn names_of_22_bytes_are_those_of_journals(rt: HostRuntime) {
     for line in NAMES.lines() {
         let (name, number) = split(line);
-        assert!(rt; number_of(name) == number.parse::<u64>().ok(), "{line}");
+        expect_that(&rt, number_of(name) == number.parse::<u64>().ok(), line);
     }
 }
 

@@ -32,6 +32,16 @@ pub(crate) fn number_in(rt: &impl Abort, word: &str) -> u64 {
     word.parse::<u64>().ok().expect(rt, "a number")
 }
 
+/// Fails where something isn't so, and tells what it is about.
+pub(crate) fn expect_that(rt: &impl Abort, is_so: bool, about: &str) {
+    assert!(rt; is_so, "{about}");
+}
+
+/// Fails where something isn't so, and tells at which number.
+pub(crate) fn expect_at(rt: &impl Abort, is_so: bool, number: usize) {
+    assert!(rt; is_so, "at {number}");
+}
+
 /// Compares two texts.
 pub(crate) fn expect_text(rt: &impl Abort, found: &str, wanted: &str) {
     assert!(rt; found == wanted, "{found}, and {wanted} is wanted");

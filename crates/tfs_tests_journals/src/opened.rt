@@ -72,16 +72,25 @@ fn journals_of_both_formats_are_opened(rt: HostRuntime) {
 fn the_new_sink_has_the_text_of_format_2(rt: HostRuntime) {
     let opened = opened(rt.alloc(), journal_bytes(&rt, "104").as_slice(), 100);
     let (table, _) = opened.ok().expect(&rt, "a table");
-    assert!(rt; table.sink().bytes() == journal_bytes(&rt, "130").as_slice());
+    has_bytes(&rt, &table, journal_bytes(&rt, "130").as_slice());
+}
+
+/// Checks the bytes of a table's sink.
+fn has_bytes(rt: &impl Abort, table: &Table<MemorySink>, wanted: &[u8]) {
+    assert!(rt; table.sink().bytes() == wanted);
+}
+
+/// Compares what bytes are opened as over sinks that fail at each call, and over one that doesn't.
+fn expect_failing(rt: &(impl Alloc<A = Global> + Abort), bytes: &[u8]) {
+    for calls in 0..3 {
+        expect_opening(rt, bytes, calls, "SinkFault");
+    }
+    expect_opening(rt, bytes, 3, "2 130 Whole");
 }
 
 #[test]
 fn a_sink_that_fails_while_a_journal_is_opened_is_told(rt: HostRuntime) {
-    let bytes = journal_bytes(&rt, "104");
-    for calls in 0..3 {
-        expect_opening(&rt, bytes.as_slice(), calls, "SinkFault");
-    }
-    expect_opening(&rt, bytes.as_slice(), 3, "2 130 Whole");
+    expect_failing(&rt, journal_bytes(&rt, "104").as_slice());
 }
 
 /// Pushes a state of a name, whatever the answer.

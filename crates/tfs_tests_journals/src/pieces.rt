@@ -3,7 +3,7 @@
 ghost use Rattle.std.specs.Prelude.{◌≡◌, [], false};
 
 use crate::journals::{journal_bytes, push_base, push_read, push_records};
-use crate::lines::expect_words;
+use crate::lines::{expect_at, expect_that, expect_words};
 use std::alloc::{AllocError, Global};
 use std::io;
 use std::process::Abort;
@@ -103,10 +103,7 @@ fn is_read_alike(rt: &(impl Alloc<A = Global> + Abort), bytes: &[u8], most: usiz
     let whole = push_whole(rt, &mut wanted, bytes);
     let mut found = Vec::new(rt.alloc());
     let end = push_pieces(rt, &mut found, bytes, most);
-    assert!(rt;
-        end == whole && found == wanted,
-        "{most} {end:?} {found:?}, and {wanted:?} is wanted"
-    );
+    expect_at(rt, end == whole && found == wanted, most);
 }
 
 /// A table in words: its position, its names, the bytes of its sink, and how the journal ended that it was made from.
@@ -191,13 +188,17 @@ fn damaged_bytes_in_pieces_are_what_they_are_whole(rt: HostRuntime) {
     }
 }
 
+/// Checks that a source which fails behind first bytes, of each third count, is told.
+fn are_told(rt: &(impl Alloc<A = Global> + Abort), bytes: &[u8]) {
+    for i in 0..65 {
+        let front = &bytes[..(i * 3).min(bytes.len())];
+        expect_words(rt, rebased_pieces(rt.alloc(), front, 50, true), "Source");
+    }
+}
+
 #[test]
 fn a_source_that_fails_is_told(rt: HostRuntime) {
-    let bytes = journal_bytes(&rt, "192");
-    for i in 0..65 {
-        let front = &bytes.as_slice()[..(i * 3).min(bytes.len())];
-        expect_words(&rt, rebased_pieces(rt.alloc(), front, 50, true), "Source");
-    }
+    are_told(&rt, journal_bytes(&rt, "192").as_slice());
 }
 
 /// How many entries a text has.
@@ -216,17 +217,20 @@ fn has_only_entries(
     requires { buffer.old ≡ record { taken = 0; bytes = [] } }
 {
     let front = read_front(rt.alloc(), buffer, source).expect(rt, "a front");
-    let found = front.piece.entries.as_slice().len();
-    assert!(rt; found == count, "{found} entries, and {count} are wanted");
-    assert!(rt; front.piece.end.is_none(), "the end isn't known yet");
+    expect_at(rt, front.piece.entries.as_slice().len() == count, count);
+    expect_that(rt, front.piece.end.is_none(), "the end isn't known yet");
+}
+
+/// Checks that all entries of a text are taken before more is read, where the source fails.
+fn is_taken_first(rt: &(impl Alloc<A = Global> + Abort), bytes: &[u8]) {
+    let mut source = source_of(bytes, 1_000, true);
+    let mut buffer = Buffer::new(rt.alloc()).expect(rt, "memory");
+    has_only_entries(rt, &mut buffer, &mut source, count_of(rt, bytes));
+    let fails = read_more(rt.alloc(), &mut buffer, &mut source).is_err();
+    expect_that(rt, fails, "the source fails where more is read");
 }
 
 #[test]
 fn what_is_there_is_taken_before_more_is_read(rt: HostRuntime) {
-    let bytes = journal_bytes(&rt, "192");
-    let mut source = source_of(bytes.as_slice(), 1_000, true);
-    let mut buffer = Buffer::new(rt.alloc()).expect(&rt, "memory");
-    has_only_entries(&rt, &mut buffer, &mut source, count_of(&rt, &bytes));
-    let more = read_more(rt.alloc(), &mut buffer, &mut source);
-    assert!(rt; more.is_err(), "the source fails where more is read");
+    is_taken_first(&rt, journal_bytes(&rt, "192").as_slice());
 }

@@ -4,7 +4,7 @@ use crate::helpers::{entry_of, expect_vector, rows_of};
 use crate::lines::{Judge, expect_lines};
 use std::alloc::Global;
 use std::process::Abort;
-use tfs_records::{Base, encode, encode_base};
+use tfs_records::{Base, Entry, encode, encode_base};
 
 /// Entries, and their records.
 const RECORDS: &str = "a lock B = 01 01 61 0000000a B 51e58c87956661f2abce797e7e32df48
@@ -15,13 +15,18 @@ a push A S1 = 03 01 61 0000002c 0001 41 S1 d5c1df6dd5d4223c61dd0a2af1244df7
 b push - S2 = 03 01 62 0000002b 0000 S2 fc2b0f1dacd37ac45c14a899ad40c2e4
 a delete - = 04 01 61 00000000 f79d446d1720acbc3b66c5987cd21b9a";
 
+/// The record of an entry's copy.
+fn record_of(rt: &(impl Alloc<A = Global> + Abort), entry: &Entry) -> Vec<u8> {
+    let copy = entry.copy().expect(rt, "memory");
+    encode(rt.alloc(), &copy).expect(rt, "memory")
+}
+
 /// An entry, and the record of its copy.
 struct Records;
 
 impl Judge for Records {
     fn judge(rt: &(impl Alloc<A = Global> + Abort), given: &str, wanted: &str) {
-        let entry = entry_of(rt, given).copy().expect(rt, "memory");
-        let record = encode(rt.alloc(), &entry).expect(rt, "memory");
+        let record = record_of(rt, &entry_of(rt, given));
         expect_vector(rt, record.as_slice(), wanted);
     }
 }

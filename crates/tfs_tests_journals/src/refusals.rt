@@ -1,16 +1,16 @@
 //! The table of refusals, as docs/JOURNAL.md has it (Refusals).
 
 use crate::helpers::{A, info_of};
+use crate::lines::expect_that;
 use std::alloc::Global;
 use std::process::Abort;
 use tfs_calls::{Methods, Refusal};
 
 /// Checks a refusal's number, name and status.
 fn is_row(rt: &impl Abort, refusal: Refusal, number: u8, name: &str, status: u16) {
-    assert!(rt;
-        refusal.number() == number && refusal.name() == name && refusal.status() == status,
-        "{name}"
-    );
+    expect_that(rt, refusal.number() == number, name);
+    expect_that(rt, refusal.name() == name, name);
+    expect_that(rt, refusal.status() == status, name);
 }
 
 #[test]

@@ -2,6 +2,7 @@
 //! the holder that is there by then.
 
 use crate::helpers::{act_of, text_of};
+use crate::lines::expect_that;
 use std::alloc::Global;
 use std::process::Abort;
 use tfs_rules::{Name, Record, Verdict};
@@ -63,7 +64,7 @@ fn follow_all(rt: &(impl Alloc<A = Global> + Abort), lines: &str) {
     let mut record = Record::empty();
     for line in lines.lines() {
         let (act, wanted) = line.rsplit_once(' ').expect(rt, "a line has words");
-        assert!(rt; is_so(rt, &mut record, act, wanted), "{line}");
+        expect_that(rt, is_so(rt, &mut record, act, wanted), line);
     }
 }
 
@@ -120,15 +121,20 @@ fn the_lock_is_looked_at_before_the_state(rt: HostRuntime) {
 fn is_name(rt: &(impl Alloc<A = Global> + Abort), text: &str) -> bool {
     let given = String::from_str(rt.alloc(), text).expect(rt, "memory");
     match Name::read(given) {
-        Some(name) => name.copy().expect(rt, "memory").text() == text,
+        Some(name) => is_kept(rt, &name, text),
         None => false,
     }
+}
+
+/// Whether the copy of a name has its text.
+fn is_kept(rt: &impl Abort, name: &Name, text: &str) -> bool {
+    name.copy().expect(rt, "memory").text() == text
 }
 
 /// Looks at whether each of some texts, between which bars stand, is a name.
 fn expect_names(rt: &(impl Alloc<A = Global> + Abort), texts: &str, are_names: bool) {
     for text in texts.split('|') {
-        assert!(rt; is_name(rt, text) == are_names, "{text}");
+        expect_that(rt, is_name(rt, text) == are_names, text);
     }
 }
 

@@ -1,7 +1,7 @@
 //! Tables over sinks in memory, also ones that fail at each call. A line has a change of `a` and its answer, or what the table shows.
 
 use crate::helpers::{draft_of, name_of, text_of};
-use crate::lines::{number_in, parts_of};
+use crate::lines::{expect_that, number_in, parts_of};
 use std::alloc::Global;
 use std::process::Abort;
 use tfs_records::MemorySink;
@@ -78,7 +78,7 @@ fn follow_all(rt: &(impl Alloc<A = Global> + Abort), step: usize, calls: u64, li
     let mut table = table_over(rt, step, calls).ok().expect(rt, "a table");
     for line in lines.lines() {
         let (asked, wanted) = parts_of(rt, line);
-        assert!(rt; is_so(rt, &mut table, asked, wanted), "{line}");
+        expect_that(rt, is_so(rt, &mut table, asked, wanted), line);
     }
 }
 

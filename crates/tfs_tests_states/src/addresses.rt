@@ -1,6 +1,8 @@
 //! Texts of addresses with their answers, worked out by hand; keys as JSON; and large texts.
 
-use super::rows::{Judge, copies, expect_each, expect_rows, expect_words};
+use super::rows::{
+    Judge, copies, expect_copies_between, expect_each, expect_rows, expect_that, expect_words,
+};
 use std::alloc::{AllocError, Global};
 use std::process::Abort;
 use tfs_addr::{AddrFault, Key, Mode, config_text, instance_text, strip};
@@ -130,25 +132,53 @@ fn expect_instance(
     expect_words(rt, found, wanted);
 }
 
+/// The text of a word in quotes; none of another word.
+fn text_in(word: &str) -> Option<&str> {
+    word.strip_prefix('"')?.strip_suffix('"')
+}
+
+/// The key of a word: a number, or a text in quotes; none of another word.
+fn key_in(word: &str) -> Option<Key<'_>> {
+    match word.parse::<u64>() {
+        Ok(number) => Some(Key::Number(number)),
+        Err(_) => Some(Key::Text(text_in(word)?)),
+    }
+}
+
+/// A key, a deposed object's text, and a module. A `-` stands for none of the first two.
+struct Instances;
+
+impl Judge for Instances {
+    fn judge(rt: &(impl Alloc<A = Global> + Abort), given: &str, wanted: &str) {
+        let (key, rest) = given.split_once(' ').expect(rt, "a key");
+        let (deposed, module) = rest.split_once(' ').expect(rt, "a deposed object");
+        expect_instance(rt, module, key_in(key), text_in(deposed), wanted);
+    }
+}
+
+/// Instances with a key, of no module.
+const KEYED: &str = r#"- -  => t.n
+0 -  => t.n[0]
+18446744073709551615 -  => t.n[18446744073709551615]
+"k" -  => t.n["k"]
+"" -  => t.n[""]
+- "ab12"  => t.n (deposed ab12)
+0 "ab12"  => t.n[0] (deposed ab12)
+- ""  => t.n (deposed )"#;
+
 #[test]
 fn instance_addresses_have_their_keys(rt: HostRuntime) {
-    expect_instance(&rt, "", None, None, "t.n");
-    expect_instance(&rt, "", Some(Key::Number(0)), None, "t.n[0]");
-    let largest = Some(Key::Number(u64::MAX));
-    expect_instance(&rt, "", largest, None, "t.n[18446744073709551615]");
-    expect_instance(&rt, "", Some(Key::Text("k")), None, "t.n[\"k\"]");
-    expect_instance(&rt, "", Some(Key::Text("")), None, "t.n[\"\"]");
-    expect_instance(&rt, "", None, Some("ab12"), "t.n (deposed ab12)");
-    let first = Some(Key::Number(0));
-    expect_instance(&rt, "", first, Some("ab12"), "t.n[0] (deposed ab12)");
-    expect_instance(&rt, "", None, Some(""), "t.n (deposed )");
+    expect_rows::<Instances>(&rt, KEYED);
 }
+
+/// Instances without a key, in modules.
+const IN_MODULES: &str = "- - module.m[7] => module.m[7].t.n
+- - [0] => [0].t.n
+- - a] => a].t.n";
 
 #[test]
 fn instance_addresses_have_their_module_as_it_came(rt: HostRuntime) {
-    expect_instance(&rt, "module.m[7]", None, None, "module.m[7].t.n");
-    expect_instance(&rt, "[0]", None, None, "[0].t.n");
-    expect_instance(&rt, "a]", None, None, "a].t.n");
+    expect_rows::<Instances>(&rt, IN_MODULES);
     let key = Some(Key::Number(1));
     let text = instance_text(rt.alloc(), "", Mode::DataSource, "t", "n", key, None);
     expect_words(&rt, text, "data.t.n[1]");
@@ -181,36 +211,30 @@ const LARGE: [usize; 2] = [1 << 16, 1 << 20];
 fn expect_copies(rt: &(impl Alloc<A = Global> + Abort), count: usize, given: &str, wanted: &str) {
     let bare = strip(rt.alloc(), copies(rt, given, count).as_str());
     let is_wanted = bare.expect(rt, "no fault") == copies(rt, wanted, count);
-    assert!(rt; is_wanted, "{count} times {given}");
+    expect_that(rt, is_wanted, given);
 }
 
-/// Strips a text of many keys, and the same text with a bracket behind it.
-fn expect_large(rt: &(impl Alloc<A = Global> + Abort), count: usize) {
-    expect_copies(rt, count, PART, BARE_PART);
-    let stray = format!(in rt.alloc(); "{}]", copies(rt, PART, count)).expect(rt, "memory");
-    Faults::judge(rt, stray.as_str(), IS_STRAY);
-}
+/// What stands around a text to put a bracket behind it.
+const STRAY_ENDS: (&str, &str) = ("", "]");
 
 #[test]
 fn large_texts_are_stripped(rt: HostRuntime) {
     for count in LARGE {
-        expect_large(&rt, count);
+        expect_copies(&rt, count, PART, BARE_PART);
+        expect_copies_between::<Faults>(&rt, STRAY_ENDS, PART, count, IS_STRAY);
     }
 }
 
-/// Strips a text that is one key but for two characters, and the same text while the key is open.
-fn expect_large_key(rt: &(impl Alloc<A = Global> + Abort), count: usize) {
-    let key = copies(rt, BARE_PART, count);
-    let open = format!(in rt.alloc(); "a[\"{key}\"").expect(rt, "memory");
-    Faults::judge(rt, open.as_str(), IS_UNCLOSED);
-    let closed = format!(in rt.alloc(); "{open}]b").expect(rt, "memory");
-    Stripped::judge(rt, closed.as_str(), "'ab'");
-}
+/// What stands around the text of a key that is open, and of one that is closed.
+const OPEN_ENDS: (&str, &str) = ("a[\"", "\"");
+
+const CLOSED_ENDS: (&str, &str) = ("a[\"", "\"]b");
 
 #[test]
 fn large_texts_of_one_piece_are_stripped(rt: HostRuntime) {
     for count in LARGE {
         expect_copies(&rt, count, BARE_PART, BARE_PART);
-        expect_large_key(&rt, count);
+        expect_copies_between::<Faults>(&rt, OPEN_ENDS, BARE_PART, count, IS_UNCLOSED);
+        expect_copies_between::<Stripped>(&rt, CLOSED_ENDS, BARE_PART, count, "'ab'");
     }
 }

@@ -17,9 +17,14 @@ pub(crate) fn read(rt: &(impl Alloc<A = Global> + Abort), text: &[u8]) -> Result
 /// What was read, in words: the serial and the lineage, and a line for each instance; or the fault.
 fn doc_words(alloc: Global, read: Result<Doc, StateFault>) -> Result<String, StateFault> {
     let doc = read?;
+    Ok(listing(alloc, &doc)?)
+}
+
+/// The words of a document.
+fn listing(alloc: Global, doc: &Doc) -> Result<String, AllocError> {
     let mut text = format!(in alloc; "{} {:?}\n", doc.serial(), doc.lineage())?;
     for u in 0..doc.len() {
-        push_line(&mut text, &doc, u)?;
+        push_line(&mut text, doc, u)?;
     }
     Ok(text)
 }

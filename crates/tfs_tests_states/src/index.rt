@@ -1,7 +1,7 @@
 //! What changes reach in states, worked out by hand. An answer is a list of numbers of instances, which begin with 0.
 
 use super::both_ways::read;
-use super::rows::{expect_words, parts_of};
+use super::rows::{expect_that, expect_words, parts_of};
 use std::alloc::{AllocError, Global};
 use std::process::Abort;
 use std::sync::Arc;
@@ -37,22 +37,26 @@ fn expect(rt: &(impl Alloc<A = Global> + Abort), version: &Version, texts: &[&st
     expect_words(rt, words_of(rt.alloc(), found), all);
 }
 
-/// Compares both answers to the texts of a row, between which bars stand.
-fn expect_row(rt: &(impl Alloc<A = Global> + Abort), version: &Version, row: &str) {
-    let (line, wanted) = parts_of(rt, row);
+/// The texts of a line, between which bars stand.
+fn texts_of<'t>(rt: &(impl Alloc<A = Global> + Abort), line: &'t str) -> Vec<&'t str> {
     let mut texts = Vec::new(rt.alloc());
     for text in line.split(" | ") {
         texts.push(text).ok().expect(rt, "memory");
     }
-    expect(rt, version, &texts, wanted);
+    texts
+}
+
+/// Compares both answers to each row of texts.
+fn expect_each(rt: &(impl Alloc<A = Global> + Abort), version: &Version, rows: &str) {
+    for row in rows.lines() {
+        let (line, wanted) = parts_of(rt, row);
+        expect(rt, version, &texts_of(rt, line), wanted);
+    }
 }
 
 /// Compares the answers of rows of queries.
 fn expect_rows(rt: &(impl Alloc<A = Global> + Abort), resources: &str, rows: &str) {
-    let version = version_of(rt, resources);
-    for row in rows.lines() {
-        expect_row(rt, &version, row);
-    }
+    expect_each(rt, &version_of(rt, resources), rows);
 }
 
 /// A chain of three, whose first depends on what isn't there.
@@ -78,19 +82,17 @@ fn reaches(version: &Version, v: usize, u: usize) -> bool {
     v < version.doc().len() && u < version.doc().len() && version.reaches(v, u)
 }
 
-/// Compares what instance v of a chain of three reaches with those behind it.
-fn expect_behind(rt: &impl Abort, version: &Version, v: usize) {
-    for u in 0..3 {
-        assert!(rt; reaches(version, v, u) == (v < u), "{v} and {u}");
+/// Compares what each instance of a chain of three reaches with those behind it.
+fn expect_behind(rt: &impl Abort, version: &Version) {
+    for pair in 0..9_usize {
+        let (v, u) = (pair / 3, pair % 3);
+        expect_that(rt, reaches(version, v, u) == (v < u), "a pair of the chain");
     }
 }
 
 #[test]
 fn an_instance_reaches_those_behind_it_in_a_chain(rt: HostRuntime) {
-    let version = version_of(&rt, THREE);
-    for v in 0..3 {
-        expect_behind(&rt, &version, v);
-    }
+    expect_behind(&rt, &version_of(&rt, THREE));
 }
 
 /// Two instances that depend on each other, one that depends on itself, and one that depends on none.
@@ -191,25 +193,33 @@ fn expect_many(
     expect(rt, version, &texts, wanted);
 }
 
+/// Compares the answers to no text, to the most texts, and to one text more, over [`FIVE`].
+fn expect_limits(rt: &(impl Alloc<A = Global> + Abort), version: &Version) {
+    expect_many(rt, version, "t.a", 0, "NoAddress and NoAddress");
+    expect_many(rt, version, "t.a", 64, "[2, 3] and [2, 3]");
+    let many = "TooManyAddresses and TooManyAddresses";
+    expect_many(rt, version, "t.a", 65, many);
+    expect_many(rt, version, "x.y", 65, many);
+}
+
 #[test]
 fn a_query_has_1_to_64_texts(rt: HostRuntime) {
-    let version = version_of(&rt, FIVE);
-    expect_many(&rt, &version, "t.a", 0, "NoAddress and NoAddress");
-    expect_many(&rt, &version, "t.a", 64, "[2, 3] and [2, 3]");
-    let many = "TooManyAddresses and TooManyAddresses";
-    expect_many(&rt, &version, "t.a", 65, many);
-    expect_many(&rt, &version, "x.y", 65, many);
+    expect_limits(&rt, &version_of(&rt, FIVE));
 }
 
 /// A query over a state without instances.
 const OF_NONE: &str = "t.a => UnknownAddress(0) and UnknownAddress(0)";
 
+/// Looks at a version without instances.
+fn expect_none(rt: &(impl Alloc<A = Global> + Abort), version: &Version) {
+    expect_that(rt, version.doc().len() == 0, "no instances");
+    expect_many(rt, version, "t.a", 0, "NoAddress and NoAddress");
+    expect_each(rt, version, OF_NONE);
+}
+
 #[test]
 fn a_state_without_instances_has_an_index(rt: HostRuntime) {
-    let version = version_of(&rt, "");
-    assert!(rt; version.doc().len() == 0);
-    expect_many(&rt, &version, "t.a", 0, "NoAddress and NoAddress");
-    expect_row(&rt, &version, OF_NONE);
+    expect_none(&rt, &version_of(&rt, ""));
 }
 
 /// Compares the words of a fault.

@@ -1,7 +1,9 @@
 //! The instances of states: their addresses and what depends on what, worked out by hand, and the digests of texts.
 
 use super::both_ways::words_of;
-use super::rows::{Judge, copies, expect_each, expect_rows, expect_text};
+use super::rows::{
+    Judge, copies, expect_copies_between, expect_each, expect_rows, expect_text, expect_that,
+};
 use std::alloc::Global;
 use std::process::Abort;
 use tfs_state::text_digest;
@@ -109,30 +111,36 @@ fn keys_of_modules_play_no_part_in_dependencies(rt: HostRuntime) {
     Resources::judge(&rt, KEYED_MODULES, KEYED_MODULES_LINES);
 }
 
-/// A resource in 20,000 modules, one in another, with one instance.
-fn deep_resource(rt: &(impl Alloc<A = Global> + Abort)) -> String {
-    let path = copies(rt, "module.m[0].", 20_000);
-    let text = format!(in rt.alloc();
-        "[{{\"module\":\"{path}x\",\"mode\":\"data\",\"type\":\"t\",\"name\":\"n\",\"instances\":[{{\"index_key\":7}}]}}]"
-    );
-    text.expect(rt, "memory")
-}
+/// A module, and what it is without its key.
+const MODULE: &str = "module.m[0].";
 
-/// The line of [`deep_resource`].
+const BARE_MODULE: &str = "module.m.";
+
+/// How many modules stand one in another.
+const DEPTH: usize = 20_000;
+
+/// What stands around these modules in a resource with one instance.
+const DEEP_ENDS: (&str, &str) = (
+    r#"[{"module":""#,
+    r#"x","mode":"data","type":"t","name":"n","instances":[{"index_key":7}]}]"#,
+);
+
+/// The line of the resource in these modules.
 fn deep_line(rt: &(impl Alloc<A = Global> + Abort)) -> String {
-    let path = copies(rt, "module.m[0].", 20_000);
-    let bare = copies(rt, "module.m.", 20_000);
+    let path = copies(rt, MODULE, DEPTH);
+    let bare = copies(rt, BARE_MODULE, DEPTH);
     format!(in rt.alloc(); "{path}x.data.t.n[7] of {bare}x.data.t.n:").expect(rt, "memory")
 }
 
 #[test]
 fn a_long_module_path_is_read(rt: HostRuntime) {
-    Resources::judge(&rt, deep_resource(&rt).as_str(), deep_line(&rt).as_str());
+    let line = deep_line(&rt);
+    expect_copies_between::<Resources>(&rt, DEEP_ENDS, MODULE, DEPTH, line.as_str());
 }
 
 /// Compares the digest of a text.
 fn expect_digest(rt: &impl Abort, text: &str, wanted: u64) {
-    assert!(rt; text_digest(text) == wanted, "{text}");
+    expect_that(rt, text_digest(text) == wanted, text);
 }
 
 // The vectors are published with FNV-1a (RFC 9923).

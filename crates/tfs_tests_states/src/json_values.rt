@@ -1,6 +1,6 @@
 //! Which bytes spell a JSON value, and what stands at its members, by hand from RFC 8259.
 
-use super::rows::{expect_words, parts_of};
+use super::rows::{expect_that, expect_words, parts_of};
 use json::Scratch;
 use serde_json::Value;
 use std::alloc::{AllocError, Global};
@@ -87,7 +87,8 @@ fn expect_value(rt: &(impl Alloc<A = Global> + Abort), bytes: &[u8], is_one: boo
         true => fault == None,
         false => fault == Some(JsonFault::NotJson),
     };
-    assert!(rt; is_read == is_one && is_wanted, "{bytes:?}");
+    expect_that(rt, is_read == is_one, "by serde_json");
+    expect_that(rt, is_wanted, "by its own reader");
 }
 
 #[test]

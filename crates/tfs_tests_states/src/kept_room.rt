@@ -41,14 +41,19 @@ fn expect_behind(rt: &(impl Alloc<A = Global> + Abort), before: &str) {
     }
 }
 
-#[test]
-fn a_state_behind_a_long_one_is_read_as_it_is_alone(rt: HostRuntime) {
-    let given = copies(&rt, "\\u00e9\\n", 1_000);
-    let shown = copies(&rt, "é\\n", 1_000);
+/// The row of a state with a long lineage.
+fn long_row(rt: &(impl Alloc<A = Global> + Abort)) -> String {
+    let given = copies(rt, "\\u00e9\\n", 1_000);
+    let shown = copies(rt, "é\\n", 1_000);
     let row = format!(in rt.alloc();
         "{{\"version\":4,\"serial\":9,\"lineage\":\"{given}\"}} => 9 \"{shown}\""
     );
-    expect_behind(&rt, row.expect(&rt, "memory").as_str());
+    row.expect(rt, "memory")
+}
+
+#[test]
+fn a_state_behind_a_long_one_is_read_as_it_is_alone(rt: HostRuntime) {
+    expect_behind(&rt, long_row(&rt).as_str());
 }
 
 /// A text that is refused within an escape.

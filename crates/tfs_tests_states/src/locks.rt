@@ -1,6 +1,8 @@
 //! Texts of locks with their answers, by hand from RFC 8259 and from the limits of lock texts.
 
-use super::rows::{Judge, copies, expect_alike, expect_rows, expect_text};
+use super::rows::{
+    Judge, copies_between, expect_alike, expect_copies_between, expect_rows, expect_text,
+};
 use serde_json::Value;
 use std::alloc::{AllocError, Global};
 use std::process::Abort;
@@ -9,9 +11,16 @@ use tfs_lock::LockInfo;
 /// What a text is read as, in words: its identifier, or its fault.
 fn lock_words(alloc: Global, text: &[u8]) -> Result<String, AllocError> {
     match LockInfo::read(alloc, text.to_vec(alloc)?) {
-        Ok(info) if info.bytes() == text => format!(in alloc; "{:?}", info.id().text()),
-        Ok(_) => String::from_str(alloc, "the text isn't kept"),
+        Ok(info) => info_words(alloc, &info, text),
         Err(fault) => format!(in alloc; "{fault:?}"),
+    }
+}
+
+/// The identifier of lock information that was read of a text, in words.
+fn info_words(alloc: Global, info: &LockInfo, text: &[u8]) -> Result<String, AllocError> {
+    match info.bytes() == text {
+        true => format!(in alloc; "{:?}", info.id().text()),
+        false => String::from_str(alloc, "the text isn't kept"),
     }
 }
 
@@ -126,8 +135,8 @@ struct Filled;
 
 impl Judge for Filled {
     fn judge(rt: &(impl Alloc<A = Global> + Abort), given: &str, wanted: &str) {
-        let text = given.replace(rt.alloc(), '#', copies(rt, "a", 257).as_str());
-        Texts::judge(rt, text.expect(rt, "memory").as_str(), wanted);
+        let ends = given.split_once('#').expect(rt, "two ends");
+        expect_copies_between::<Texts>(rt, ends, "a", 257, wanted);
     }
 }
 
@@ -136,17 +145,13 @@ fn other_faults_are_told_before_a_long_id(rt: HostRuntime) {
     expect_rows::<Filled>(&rt, FILLED);
 }
 
-/// Compares the answer of a text whose identifier is an escape, so many times over.
-fn expect_escapes(rt: &(impl Alloc<A = Global> + Abort), escape: &str, count: usize, wanted: &str) {
-    let text = format!(in rt.alloc(); "{{\"ID\":\"{}\"}}", copies(rt, escape, count));
-    Texts::judge(rt, text.expect(rt, "memory").as_str(), wanted);
-}
+/// What stands around an identifier.
+const ID_ENDS: (&str, &str) = (r#"{"ID":""#, r#""}"#);
 
 #[test]
 fn the_length_of_an_id_is_that_after_decoding(rt: HostRuntime) {
-    let most = format!(in rt.alloc(); "{:?}", copies(&rt, "A", 256).as_str());
-    let most = most.expect(&rt, "memory");
-    expect_escapes(&rt, "\\u0041", 256, most.as_str());
-    expect_escapes(&rt, "\\u0041", 257, "TooLong");
-    expect_escapes(&rt, "\\u00e9", 129, "TooLong");
+    let most = copies_between(&rt, ("\"", "\""), "A", 256);
+    expect_copies_between::<Texts>(&rt, ID_ENDS, "\\u0041", 256, most.as_str());
+    expect_copies_between::<Texts>(&rt, ID_ENDS, "\\u0041", 257, "TooLong");
+    expect_copies_between::<Texts>(&rt, ID_ENDS, "\\u00e9", 129, "TooLong");
 }

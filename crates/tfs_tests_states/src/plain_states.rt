@@ -45,8 +45,8 @@ fn state_words(alloc: Global, value: &Value) -> Result<String, StateFault> {
     let Some(list) = list_at(value, "resources") else {
         return Err(StateFault::Resource(0));
     };
-    let front = format!(in alloc; "{serial} {lineage:?}\n")?;
-    instances_of(alloc, list)?.behind(front)
+    let instances = instances_of(alloc, list)?;
+    Ok(instances.words(alloc, serial, lineage)?)
 }
 
 /// A whole number.
@@ -201,12 +201,21 @@ impl Instances {
         value: &Value,
         place: (usize, usize),
     ) -> Result<(), StateFault> {
+        let address = address_of(alloc, resource, value, place)?;
+        push(&mut self.addresses, address)?;
+        let config = config_of(alloc, resource, place.0)?;
+        push(&mut self.configs, config)?;
+        self.push_dependencies(alloc, value, place)
+    }
+
+    /// Reads the dependencies of instance j of resource i, the last one.
+    fn push_dependencies(
+        &mut self,
+        alloc: Global,
+        value: &Value,
+        place: (usize, usize),
+    ) -> Result<(), StateFault> {
         let fault = StateFault::Instance(place.0, place.1);
-        push(
-            &mut self.addresses,
-            address_of(alloc, resource, value, place)?,
-        )?;
-        push(&mut self.configs, config_of(alloc, resource, place.0)?)?;
         let list = list_at(value, "dependencies").ok_or(fault)?;
         for (k, value) in list.iter().enumerate() {
             let fault = StateFault::Dependency(place.0, place.1, k);
@@ -229,8 +238,9 @@ impl Instances {
         Ok(push(&mut self.dependencies, (self.configs.len(), bare))?)
     }
 
-    /// Writes a line for each instance behind a text.
-    fn behind(&self, mut text: String) -> Result<String, StateFault> {
+    /// The words of a state with this serial, this lineage and these instances.
+    fn words(&self, alloc: Global, serial: u64, lineage: &str) -> Result<String, AllocError> {
+        let mut text = format!(in alloc; "{serial} {lineage:?}\n")?;
         for u in 0..self.addresses.len() {
             self.push_line(&mut text, u)?;
         }
@@ -246,6 +256,11 @@ impl Instances {
             text.push('\n')?;
         }
         write!(text, "{address} of {config}:")?;
+        self.push_numbers(text, u)
+    }
+
+    /// Writes the numbers of those that an instance depends on.
+    fn push_numbers(&self, text: &mut String, u: usize) -> Result<(), AllocError> {
         for (v, config) in self.configs.iter().enumerate() {
             if self.depends(u, config) {
                 write!(text, " {v}")?;

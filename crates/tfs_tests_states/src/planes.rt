@@ -2,6 +2,7 @@
 ghost use Rattle.std.specs.Prelude.{◌≡◌, ◌≤◌, IfOk};
 
 use super::plain_walks::reached;
+use super::rows::expect_that;
 use super::shapes::{NAMED, Shape, has, pairs_of, plane_of, relate};
 use std::alloc::{AllocError, Global};
 use std::process::Abort;
@@ -73,9 +74,8 @@ fn a_row_is_a_set_of_numbers(rt: HostRuntime) {
     expect_members(&rt, &row, &[]);
 }
 
-#[test]
-fn the_next_member_is_the_first_from_a_number_on(rt: HostRuntime) {
-    let row = row_of(rt.alloc(), 200, &[0, 1, 63, 64, 130, 199]).expect(&rt, "memory");
+/// Looks at the next members of the row with 0, 1, 63, 64, 130 and 199.
+fn expect_next(rt: &impl Abort, row: &Row) {
     for (from, member) in [
         (0, 0),
         (1, 1),
@@ -85,11 +85,22 @@ fn the_next_member_is_the_first_from_a_number_on(rt: HostRuntime) {
         (131, 199),
         (199, 199),
     ] {
-        assert!(rt; row.next_member(from) == Some(member), "from {from}");
+        assert!(rt; row.next_member(from) == Some(member));
     }
+}
+
+/// Looks at numbers of at least 200, from which the row has no member.
+fn expect_no_next(rt: &impl Abort, row: &Row) {
     for from in [200, 511, 512, 4096, usize::MAX] {
-        assert!(rt; row.next_member(from) == None, "from {from}");
+        assert!(rt; row.next_member(from) == None);
     }
+}
+
+#[test]
+fn the_next_member_is_the_first_from_a_number_on(rt: HostRuntime) {
+    let row = row_of(rt.alloc(), 200, &[0, 1, 63, 64, 130, 199]).expect(&rt, "memory");
+    expect_next(&rt, &row);
+    expect_no_next(&rt, &row);
 }
 
 #[test]
@@ -127,12 +138,13 @@ fn chain(alloc: Global, size: usize) -> Result<Plane, AllocError>
 /// Looks at a number of a closed chain: it leads to the last one, and neither to the first nor to itself.
 fn expect_link(rt: &impl Abort, plane: &Plane, i: usize) {
     let size = plane.size();
-    assert!(rt; !has(plane, i, 0) && !has(plane, i, i), "{i} of {size}");
-    let is_last = i == size.saturating_sub(1);
-    assert!(rt;
-        is_last || has(plane, i, size.saturating_sub(1)),
-        "{i} of {size}"
+    let last = size.saturating_sub(1);
+    expect_that(
+        rt,
+        !has(plane, i, 0) && !has(plane, i, i),
+        "neither the first nor itself",
     );
+    expect_that(rt, i == last || has(plane, i, last), "the last one");
 }
 
 /// Looks at the first number of a closed chain of this size, the one in its midst and the last one.
@@ -189,10 +201,19 @@ fn expect_closure(rt: &(impl Alloc<A = Global> + Abort), shape: Shape, size: usi
 {
     let pairs = pairs_of(rt.alloc(), shape, size).expect(rt, "memory");
     let plane = closure_of(rt.alloc(), size, &pairs).expect(rt, "memory");
-    for i in 0..size {
-        if i % step.max(1) == 0 || i + 1 == size {
-            let agrees = row_agrees(rt, &plane, &pairs, i);
-            assert!(rt; agrees, "{shape:?} of {size} from {i}");
+    expect_rows(rt, &plane, &pairs, step);
+}
+
+/// Compares rows of the closure of these pairs with what the plain search finds.
+fn expect_rows(
+    rt: &(impl Alloc<A = Global> + Abort),
+    plane: &Plane,
+    pairs: &[(usize, usize)],
+    step: usize,
+) {
+    for i in 0..plane.size() {
+        if i % step.max(1) == 0 || i + 1 == plane.size() {
+            expect_that(rt, row_agrees(rt, plane, pairs, i), "a row of the closure");
         }
     }
 }

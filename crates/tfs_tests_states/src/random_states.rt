@@ -47,8 +47,8 @@ fn push_resource(list: &mut String, seed: u64, i: u64, count: u64) -> Result<(),
     list.push_str("\"x.y\"]}]},")
 }
 
-/// Resources without pattern, and one without instances.
-fn random_resources(rt: &(impl Alloc<A = Global> + Abort), seed: u64) -> String {
+/// The version of resources without pattern, and of one without instances.
+fn random_version(rt: &(impl Alloc<A = Global> + Abort), seed: u64) -> Version {
     let count = seed % 7 + 1;
     let mut list = String::new(rt.alloc());
     for i in 0..count {
@@ -56,7 +56,7 @@ fn random_resources(rt: &(impl Alloc<A = Global> + Abort), seed: u64) -> String 
     }
     list.push_str("{\"mode\":\"data\",\"type\":\"t\",\"name\":\"none\"}")
         .expect(rt, "memory");
-    list
+    version_of(rt, list.as_str())
 }
 
 /// Compares an answer with that of the plain search, and tells whether some instance is in it.
@@ -78,9 +78,8 @@ fn finds(rt: &(impl Alloc<A = Global> + Abort), version: &Version, texts: &[&str
     has_some(rt, version.any(rt.alloc(), texts), wanted)
 }
 
-/// How many of some queries over a random state give instances.
-fn findings(rt: &(impl Alloc<A = Global> + Abort), seed: u64) -> usize {
-    let version = version_of(rt, random_resources(rt, seed).as_str());
+/// How many of some queries over a version give instances.
+fn findings(rt: &(impl Alloc<A = Global> + Abort), version: &Version) -> usize {
     let mut count: usize = 0;
     for texts in [
         ["t.c0", "t.c0"],
@@ -89,7 +88,7 @@ fn findings(rt: &(impl Alloc<A = Global> + Abort), seed: u64) -> usize {
         ["t.c1", "module.m[1].t.c1[\"k\"]"],
         ["module.m.t.c2", "t.c0"],
     ] {
-        count = count.saturating_add(usize::from(finds(rt, &version, &texts)));
+        count = count.saturating_add(usize::from(finds(rt, version, &texts)));
     }
     count
 }
@@ -98,7 +97,7 @@ fn findings(rt: &(impl Alloc<A = Global> + Abort), seed: u64) -> usize {
 fn versions_of_random_states_agree_with_the_plain_search(rt: HostRuntime) {
     let mut count: usize = 0;
     for seed in 0..40 {
-        count = count.saturating_add(findings(&rt, seed));
+        count = count.saturating_add(findings(&rt, &random_version(&rt, seed)));
     }
     assert!(rt; count > 20, "{count} answers with instances");
 }

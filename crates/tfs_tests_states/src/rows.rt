@@ -38,6 +38,34 @@ pub(crate) fn copies(rt: &(impl Alloc<A = Global> + Abort), text: &str, count: u
     text.repeat(rt.alloc(), count).expect(rt, "memory")
 }
 
+/// So many copies of a text between two ends.
+pub(crate) fn copies_between(
+    rt: &(impl Alloc<A = Global> + Abort),
+    (front, back): (&str, &str),
+    text: &str,
+    count: usize,
+) -> String {
+    let midst = copies(rt, text, count);
+    format!(in rt.alloc(); "{front}{midst}{back}").expect(rt, "memory")
+}
+
+/// Judges so many copies of a text between two ends.
+pub(crate) fn expect_copies_between<J: Judge>(
+    rt: &(impl Alloc<A = Global> + Abort),
+    ends: (&str, &str),
+    text: &str,
+    count: usize,
+    wanted: &str,
+) {
+    let given = copies_between(rt, ends, text, count);
+    J::judge(rt, given.as_str(), wanted);
+}
+
+/// Fails where something isn't so, and tells what it is about.
+pub(crate) fn expect_that(rt: &impl Abort, is_so: bool, about: &str) {
+    assert!(rt; is_so, "{about}");
+}
+
 /// Compares two texts.
 pub(crate) fn expect_text(rt: &impl Abort, found: &str, wanted: &str) {
     assert!(rt; found == wanted, "{found}, and {wanted} is wanted");

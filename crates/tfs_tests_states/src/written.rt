@@ -3,6 +3,7 @@ ghost use Rattle.std.specs.Prelude.{◌<◌, length};
 
 use super::both_ways::read;
 use super::instances::expect_listing;
+use super::rows::expect_that;
 use super::states::expect;
 use std::process::Abort;
 use tfs_state::{Doc, text_digest};
@@ -149,9 +150,9 @@ fn expect_address(rt: &impl Abort, doc: &Doc, i: usize, address: &str)
     let found = doc.address(i);
     let is_it = found.is(address) && !found.is("cloud_server.web[");
     let is_digested = found.digest() == text_digest(address);
-    assert!(rt; is_it && is_digested, "{address}");
+    expect_that(rt, is_it && is_digested, address);
     let config = text_digest(doc.config(i));
-    assert!(rt; doc.config_digest(i) == config, "{address}");
+    expect_that(rt, doc.config_digest(i) == config, address);
 }
 
 /// Looks at the order of an instance's address.
@@ -162,21 +163,26 @@ fn expect_order(rt: &impl Abort, doc: &Doc, i: usize, address: &str)
     let order = address.as_bytes().cmp(&OTHER.as_bytes());
     let by_text = doc.address(i).cmp_text(OTHER);
     let by_other = doc.address(i).cmp(&doc.address(OTHERS_NUMBER));
-    assert!(rt; by_text == order && by_other == order, "{address}");
+    expect_that(rt, by_text == order && by_other == order, address);
 }
 
 /// Looks at the address of a line.
 fn expect_line(rt: &impl Abort, doc: &Doc, i: usize, line: &str) {
     let (address, _) = line.split_once(" of ").expect(rt, "a line has an address");
-    assert!(rt; i < doc.len(), "{address}");
+    assert!(rt; i < doc.len());
     expect_address(rt, doc, i, address);
     expect_order(rt, doc, i, address);
+}
+
+/// Looks at the address of each line.
+fn expect_lines(rt: &impl Abort, doc: &Doc) {
+    for (i, line) in LINES.lines().enumerate() {
+        expect_line(rt, doc, i, line);
+    }
 }
 
 #[test]
 fn each_address_is_its_text_and_has_its_digest_and_order(rt: HostRuntime) {
     let doc = read(&rt, STATE.as_bytes()).expect(&rt, "a state");
-    for (i, line) in LINES.lines().enumerate() {
-        expect_line(&rt, &doc, i, line);
-    }
+    expect_lines(&rt, &doc);
 }
