@@ -121,15 +121,15 @@ def check_the_first_of_a_chain_reaches_all_later_ones():
     for count in (1, 63, 64, 65, 511, 512, 513, 2048, 2049, 4096):
         expect_answers(chain_of(count), [(ask("any", "t.i0"), answer(*(f"t.i{i}" for i in range(1, count))))])
     expect_answers(chain_of(0), [(ask("any", "t.i0"), UNKNOWN)])
+    expect(run(request_text("POST", "/state/a", chain_of(4097))), (refusal_text("TooManyInstances"), CLEAN, b""))
+
+
 def check_long_answers_are_whole_wherever_their_pieces_end():
     for more in range(12):
         module, shown = 'module.m["' + "x" * more + "\u00e9\\u0001" * 3000 + '"]', 'module.m[\\"' + "x" * more + "\u00e9\\\\u0001" * 3000 + '\\"]'
         pushed = state(resource("a", {}), resource("b", *(depending("t.a", index_key=key) for key in ["\x01", "\n\"", *range(20)]), module=module))
         keys = ['\\"\\\\u0001\\"', '\\"\\\\n\\\\\\"\\"', *range(20)]
         expect_answers(pushed, [(ask("any", "t.a"), answer(*(f"{shown}.t.b[{key}]" for key in keys)))])
-
-
-    expect(run(request_text("POST", "/state/a", chain_of(4097))), (refusal_text("TooManyInstances"), CLEAN, b""))
 
 
 def check_addresses_are_told_as_json_texts():
