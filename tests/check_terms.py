@@ -7,6 +7,7 @@ import random
 import resource
 import shutil
 import signal
+import socket
 import subprocess
 import sys
 import threading
@@ -17,7 +18,8 @@ from checking import S1, STARTED, checks_in, expect, run_checks
 from folder_program import Serving, run
 from folders import A, B, LOOPBACK, all_of, ask_over, at_once, fresh, journals, named
 from journal_reader import read_journal
-from serve_program import preloaded
+from serve_program import preloaded, reply_of
+from stdio_program import request_text
 
 SECONDS = 30
 TRIES = 3  # Terraform's default: one try and two more
@@ -154,6 +156,29 @@ def check_a_file_asks_for_a_turn():
     line = server.kill().splitlines()[1]
     expect(f"{named(2)}.tfj from position 2: " in line and " 1 names, requests waited " in line, True, line)
     expect(serials_of(folder), ({"a": [1]}, 3))
+
+
+def check_a_term_that_ends_answers_what_has_begun_and_waits_for_nobody():
+    folder, text = fresh(), request_text("GET", "/state/a")
+    # Of four workers one has a request that comes in two parts, one a client that is silent, and two no client.
+    server = serving(folder, workers="4")
+    address = LOOPBACK, server.port
+    with socket.create_connection(address, timeout=SECONDS) as begun, socket.create_connection(address, timeout=SECONDS) as silent:
+        begun.sendall(text[:17])
+        time.sleep(0.3)  # in which each has a worker
+        (folder / "compact").touch()
+        began = time.monotonic()
+        expect(silent.recv(1), b"", "who is silent is left")
+        # A file is looked for once a second.
+        expect(time.monotonic() - began < 1.8, True, "at once")
+        time.sleep(0.3)
+        expect(newest(folder), 1, "what has begun is waited for")
+        begun.sendall(text[17:])
+        with begun.makefile("rb") as file:
+            expect((reply_of(file), file.read()), ((404, b'{"error":"NoState"}'), b""), "what has begun is answered")
+    has_come(lambda: newest(folder) == 2, "the next term", 1)
+    expect(server.ask("GET", "/state/a")[0], 404, "in the next term")
+    server.kill()
 
 
 def grows(folder, size, *words):

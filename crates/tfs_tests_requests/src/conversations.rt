@@ -47,26 +47,6 @@ impl<'i> io::Read for Pieces<'i> {
     }
 }
 
-/// Gives its bytes one a read, and then blanks without end.
-#[derive(Drop)]
-struct Endless<'i> {
-    rest: &'i [u8],
-}
-
-impl<'i> io::Read for Endless<'i> {
-    fn read(&mut self, buf: &mut [u8]) -> io::Result<usize> {
-        let Some(first) = buf.first_mut() else {
-            return Ok(0);
-        };
-        *first = b' ';
-        if let [byte, rest @ ..] = self.rest {
-            *first = *byte;
-            self.rest = rest;
-        }
-        Ok(1)
-    }
-}
-
 /// Wants these bytes. It takes at most so many a call, as long as it has room, and then none without an error. It counts the writes, and
 /// keeps whether it was given other bytes.
 #[derive(Drop)]
@@ -114,9 +94,9 @@ impl<'w> io::Write for Taking<'w> {
 }
 
 /// How a conversation over a new table ends, how many reads it makes, and how many entries the table has then.
-fn talk<I: io::Read>(
+fn talk(
     rt: &(impl Alloc<A = Global> + Abort),
-    reader: &mut Watched<I>,
+    reader: &mut Watched<Pieces<'_>>,
     writer: &mut Watched<Taking<'_>>,
 ) -> (Result<Ended, ServeFault>, u64, usize) {
     let mut table = Table::new(rt.alloc(), Discard).ok().expect(rt, "a table");
@@ -138,20 +118,26 @@ fn calls_of(
     let mut writer = Watched::new(Taking::new(replies.as_bytes(), usize::MAX, usize::MAX));
     let (ended, reads, _) = talk(rt, &mut reader, &mut writer);
     assert!(rt; ended == Ok(end) && writer.inner.has_all(), "{most}");
-    assert!(rt;
-        reads == reader.inner.calls && reader.inner.told_end,
-        "{most}"
-    );
+    is_read(rt, &reader.inner, reads);
     (reads, writer.inner.calls)
 }
 
+/// A reader has told its end, after so many reads.
+fn is_read(rt: &impl Abort, reader: &Pieces<'_>, reads: u64) {
+    assert!(rt; reads == reader.calls && reader.told_end, "{}", reader.most);
+}
+
+/// The push and the read, which come in reads of at most so many bytes, take so many reads, and each reply one write.
+fn takes_reads(rt: &(impl Alloc<A = Global> + Abort), most: usize, reads: u64) {
+    let calls = calls_of(rt, PUSH_AND_READ, most, REPLIES, Ended::Clean);
+    assert!(rt; calls == (reads, 2), "{most}");
+}
+
 #[test]
-fn each_read_is_counted_and_a_short_reply_is_one_write(rt: HostRuntime) -> Result<(), Fail> {
-    for (most, reads) in [(130, 2), (96, 3), (1, 131)] {
-        let calls = calls_of(&rt, PUSH_AND_READ, most, REPLIES, Ended::Clean);
-        assert!(rt; calls == (reads, 2), "{most}");
-    }
-    Ok(())
+fn each_read_is_counted_and_a_short_reply_is_one_write(rt: HostRuntime) {
+    takes_reads(&rt, 130, 2);
+    takes_reads(&rt, 96, 3);
+    takes_reads(&rt, 1, 131);
 }
 
 #[test]
@@ -265,19 +251,5 @@ fn a_reader_that_fails_behind_a_message_leaves_its_reply(rt: HostRuntime) -> Res
         };
         leaves(&rt, (count, 1), written);
     }
-    Ok(())
-}
-
-#[test]
-fn a_body_of_16_mib_that_comes_byte_by_byte_takes_too_many_reads(
-    rt: HostRuntime,
-) -> Result<(), Fail> {
-    let mut reader = Watched::new(Endless {
-        rest: b"POST /state/a HTTP/1.1\r\nHost: h\r\nContent-Length: 16777216\r\n\r\n",
-    });
-    let mut writer = Watched::new(Taking::new(b"", usize::MAX, usize::MAX));
-    let ended = talk(&rt, &mut reader, &mut writer);
-    assert!(rt; ended == (Err(ServeFault::TooManyReads), 1_048_576, 0));
-    assert!(rt; !reader.has_failed && !writer.has_failed && writer.inner.has_all());
     Ok(())
 }

@@ -49,18 +49,6 @@ pub(crate) fn circle(rt: &(impl Alloc<A = Global> + Abort)) -> Draft {
     push_of_text(rt, text.as_str())
 }
 
-/// A state without resources, with a serial.
-pub(crate) fn bare_of(rt: &(impl Alloc<A = Global> + Abort), serial: u64) -> String {
-    let text = format!(in rt.alloc(); "{{\"version\":4,\"serial\":{serial},\"lineage\":\"L1\"}}");
-    text.ok().expect(rt, "a state")
-}
-
-/// The push of that state.
-pub(crate) fn bare_push_of(rt: &(impl Alloc<A = Global> + Abort), serial: u64) -> Draft {
-    let text = bare_of(rt, serial);
-    push_of_text(rt, text.as_str())
-}
-
 /// The push of a state.
 fn push_of_text(rt: &(impl Alloc<A = Global> + Abort), text: &str) -> Draft {
     let bytes = text.as_bytes().to_vec(rt.alloc()).ok().expect(rt, "bytes");

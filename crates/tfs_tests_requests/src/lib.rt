@@ -3,11 +3,11 @@
 #![tactic(auto)]
 
 #[cfg(test)]
+mod connections;
+#[cfg(test)]
 mod conversations;
 #[cfg(test)]
 mod drafts;
-#[cfg(test)]
-mod ending;
 #[cfg(test)]
 mod framing;
 #[cfg(test)]
@@ -22,8 +22,6 @@ mod shared;
 mod sinks;
 #[cfg(test)]
 mod surface;
-#[cfg(test)]
-mod terms;
 #[cfg(test)]
 mod texts;
 #[cfg(test)]

@@ -1,6 +1,6 @@
 //! What sessions of a shared table are answered. No call is refused: no copy is behind or has lost its version.
 
-use crate::drafts::{bare_of, bare_push_of, chain_of, circle, lock_of, name_of, push_of, query_of};
+use crate::drafts::{chain_of, circle, lock_of, name_of, push_of, query_of};
 use std::alloc::Global;
 use std::process::Abort;
 use std::sync::Wait;
@@ -165,42 +165,6 @@ pub(crate) fn refuses<J: Naming, K: Sink, R: Wait + Abort + Alloc<A = Global>>(
     );
     assert!(rt; read(rt, shared, first) == 2 && read(rt, shared, second) == 2);
     assert!(rt; second.seen() == 1 && first.accepted() == 1 && second.accepted() == 0);
-}
-
-/// Pushes states without resources, with the serials from 1 to 100. The positions that are told rise, and what isn't accepted has a serial
-/// that is too low by then. The last state is there in the end.
-fn push_all<J: Naming, K: Sink, R: Wait + Abort + Alloc<A = Global>>(
-    rt: &R,
-    shared: &Shared<J, K>,
-    session: &mut Session<J>,
-) {
-    let mut last = session.seen();
-    for serial in 1..101 {
-        match session.submit(rt, shared, name_of(rt), bare_push_of(rt, serial)) {
-            Ok(position) => {
-                assert!(rt; last < position && position == session.seen());
-                last = position;
-            }
-            Err(refusal) => assert!(rt; refusal.name() == "SerialTooLow"),
-        }
-    }
-    let state = session.state(rt, shared, &name_of(rt)).ok();
-    let state = state.expect(rt, "a state");
-    assert!(rt; state.bytes() == bare_of(rt, 100).as_bytes());
-}
-
-/// Each session pushes the same states, in a thread of its own.
-pub(crate) fn pushes<
-    J: Naming + Send + Sync,
-    K: Sink + Send,
-    R: Threads + Wait + Abort + Alloc<A = Global> + Sync,
->(rt: &R, shared: &Shared<J, K>, sessions: &mut [Session<J>]) {
-    thread::for_each_mut(
-        rt,
-        sessions,
-        16,
-        &|_, session| { push_all(rt, shared, session) },
-    );
 }
 
 /// How many changes of sessions were accepted.

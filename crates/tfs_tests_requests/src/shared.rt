@@ -3,10 +3,13 @@
 ghost use Rattle.std.specs.Prelude.{◌≡◌, ◌≤◌, [], IfSome};
 
 use crate::drafts::{name_of, push_of};
-use crate::sessions::{accepted_by, asks, busy, pushes, reads, refuses, turns};
+use crate::sessions::{accepted_by, asks, busy, reads, refuses, turns};
+use crate::surface::sessions::worked;
 use crate::waiting::ask_meanwhile;
+use crate::workers::meet;
 use std::alloc::Global;
 use std::marker::Brand;
+use std::net::TcpListener;
 use std::process::Abort;
 use std::sync::Wait;
 use std::sync::atomic::AtomicU64;
@@ -15,7 +18,7 @@ use std::test::Fail;
 use std::thread::Threads;
 use std::time::Clock;
 use tfs_records::{Discard, Sink};
-use tfs_shared::{Lack, Naming, Opened, Session, Shared, Strangers, gather, share};
+use tfs_shared::{Lack, Naming, Opened, Session, Shared, Strangers, Unshared, gather, share};
 use tfs_table::Table;
 
 /// What is done with the sessions of a shared table.
@@ -31,10 +34,12 @@ pub(crate) enum Scene<'f> {
     Asks,
     /// The first session pushes, and is refused an older state; both read.
     Refuses,
-    /// Each session pushes the same hundred states, in a thread of its own.
-    Pushes,
     /// The first session's change waits in the sink until the second one was answered.
     Waits(&'f AtomicU64),
+    /// Each session makes each call once, and works for nobody, alone and as a worker of this listener.
+    Works(&'f TcpListener),
+    /// Each session works over one connection of this listener, and waits for the request of the other one.
+    Meets(&'f TcpListener),
 }
 
 /// How many entries the table has that is gathered after a scene with so many sessions.
@@ -59,11 +64,19 @@ fn play<
     requires book { opened ≡ J.book }
     requires opening { table.journal ≡ J.opening }
 {
-    let made = share::<J, K, R>(rt, rt.alloc(), table, number, blank, opened);
-    let (shared, mut sessions) = made.ok().expect(rt, "a shared table");
-    act(rt, &shared, sessions.as_mut_slice(), scene);
+    let made: Result<(Shared<J, K>, Vec<Session<J>>), Unshared<K>> = share(
+        rt,
+        rt.alloc(),
+        table,
+        number,
+        blank,
+        opened,
+    );
+    let (shared, sessions) = made.ok().expect(rt, "a shared table");
+    let sessions = acted(rt, &shared, sessions, scene);
     let accepted = accepted_by(sessions.as_slice());
-    let position = shared.opened().saturating_add(accepted);
+    let before: u64 = shared.opened();
+    let position = before.saturating_add(accepted);
     let (shared, sessions) = without_one(rt, shared, sessions);
     entries_of(rt, shared, sessions, position)
 }
@@ -92,6 +105,7 @@ fn whole<J: Naming, K: Sink>(
         mut sessions,
         why,
     } = strangers;
+    let why: Lack = why;
     assert!(rt; why == Lack::Missing && sessions.push(last).is_ok());
     (shared, sessions)
 }
@@ -103,7 +117,8 @@ fn entries_of<J: Naming, K: Sink + Drop, R: Wait + Abort>(
     sessions: Vec<Session<J>>,
     position: u64,
 ) -> usize {
-    match gather(rt, shared, sessions) {
+    let gathered: Result<Table<K>, Strangers<J, K>> = gather(rt, shared, sessions);
+    match gathered {
         Ok(table) => {
             assert!(rt; table.position() == position);
             table.len()
@@ -120,7 +135,28 @@ fn entries_of<J: Naming, K: Sink + Drop, R: Wait + Abort>(
     }
 }
 
-/// Plays a scene.
+/// The sessions that have played a scene.
+fn acted<
+    J: Naming + Send + Sync,
+    K: Sink + Send,
+    R: Threads + Wait + Clock + Abort + Alloc<A = Global> + Sync,
+>(
+    rt: &R,
+    shared: &Shared<J, K>,
+    mut sessions: Vec<Session<J>>,
+    scene: Scene<'_>,
+) -> Vec<Session<J>> {
+    match scene {
+        Scene::Works(listener) => worked(rt, shared, listener, sessions),
+        Scene::Meets(listener) => meet(rt, shared, listener, sessions),
+        _ => {
+            act(rt, shared, sessions.as_mut_slice(), scene);
+            sessions
+        }
+    }
+}
+
+/// Plays a scene of sessions that don't work.
 fn act<
     J: Naming + Send + Sync,
     K: Sink + Send,
@@ -129,9 +165,8 @@ fn act<
     match scene {
         Scene::Turns => turns(rt, shared, sessions),
         Scene::Busy => busy(rt, shared, sessions),
-        Scene::Pushes => pushes(rt, shared, sessions),
         Scene::Waits(flag) => ask_meanwhile(rt, shared, sessions, flag),
-        Scene::Reads | Scene::Asks | Scene::Refuses => match sessions {
+        _ => match sessions {
             [first, second] => in_two(rt, shared, first, second, scene),
             _ => panic!(rt; "two sessions"),
         },
@@ -211,19 +246,12 @@ fn a_push_of_another_session_is_seen_without_a_lock(rt: HostRuntime) -> Result<(
 }
 
 /// A table without entries.
-fn new_table(rt: &(impl Alloc<A = Global> + Abort)) -> Table<Discard> {
+pub(crate) fn new_table(rt: &(impl Alloc<A = Global> + Abort)) -> Table<Discard> {
     Table::new(rt.alloc(), Discard).ok().expect(rt, "a table")
 }
 
 #[test]
 fn an_older_state_is_refused_and_not_seen(rt: HostRuntime) -> Result<(), Fail> {
     assert_eq!(rt; played(&rt, new_table(&rt), 2, Scene::Refuses), 1);
-    Ok(())
-}
-
-#[test]
-fn positions_rise_where_four_sessions_push_the_same_states(rt: HostRuntime) -> Result<(), Fail> {
-    let entries = played(&rt, new_table(&rt), 4, Scene::Pushes);
-    assert!(rt; 100 <= entries && entries <= 400);
     Ok(())
 }

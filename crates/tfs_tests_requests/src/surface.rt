@@ -1,7 +1,7 @@
 //! Each public call once, from its crate, with the types of its arguments and of its result written out.
 
 mod journals;
-mod sessions;
+pub(crate) mod sessions;
 mod tables;
 mod values;
 

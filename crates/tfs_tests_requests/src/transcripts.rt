@@ -2,8 +2,8 @@
 
 ghost use Rattle.std.specs.Prelude.{◌≡◌, length};
 
+use crate::connections::{address_of, asking, listener_of};
 use crate::drafts::chain_of;
-use crate::runs::{address_of, asking, listener_of};
 use crate::shared::later_table;
 use std::alloc::{AllocError, Global};
 use std::net::{Net, TcpListener, TcpStream};

@@ -1,34 +1,28 @@
 //! The calls on shared tables, conversations and workers.
 
-ghost use Rattle.std.specs.Prelude.{◌≡◌, ◌≤◌};
-
 use super::name_a;
-use crate::runs::Once;
+use crate::connections::listener_of;
+use crate::runs::Shut;
+use crate::shared::{Scene, new_table, played};
+use crate::workers::rested;
 use std::alloc::Global;
-use std::marker::Brand;
-use std::net::{Net, TcpListener, TcpStream};
+use std::net::TcpListener;
 use std::process::Abort;
 use std::sync::atomic::AtomicBool;
-use std::sync::ledger::Blank;
 use std::sync::{Arc, Mutex, Wait};
 use std::test::Fail;
 use std::thread::Threads;
 use std::time::Clock;
-use tfs_journal::Discard;
+use tfs_journal::{Discard, Sink};
 use tfs_serve::{
     AcceptFault, Desk, Ended, Gated, Load, Reads, RunFault, ServeFault, Service, SessionDesk,
     TableDesk, Watched, Worker, converse, run_check, run_rebase, work, work_all,
 };
-use tfs_shared::{Lack, Naming, Opened, Session, Shared, Strangers, Unshared, gather, share};
+use tfs_shared::{Naming, Session, Shared};
 use tfs_state::Doc;
 use tfs_table::{Bytes, Call, Draft, Impact, Kind, Query, Raw, Refusal, Reply, Table, Texts};
 
 const READ: &[u8] = b"GET /state/a HTTP/1.1\r\nHost: h\r\n\r\n";
-
-/// A gate that admits nobody.
-fn closed() -> Once {
-    Once { is_open: false }
-}
 
 #[test]
 fn conversations(rt: HostRuntime) -> Result<(), Fail> {
@@ -80,81 +74,16 @@ fn rebases_of_journals(rt: HostRuntime) {
 
 #[test]
 fn shared_tables(rt: HostRuntime) -> Result<(), Fail> {
-    let table = Table::new(rt.alloc(), Discard).ok().expect(&rt, "a table");
-    shared_by_one(&rt, table, Blank::new(1), Opened::new());
+    let listener = listener_of(&rt);
+    let scene = Scene::Works(&listener);
+    assert!(rt; played(&rt, new_table(&rt), 1, scene) == 1);
     Ok(())
 }
 
-/// A table that one session shares with itself.
-fn shared_by_one<
-    R: Threads
-        + Wait
-        + Clock
-        + Abort
-        + Alloc<A = Global>
-        + Net<Stream = TcpStream, Listener = TcpListener>
-        + Sync,
->(rt: &R, table: Table<Discard>, blank: Blank, opened: Opened)
-    requires { blank.parts ≡ 1 }
-{
-    named::<Brand, R>(rt, table, blank, opened)
-}
-
-fn named<
-    J: Naming + Send + Sync,
-    R: Threads
-        + Wait
-        + Clock
-        + Abort
-        + Alloc<A = Global>
-        + Net<Stream = TcpStream, Listener = TcpListener>
-        + Sync,
->(rt: &R, table: Table<Discard>, blank: Blank, opened: Opened)
-    requires sessions { (1 ≡ J.sessions) × (J.parts ≡ J.sessions) }
-    requires ledger { (blank.name ≡ J.name) × (blank.parts ≡ J.parts) }
-    requires book { opened ≡ J.book }
-    requires opening { table.journal ≡ J.opening }
-{
-    let made: Result<(Shared<J, Discard>, Vec<Session<J>>), Unshared<Discard>> = share(
-        rt,
-        rt.alloc(),
-        table,
-        1,
-        blank,
-        opened,
-    );
-    let (shared, sessions) = made.ok().expect(rt, "a shared table");
-    let before: u64 = shared.opened();
-    assert!(rt; before == 0);
-    let sessions = worked(rt, &shared, sessions);
-    let gathered: Result<Table<Discard>, Strangers<J, Discard>> = gather(rt, shared, sessions);
-    is_gathered(rt, gathered);
-}
-
-/// The table has one entry.
-fn is_gathered<J: Naming, R: Wait + Abort>(
-    rt: &R,
-    gathered: Result<Table<Discard>, Strangers<J, Discard>>,
-) {
-    match gathered {
-        Ok(table) => assert!(rt; table.len() == 1),
-        Err(strangers) => {
-            let Strangers {
-                shared,
-                sessions: _sessions,
-                why,
-            } = strangers;
-            shared.close(rt);
-            let why: Lack = why;
-            panic!(rt; "the table isn't gathered: {why:?}");
-        }
-    }
-}
-
 /// A session's calls.
-fn calls<J: Naming, R: Wait + Abort + Alloc<A = Global>>(
+fn calls<J: Naming, K: Sink, R: Wait + Abort + Alloc<A = Global>>(
     rt: &R,
-    shared: &Shared<J, Discard>,
+    shared: &Shared<J, K>,
     session: &mut Session<J>,
 ) {
     submits(rt, shared, session);
@@ -166,9 +95,9 @@ fn calls<J: Naming, R: Wait + Abort + Alloc<A = Global>>(
 }
 
 /// A session's change, which is the first one.
-fn submits<J: Naming, R: Wait + Abort + Alloc<A = Global>>(
+fn submits<J: Naming, K: Sink, R: Wait + Abort + Alloc<A = Global>>(
     rt: &R,
-    shared: &Shared<J, Discard>,
+    shared: &Shared<J, K>,
     session: &mut Session<J>,
 ) {
     let body = Bytes::new(Vec::new(rt.alloc()));
@@ -179,9 +108,9 @@ fn submits<J: Naming, R: Wait + Abort + Alloc<A = Global>>(
 }
 
 /// A session's query, of a name that has no state.
-fn queries<J: Naming, R: Abort + Alloc<A = Global>>(
+fn queries<J: Naming, K: Sink, R: Abort + Alloc<A = Global>>(
     rt: &R,
-    shared: &Shared<J, Discard>,
+    shared: &Shared<J, K>,
     session: &mut Session<J>,
 ) {
     let query = Query {
@@ -193,14 +122,14 @@ fn queries<J: Naming, R: Abort + Alloc<A = Global>>(
 }
 
 /// A call through a desk behind a gate.
-fn asks<J: Naming, R: Wait + Abort + Alloc<A = Global>>(
+fn asks<J: Naming, K: Sink, R: Wait + Abort + Alloc<A = Global>>(
     rt: &R,
-    service: &Service<'_, J, Discard, R>,
+    service: &Service<'_, J, K, R>,
     session: &mut Session<J>,
 ) {
-    let desk: SessionDesk<'_, '_, '_, J, Discard, R> = SessionDesk { service, session };
-    let mut gate = closed();
-    let mut gated: Gated<'_, SessionDesk<'_, '_, '_, J, Discard, R>, Once> = Gated {
+    let desk: SessionDesk<'_, '_, '_, J, K, R> = SessionDesk { service, session };
+    let mut gate = Shut;
+    let mut gated: Gated<'_, SessionDesk<'_, '_, '_, J, K, R>, Shut> = Gated {
         desk,
         gate: &mut gate,
     };
@@ -209,10 +138,12 @@ fn asks<J: Naming, R: Wait + Abort + Alloc<A = Global>>(
 }
 
 /// A session that makes its calls, through a desk too, and works alone, behind a gate that admits nobody.
-fn works<
-    J: Naming,
-    R: Wait + Clock + Abort + Alloc<A = Global> + Net<Stream = TcpStream, Listener = TcpListener>,
->(rt: &R, shared: &Shared<J, Discard>, listener: &TcpListener, session: &mut Session<J>) {
+fn works<J: Naming, K: Sink, R: Wait + Clock + Abort + Alloc<A = Global>>(
+    rt: &R,
+    shared: &Shared<J, K>,
+    listener: &TcpListener,
+    session: &mut Session<J>,
+) {
     let turn = Mutex::new(());
     let never = AtomicBool::new(false);
     let load = Load::new(1);
@@ -227,47 +158,31 @@ fn works<
     };
     calls(rt, shared, session);
     asks(rt, &service, session);
-    let worked: Result<(), AcceptFault> = work(&service, listener, &mut closed(), session);
+    let worked: Result<(), AcceptFault> = work(&service, listener, &mut Shut, session);
     assert!(rt; worked == Ok(()));
 }
 
 /// Sessions that have worked, alone and as workers, behind gates that admit nobody.
-fn worked<
+pub(crate) fn worked<
     J: Naming + Send + Sync,
-    R: Threads
-        + Wait
-        + Clock
-        + Abort
-        + Alloc<A = Global>
-        + Net<Stream = TcpStream, Listener = TcpListener>
-        + Sync,
->(rt: &R, shared: &Shared<J, Discard>, sessions: Vec<Session<J>>) -> Vec<Session<J>> {
-    let listener: TcpListener = TcpListener::bind(rt, "127.0.0.1:0")
-        .ok()
-        .expect(rt, "a listener");
+    K: Sink + Send,
+    R: Threads + Wait + Clock + Abort + Alloc<A = Global> + Sync,
+>(
+    rt: &R,
+    shared: &Shared<J, K>,
+    listener: &TcpListener,
+    sessions: Vec<Session<J>>,
+) -> Vec<Session<J>> {
     let mut workers = Vec::new(rt.alloc());
     for mut session in sessions {
-        works(rt, shared, &listener, &mut session);
-        let worker: Worker<J, Once> = Worker {
-            gate: closed(),
+        works(rt, shared, listener, &mut session);
+        let worker: Worker<J, Shut> = Worker {
+            gate: Shut,
             session,
             failed: true,
         };
         assert!(rt; workers.push(worker).is_ok());
     }
-    work_all(rt, rt.alloc(), &listener, workers.as_mut_slice(), shared);
-    idle(rt, workers)
-}
-
-/// The sessions of workers whose listener gave connections.
-fn idle<J: Naming>(
-    rt: &(impl Alloc<A = Global> + Abort),
-    workers: Vec<Worker<J, Once>>,
-) -> Vec<Session<J>> {
-    let mut sessions = Vec::new(rt.alloc());
-    for worker in workers {
-        assert!(rt; !worker.failed);
-        assert!(rt; sessions.push(worker.session).is_ok());
-    }
-    sessions
+    work_all(rt, rt.alloc(), listener, workers.as_mut_slice(), shared);
+    rested(rt, workers)
 }
