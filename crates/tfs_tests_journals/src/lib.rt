@@ -31,4 +31,6 @@ mod rules;
 #[cfg(test)]
 mod sinks;
 #[cfg(test)]
+mod syncs;
+#[cfg(test)]
 mod tables;

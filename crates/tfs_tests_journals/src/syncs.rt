@@ -1,11 +1,11 @@
-//! A device in memory that loses what wasn't synced.
+//! Appends that one sync makes durable, over a device in memory that loses what wasn't synced.
 
-use crate::{Counted, Device, SyncFault, Tail};
 use std::alloc::Global;
 use std::process::Abort;
 use std::sync::Wait;
 use std::sync::atomic::{AtomicU64, Ordering};
 use std::test::Fail;
+use tfs_durable::{Counted, Device, SyncFault, Tail};
 use tfs_records::{Out, Sink, SinkFault};
 
 /// How many bytes a file has, and how many of them are left after a cut.
