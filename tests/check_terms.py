@@ -162,15 +162,14 @@ def check_a_term_that_ends_answers_what_has_begun_and_waits_for_nobody():
     folder, text = fresh(), request_text("GET", "/state/a")
     # Of four workers one has a request that comes in two parts, one a client that is silent, and two no client.
     server = serving(folder, workers="4")
-    address = LOOPBACK, server.port
+    address, began = (LOOPBACK, server.port), time.monotonic()
     with socket.create_connection(address, timeout=SECONDS) as begun, socket.create_connection(address, timeout=SECONDS) as silent:
         begun.sendall(text[:17])
         time.sleep(0.3)  # in which each has a worker
         (folder / "compact").touch()
-        began = time.monotonic()
         expect(silent.recv(1), b"", "who is silent is left")
-        # A file is looked for once a second.
-        expect(time.monotonic() - began < 1.8, True, "at once")
+        # A file is looked for once a second; without a turn the client is left after two.
+        expect(time.monotonic() - began < 1.8, True, "before its time")
         time.sleep(0.3)
         expect(newest(folder), 1, "what has begun is waited for")
         begun.sendall(text[17:])
