@@ -134,5 +134,75 @@ def check_queries_go_on_beside_changes():
     expect(len(entries_of(Path(server.new).read_bytes())), CHANGES)
 
 
+def check_each_push_is_seen_by_the_other_session_at_once():
+    server = Server()
+    with server.connect() as first, server.connect() as second:
+        expect(asked(first, "POST", "/state/a", chain(1)), (200, b""))
+        for serial in range(2, 10):
+            expect(asked(first, "POST", "/state/a", chain(serial)), (200, b""))
+            expect(asked(first, "POST", "/state/a", chain(1)), (409, b'{"error":"SerialTooLow"}'))
+            for kind in ("any", "all"):
+                told = f'{{"instances":["t.b","t.c"],"position":{serial},"serial":{serial}}}'
+                expect(asked(second, "GET", f"/impact/a/{kind}?of=t.a"), (200, told.encode()))
+            expect(asked(second, "GET", "/state/a"), (200, chain(serial)))
+
+
+def asked_in_turn(number, turn):
+    """What a session asks in a turn: a push with a serial that no other push has, a query, an unlock of a name of its own, and a read."""
+    return [("POST", "/state/a", chain(2 * turn + number + 2)), ("GET", "/impact/a/any?of=t.a"), ("UNLOCK", f"/state/own{number}"), ("GET", "/state/a")][turn % 4]
+
+
+def ask_in_turn(connection, number):
+    """A hundred requests. What each is answered."""
+    return [asked(connection, *asked_in_turn(number, turn)) for turn in range(CHANGES)]
+
+
+def entry_for(method, target, *pushed):
+    """The entry of a change that is accepted; none of another request."""
+    kinds = {"POST": "push", "UNLOCK": "unlock"}
+    return (kinds[method], target.removeprefix("/state/"), [b"", *pushed]) if method in kinds else None
+
+
+def states_of(entries):
+    """The state of `a` at each position from 1 on, which is the base's."""
+    states = [chain(1)]
+    for kind, _, parts in entries:
+        states.append(parts[1] if kind == "push" else states[-1])
+    return states
+
+
+def answer_at(position, state_there, method, target, *pushed):
+    """What a request is answered over the journal of a position by which no entry is made."""
+    serial = json.loads(state_there)["serial"]
+    if pushed and json.loads(pushed[0])["serial"] < serial:
+        return 409, b'{"error":"SerialTooLow"}'
+    reached = f'{{"instances":["t.b","t.c"],"position":{position},"serial":{serial}}}'
+    return {"/state/a": (200, state_there), "/impact/a/any?of=t.a": (200, reached.encode())}[target] if method == "GET" else None
+
+
+def follow(number, replies, entries):
+    """Each reply is over a beginning of the journal, no shorter than that of the one before, and each accepted change is an entry there."""
+    requests, states, seen = [asked_in_turn(number, turn) for turn in range(CHANGES)], states_of(entries), 1
+    changes = [entry_for(*request) for request in requests]
+    own = [position for position, entry in enumerate(entries, 2) if entry in changes]
+    for turn, (request, change, reply) in enumerate(zip(requests, changes, replies)):
+        if change and reply == (200, b""):
+            expect((seen < own[0], entries[own[0] - 2]), (True, change), f"turn {turn} of {number}")
+            seen = own.pop(0)
+        else:
+            places = range(seen, len(states) + 1)
+            seen = next((place for place in places if answer_at(place, states[place - 1], *request) == reply), None)
+            expect(seen is not None, True, f"turn {turn} of {number}: a journal over which the answer is {reply}")
+    expect(own, [], f"entries of {number} that no reply told")
+
+
+def check_each_reply_is_over_a_journal_that_the_last_one_begins_with():
+    server = Server(workers=2, old=fresh(b"TFJ2\n" + base_text(1, [(b"a", b"", chain(1))])))
+    replies = at_once(server, 2, ask_in_turn)
+    entries = entries_of(server.kill())
+    for number in range(2):
+        follow(number, replies[number], entries)
+
+
 if __name__ == "__main__":
     sys.exit(run_checks(checks_in(globals())))

@@ -25,8 +25,6 @@ mod surface;
 #[cfg(test)]
 mod texts;
 #[cfg(test)]
-mod transcripts;
-#[cfg(test)]
 mod waiting;
 #[cfg(test)]
 mod workers;

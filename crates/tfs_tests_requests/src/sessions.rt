@@ -4,14 +4,12 @@ use crate::drafts::{chain_of, circle, lock_of, name_of, push_of, query_of};
 use std::alloc::Global;
 use std::process::Abort;
 use std::sync::Wait;
-use std::thread;
-use std::thread::Threads;
 use tfs_calls::Kind;
 use tfs_records::Sink;
 use tfs_shared::{Naming, Session, Shared};
 
 /// The position of a push of the chain with a serial, where it is accepted.
-pub(crate) fn push<J: Naming, K: Sink, R: Wait + Abort + Alloc<A = Global>>(
+fn push<J: Naming, K: Sink, R: Wait + Abort + Alloc<A = Global>>(
     rt: &R,
     shared: &Shared<J, K>,
     session: &mut Session<J>,
@@ -92,61 +90,6 @@ pub(crate) fn turns<J: Naming, K: Sink, R: Wait + Abort + Alloc<A = Global>>(
 ) {
     for session in sessions {
         call_once(rt, shared, session);
-    }
-}
-
-/// Makes each call 25 times.
-fn call_often<J: Naming, K: Sink, R: Wait + Abort + Alloc<A = Global>>(
-    rt: &R,
-    shared: &Shared<J, K>,
-    session: &mut Session<J>,
-) {
-    for _turn in 0..25 {
-        call_once(rt, shared, session);
-    }
-}
-
-/// Each session makes each call 25 times, in a thread of its own.
-pub(crate) fn busy<
-    J: Naming + Send + Sync,
-    K: Sink + Send,
-    R: Threads + Wait + Abort + Alloc<A = Global> + Sync,
->(rt: &R, shared: &Shared<J, K>, sessions: &mut [Session<J>]) {
-    thread::for_each_mut(
-        rt,
-        sessions,
-        16,
-        &|_, session| { call_often(rt, shared, session) },
-    );
-}
-
-/// Each push of the first session is seen by the second one, which reads the state under the lock; one of a lower serial is refused.
-pub(crate) fn reads<J: Naming, K: Sink, R: Wait + Abort + Alloc<A = Global>>(
-    rt: &R,
-    shared: &Shared<J, K>,
-    first: &mut Session<J>,
-    second: &mut Session<J>,
-) {
-    for serial in 2..10 {
-        assert!(rt; push(rt, shared, first, serial) == Some(serial));
-        assert!(rt; push(rt, shared, first, 1) == None);
-        assert!(rt; read(rt, shared, second) == serial && second.seen() == serial);
-    }
-}
-
-/// Each push of the first session is seen by the second one, which asks without the lock.
-pub(crate) fn asks<J: Naming, K: Sink, R: Wait + Abort + Alloc<A = Global>>(
-    rt: &R,
-    shared: &Shared<J, K>,
-    first: &mut Session<J>,
-    second: &mut Session<J>,
-) {
-    for serial in 2..10 {
-        assert!(rt; push(rt, shared, first, serial) == Some(serial));
-        assert!(rt;
-            ask(rt, shared, second, Kind::All) == (serial, serial) && second.seen() == serial
-        );
-        assert!(rt; read_published(rt, second) == serial);
     }
 }
 

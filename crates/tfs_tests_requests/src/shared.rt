@@ -3,7 +3,7 @@
 ghost use Rattle.std.specs.Prelude.{◌≡◌, ◌≤◌, [], IfSome};
 
 use crate::drafts::{name_of, push_of};
-use crate::sessions::{accepted_by, asks, busy, reads, refuses, turns};
+use crate::sessions::{accepted_by, refuses, turns};
 use crate::surface::sessions::worked;
 use crate::waiting::ask_meanwhile;
 use crate::workers::meet;
@@ -26,12 +26,6 @@ use tfs_table::Table;
 pub(crate) enum Scene<'f> {
     /// Each session makes each call once, one session after another.
     Turns,
-    /// Each session makes each call 25 times, in a thread of its own.
-    Busy,
-    /// The first session pushes, and the second one reads.
-    Reads,
-    /// The first session pushes, and the second one asks.
-    Asks,
     /// The first session pushes, and is refused an older state; both read.
     Refuses,
     /// The first session's change waits in the sink until the second one was answered.
@@ -164,27 +158,11 @@ fn act<
 >(rt: &R, shared: &Shared<J, K>, sessions: &mut [Session<J>], scene: Scene<'_>) {
     match scene {
         Scene::Turns => turns(rt, shared, sessions),
-        Scene::Busy => busy(rt, shared, sessions),
         Scene::Waits(flag) => ask_meanwhile(rt, shared, sessions, flag),
         _ => match sessions {
-            [first, second] => in_two(rt, shared, first, second, scene),
+            [first, second] => refuses(rt, shared, first, second),
             _ => panic!(rt; "two sessions"),
         },
-    }
-}
-
-/// Plays a scene of two sessions.
-fn in_two<J: Naming, K: Sink, R: Wait + Abort + Alloc<A = Global>>(
-    rt: &R,
-    shared: &Shared<J, K>,
-    first: &mut Session<J>,
-    second: &mut Session<J>,
-    scene: Scene<'_>,
-) {
-    match scene {
-        Scene::Reads => reads(rt, shared, first, second),
-        Scene::Refuses => refuses(rt, shared, first, second),
-        _ => asks(rt, shared, first, second),
     }
 }
 
@@ -204,7 +182,7 @@ pub(crate) fn table_of<K: Sink + Drop>(
 }
 
 /// The table that goes on from it at position 1, with a base.
-pub(crate) fn later_table(rt: &(impl Alloc<A = Global> + Abort)) -> Table<Discard> {
+fn later_table(rt: &(impl Alloc<A = Global> + Abort)) -> Table<Discard> {
     let table = table_of(rt, Discard, 1);
     table.rebase(Discard).ok().expect(rt, "a rebased table")
 }
@@ -221,27 +199,6 @@ fn all_sessions_gather(rt: HostRuntime) -> Result<(), Fail> {
             "{number}"
         );
     }
-    Ok(())
-}
-
-#[test]
-fn a_shared_table_takes_a_push_and_answers(rt: HostRuntime) -> Result<(), Fail> {
-    assert_eq!(rt;
-        played(&rt, table_of(&rt, Discard, 1), 16, Scene::Busy),
-        1 + 16 * 25
-    );
-    Ok(())
-}
-
-#[test]
-fn a_later_locked_read_sees_the_push(rt: HostRuntime) -> Result<(), Fail> {
-    assert_eq!(rt; played(&rt, table_of(&rt, Discard, 1), 2, Scene::Reads), 9);
-    Ok(())
-}
-
-#[test]
-fn a_push_of_another_session_is_seen_without_a_lock(rt: HostRuntime) -> Result<(), Fail> {
-    assert_eq!(rt; played(&rt, table_of(&rt, Discard, 1), 2, Scene::Asks), 9);
     Ok(())
 }
 
