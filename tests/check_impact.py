@@ -112,6 +112,48 @@ def check_keys_of_modules_are_taken_out():
     expect(run(request_text("POST", "/state/a", open_key)), (refusal_text("BadState"), CLEAN, b""))
 
 
+def both_kinds(wanted_any, wanted_all, *texts):
+    """Both queries of these texts, with their answers: texts of instances, or a refusal's name."""
+    def told(wanted):
+        return refusal_text(wanted) if isinstance(wanted, str) else answer(*wanted)
+    return [(ask("any", *texts), told(wanted_any)), (ask("all", *texts), told(wanted_all))]
+
+
+def expect_both(resources, *rows):
+    """Pushes a state, and asks for any and all of each row of texts. One answer in a row is that of both."""
+    expect_answers(state(*resources), [asked for texts, *wanted in rows for asked in both_kinds(wanted[0], wanted[-1], *texts)])
+
+
+def check_instances_of_a_cycle_reach_themselves():
+    cycles = resource("a", depending("t.b")), resource("b", depending("t.a")), resource("c", depending("t.c[5]", "t.c")), resource("d", depending())
+    both = ("t.a", "t.b")
+    expect_both(cycles, (["t.a"], both), (["t.b", "t.a"], both), (["t.c"], ("t.c",)), (["t.d"], ()))
+
+
+def check_texts_name_by_either_address():
+    modules = (resource("n", {}, module='module.m["p.q]"]'), resource("n", {}, module="module.m[0]"), resource("z", depending("module.m[7].t.n")))
+    known = ["module.m[0].t.n", 'module.m["p.q]"].t.n', "module.m.t.n"]
+    unknown = ["module.m[7].t.n", "module.m.t.n ", "module.m", "t.n", "module.m[0].t.n\0"]
+    expect_both(modules, *(([text], ("t.z",)) for text in known), (["t.z"], ()), *((["t.z", text], "UnknownAddress") for text in unknown))
+
+
+def check_a_resource_with_keys_is_named_as_a_whole_or_by_one():
+    keys = {"index_key": 0}, {"index_key": "k", "dependencies": ["t.a"]}, {"index_key": 0, "deposed": "ab12"}
+    resources = resource("n", *keys), resource("a", {}), resource("n", depending("t.n", "t.n"), mode="data")
+    source, with_key = ("data.t.n",), (r't.n[\"k\"]', "data.t.n")
+    one = [(["t.n"], source), (["t.n[0]"], source), (['t.n["k"]'], source), (["t.n[0] (deposed ab12)"], source), (["data.t.n"], ())]
+    expect_both(resources, *one, (["t.a"], with_key), (["t.a", "t.n[0]"], with_key, source))
+
+
+def check_what_no_text_has_in_common_is_none():
+    resources = [*map(json.loads, (depends("a"), depends("b"), depends("c", "t.a"), depends("d", "t.a", "t.b"), depends("e", "t.b")))]
+    resources += [resource("a", {}, type="u"), resource("b", depending("u.a"), type="u")]
+    rows = [(["t.a", "t.c"], ("t.c", "t.d"), ()), (["t.a", "u.a"], ("t.c", "t.d", "u.b"), ()), (["t.a", "t.b"], ("t.c", "t.d", "t.e"), ("t.d",))]
+    refused = [(["t.a", "x.y"], "UnknownAddress"), (["t.a", "x.y", "z"], "UnknownAddress"), (["x.y"] * 65, "TooManyAddresses"), ([], "NoAddress")]
+    expect_both(resources, *rows, *refused)
+    expect_both([], ([], "NoAddress"), (["t.a"], "UnknownAddress"))
+
+
 def chain_of(count):
     """A state in which each instance but the first depends on the one before."""
     return written(1, *(depends(f"i{i}", *([f"t.i{i - 1}"] if i else [])) for i in range(count)))

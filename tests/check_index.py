@@ -4,7 +4,7 @@ whole lines of it and that memory ran out."""
 import sys
 
 from checking import checks_in, expect, run_checks
-from refused_requests import FOREVER, build_shim, built, count_of, fault_of
+from refused_requests import FOREVER, build_shim, built, count_of, fault_of, run_refused
 from sample_states import groups
 
 # Of eight resources with two instances each the last two depend, by one or more steps, on all of t.r5; t.r7 alone on t.r6[1].
@@ -14,9 +14,18 @@ AMPLE = b"read\nbuilt\n" + ANY + ALL
 PROGRAM = [built("tfs_probe"), "index"]
 
 
+def check_faults_of_queries_are_told_in_words():
+    state, known = groups(16) + b"\n", b"t.r5\n"
+    faults = {b"": b"the query has no address", known * 65: b"the query has more than 64 addresses",
+              known * 7 + b"t.x\n": b"address 7 of the query names nothing"}
+    for addresses, words in faults.items():
+        expect(run_refused(PROGRAM, 0, 0, state + addresses)[:3], (b"read\nbuilt\n", 1, b"Error: " + words + b"\n"))
+
+
 def check_each_request_is_refused_in_turn():
     seen = {fault_of(PROGRAM, AMPLE, request, request, ASKED) for request in range(1, count_of(PROGRAM, AMPLE, ASKED) + 1)}
     expect([fault for _, fault in seen if fault and b"memory" not in fault], [], "memory runs out")
+    expect(b"Error: no memory to answer the query\n" in {fault for _, fault in seen}, True, "a query tells that")
     refused = {output for output, fault in seen if fault}
     expect(refused >= {b"", b"read\n", b"read\nbuilt\n", b"read\nbuilt\n" + ANY}, True, "reading, build, any and all are refused some")
 
