@@ -1,5 +1,6 @@
 //! Has the libraries do what the black-box checks can't see of the built program, over input that comes from standard input, and prints
-//! what came of it: README.md lists the words. Without a word it does a little of each but `append` and `stress`.
+//! what came of it: README.md lists the words. Without a word it does a little of each but `append`, `texts` and
+//! `stress`.
 #![tactic(auto)]
 
 mod addresses;
@@ -11,6 +12,7 @@ mod shared;
 mod state;
 mod stress;
 mod table;
+mod texts;
 mod worker;
 
 use crate::input::text_of;
@@ -53,6 +55,7 @@ fn probe<R: AllocGlobal + Print + Wait>(rt: &R, words: &[&str], text: &str) -> R
     match words {
         [] => probe_all(rt, text),
         ["addresses"] => addresses::print_answers(rt),
+        ["texts"] => texts::print_texts(rt, text),
         ["state"] => state::print_count(rt, text),
         ["index"] => state::print_answers(rt, text),
         ["journal"] => reading::print_readings(rt, text),
@@ -61,7 +64,7 @@ fn probe<R: AllocGlobal + Print + Wait>(rt: &R, words: &[&str], text: &str) -> R
         ["table", word] => making::print_made(rt, word, text.trim_end()),
         ["shared", word] => make_calls(rt, Word::read(word)?, text.as_bytes()),
         _ => bail!(
-            "the words are addresses, state, index, journal, append, table, shared or stress, and what README.md says behind them"
+            "the words are addresses, texts, state, index, journal, append, table, shared or stress, and what README.md says behind them"
         ),
     }
 }

@@ -105,7 +105,7 @@ fn push_id(line: &mut String, id: &Option<Id>) -> Result<(), AllocError> {
 }
 
 /// Adds a space and the hex digits of bytes; a dash where there are none.
-fn push_hex(line: &mut String, bytes: &[u8]) -> Result<(), AllocError> {
+pub(crate) fn push_hex(line: &mut String, bytes: &[u8]) -> Result<(), AllocError> {
     line.push(' ')?;
     if bytes.is_empty() {
         line.push('-')?;

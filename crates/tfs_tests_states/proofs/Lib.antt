@@ -1,2 +1,1 @@
-pub mod PlainImpactLemmas
 pub mod PlainWalksLemmas

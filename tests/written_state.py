@@ -1,15 +1,8 @@
-//! A state as Terraform writes it, after its published layout, with each address and each dependency by hand.
-ghost use Rattle.std.specs.Prelude.{◌<◌, length};
+"""A state as Terraform writes it, with each address and each dependency by hand."""
 
-use super::both_ways::read;
-use super::instances::expect_listing;
-use super::rows::expect_that;
-use super::states::expect;
-use std::process::Abort;
-use tfs_state::{Doc, text_digest};
-
-/// The state: a network module for each of two zones, servers by `count` and by `for_each`, and data sources.
-const STATE: &str = r#"{
+# A state as Terraform writes it, after its published layout: a network module for each of two zones, servers by `count` and by `for_each`, and
+# data sources.
+WRITTEN = r'''{
   "version": 4,
   "terraform_version": "1.9.5",
   "serial": 42,
@@ -95,11 +88,11 @@ const STATE: &str = r#"{
       {"schema_version": 0, "attributes": {}, "sensitive_attributes": [], "dependencies": ["module.tail.cloud_key.ssh[\"\"]"]}]}
   ],
   "check_results": null
-}"#;
+}
+'''
 
-/// The instances in the order of the text: an instance's address, its configuration address, and the numbers of those that it
-/// depends on.
-const LINES: &str = r#"data.cloud_image.linux of data.cloud_image.linux:
+# Its instances in the order of the text: an instance's address, its configuration address, and the numbers of those that it depends on.
+WRITTEN_LINES = r'''data.cloud_image.linux of data.cloud_image.linux:
 cloud_network.main of cloud_network.main:
 module.zone["east"].data.cloud_zone.this of module.zone.data.cloud_zone.this:
 module.zone["east"].cloud_subnet.private[0] of module.zone.cloud_subnet.private: 1 2 7
@@ -128,61 +121,5 @@ null_resource.after of null_resource.after: 21 23
 null_resource.after (deposed 00000000) of null_resource.after: 25 26
 module.tail.cloud_key.ssh[""] of module.tail.cloud_key.ssh:
 module.tail.cloud_key.ssh[18446744073709551615] of module.tail.cloud_key.ssh:
-module.tail.cloud_key.ssh of module.tail.cloud_key.ssh: 27 28 29"#;
-
-#[test]
-fn each_instance_has_its_addresses_and_dependencies(rt: HostRuntime) {
-    let front = "42 \"9b1c7f1e-2f0a-4b8e-9d55-0c8a6d1f7e21\"";
-    expect(&rt, STATE, front);
-    expect_listing(&rt, STATE, LINES);
-}
-
-/// The address that each one's order is compared with.
-const OTHER: &str = "cloud_server.web[0]";
-
-/// The number of the instance with that address.
-const OTHERS_NUMBER: usize = 10;
-
-/// Looks at an instance's address as a text, and at its digests.
-fn expect_address(rt: &impl Abort, doc: &Doc, i: usize, address: &str)
-    requires { i < length doc.now.instances }
-{
-    let found = doc.address(i);
-    let is_it = found.is(address) && !found.is("cloud_server.web[");
-    let is_digested = found.digest() == text_digest(address);
-    expect_that(rt, is_it && is_digested, address);
-    let config = text_digest(doc.config(i));
-    expect_that(rt, doc.config_digest(i) == config, address);
-}
-
-/// Looks at the order of an instance's address.
-fn expect_order(rt: &impl Abort, doc: &Doc, i: usize, address: &str)
-    requires { i < length doc.now.instances }
-{
-    assert!(rt; OTHERS_NUMBER < doc.len());
-    let order = address.as_bytes().cmp(&OTHER.as_bytes());
-    let by_text = doc.address(i).cmp_text(OTHER);
-    let by_other = doc.address(i).cmp(&doc.address(OTHERS_NUMBER));
-    expect_that(rt, by_text == order && by_other == order, address);
-}
-
-/// Looks at the address of a line.
-fn expect_line(rt: &impl Abort, doc: &Doc, i: usize, line: &str) {
-    let (address, _) = line.split_once(" of ").expect(rt, "a line has an address");
-    assert!(rt; i < doc.len());
-    expect_address(rt, doc, i, address);
-    expect_order(rt, doc, i, address);
-}
-
-/// Looks at the address of each line.
-fn expect_lines(rt: &impl Abort, doc: &Doc) {
-    for (i, line) in LINES.lines().enumerate() {
-        expect_line(rt, doc, i, line);
-    }
-}
-
-#[test]
-fn each_address_is_its_text_and_has_its_digest_and_order(rt: HostRuntime) {
-    let doc = read(&rt, STATE.as_bytes()).expect(&rt, "a state");
-    expect_lines(&rt, &doc);
-}
+module.tail.cloud_key.ssh of module.tail.cloud_key.ssh: 27 28 29
+'''
