@@ -200,11 +200,7 @@ def check_states_with_mistakes_are_read_as_the_plain_reader_reads_them():
     words = list(map(state_words, texts))
     expect_rows(list(map(state_line, texts)), list(map(said, words)))
     expect(count // 10 < sum("\n" in word for word in words) < count // 2, True, "some are states")
-    expect(len({word.partition("(")[0] for word in words if "\n" not in word}) >= 7, True, "each fault comes")
-
-
-# What a fault of a lock text is told as.
-LOCK_FAULTS = {"NotJson", "NotObject", "NoId", "TooLong"}
+    expect(set(SAYS) - {word.partition("(")[0] for word in words}, {"TooManyInstances"}, "each other fault comes")
 
 
 def expect_locks(texts, wanted):
