@@ -24,7 +24,7 @@ help:
 	@echo 'make package-test              install the package into a fresh Debian under systemd, and use, upgrade and remove it; needs root and a mirror'
 	@echo 'make failover-test             cut off, lose and bring back a server among three hosts in network namespaces; needs root'
 	@echo 'make bench                     run the benchmarks; one of them with BENCH=planes'
-	@echo 'make stress                    have 16 sessions call a shared table for a minute, and check each answer; SECONDS=10 for less'
+	@echo 'make stress                    have 16 sessions ask a server for a minute, and check each answer; SECONDS=10 for less'
 	@echo 'make lint                      look for faults in Python and shell files, without running them'
 
 try:

@@ -6,6 +6,7 @@ import sys
 from urllib.parse import quote, quote_plus
 
 from checking import checks_in, expect, run_checks
+from relations import NAMED, at_random, pairs_of, reached
 import stdio_model as model
 from stdio_model import CLEAN, DONE, refusal_text, reply_text
 from stdio_program import request_text, run
@@ -159,11 +160,34 @@ def chain_of(count):
     return written(1, *(depends(f"i{i}", *([f"t.i{i - 1}"] if i else [])) for i in range(count)))
 
 
-def check_the_first_of_a_chain_reaches_all_later_ones():
+def check_each_of_a_chain_reaches_all_later_ones():
     for count in (1, 63, 64, 65, 511, 512, 513, 2048, 2049, 4096):
-        expect_answers(chain_of(count), [(ask("any", "t.i0"), answer(*(f"t.i{i}" for i in range(1, count))))])
+        expect_answers(chain_of(count), [(ask("any", f"t.i{i}"), answer(*(f"t.i{j}" for j in range(i + 1, count)))) for i in (0, count // 2, count - 1)])
     expect_answers(chain_of(0), [(ask("any", "t.i0"), UNKNOWN)])
     expect(run(request_text("POST", "/state/a", chain_of(4097))), (refusal_text("TooManyInstances"), CLEAN, b""))
+
+
+def expect_closure(relates, size, step):
+    """Asks what the last number of a relation and each multiple of a step reach, where the second number of a pair depends on the first."""
+    pairs, pushed = pairs_of(relates, size), {j: [] for j in range(size)}
+    for i, j in pairs:
+        pushed[j].append(f"t.i{i}")
+    rows = [i for i in range(size) if i % step == 0 or i + 1 == size]
+    expect_answers(written(1, *(depends(f"i{j}", *texts) for j, texts in pushed.items())),
+                   [(ask("any", f"t.i{i}"), answer(*(f"t.i{j}" for j in reached(pairs, i)))) for i in rows])
+
+
+def check_random_relations_reach_what_the_plain_search_finds():
+    for size in range(1, 201):
+        expect_closure(at_random, size, 1 if size < 41 else size // 2)
+
+
+def check_relations_with_a_name_reach_what_the_plain_search_finds():
+    for relates in NAMED.values():
+        for size in (0, 1, 2, 63, 64, 65):
+            expect_closure(relates, size, max(size // 2, 1))
+    for name in ("chain", "falling chain", "layers of eight"):
+        expect_closure(NAMED[name], 130, 43)
 
 
 def check_long_answers_are_whole_wherever_their_pieces_end():

@@ -15,7 +15,8 @@ from pathlib import Path
 
 from checking import S1, S2, SECONDS, checks_in, expect, run_checks
 from journal_reader import base_text, lines_of, push_content, read_journal, record_text
-from journal_rows import DAMAGED_BASES, DAMAGED_RECORDS, EMPTY, FLIPPED, LONG_RECORDS, PREFIXES, TORN_BASES, TORN_RECORDS, WHOLE_BASES
+from journal_rows import (BASES, DAMAGED_BASES, DAMAGED_RECORDS, EMPTY, FLIPPED, LONG_RECORDS, PREFIXES, RECORDS, TORN_BASES, TORN_RECORDS,
+                          WHOLE_BASES)
 from refused_requests import FOREVER, build_shim, built, count_of, fault_of, run_counted
 
 PROGRAM = built("tfs_probe")
@@ -131,6 +132,35 @@ def check_no_bit_turns_one_header_into_the_other():
 def check_what_is_read_is_what_the_text_says():
     wanted = f"format 2 base 2 row a {B.hex()} - row b - {S1.hex()} push b - {S2.hex()} unlock a {b'B'.hex()} whole"
     expect(run(TEXTS[3:])[0].splitlines()[0], wanted)
+
+
+def filled(row):
+    """What is read, and its hex digits: each text by its own."""
+    texts = {"S1": S1.hex(), "S2": S2.hex(), "B": B.hex()}
+    return [[texts.get(word, word) for word in part.split()] for part in row.split(": ")]
+
+
+def check_records_and_bases_are_those_of_the_document():
+    records = list(map(filled, RECORDS.split("\n")[1:]))
+    for read, base in map(filled, BASES.split("\n")[1:]):
+        text = SECOND.hex() + "".join(base) + "".join("".join(digits) for _, digits in records)
+        output, status, errors = run([bytes.fromhex(text)])
+        found, again = output.splitlines()
+        expect((status, errors), (0, ""), "the program")
+        expect(found.split(), ["format", "2", *read, *(word for words, _ in records for word in words), "whole"], text)
+        expect("".join(again.split()[1:]), text, "what was read is written again")
+
+
+def check_two_pushes_are_read_whether_they_are_lawful_or_not():
+    text = FIRST + record_text(3, b"a", push_content(b"", S2)) + record_text(3, b"a", push_content(b"", S1))
+    expect(len(text), 137)
+    expect_summaries([text], "1 0 0 2 whole", "a lower serial behind a higher one")
+
+
+def check_names_of_a_base_rise_by_their_bytes():
+    rows = [(["B", "a", "ab"], "2 0 3 0 whole"), (["b", "a"], "2 0 0 0 damaged 5"), (["a", "a"], "2 0 0 0 damaged 5")]
+    texts = [SECOND + base_text(0, [(name.encode(), b"", b"") for name in names]) for names, _ in rows]
+    expect_summaries(texts, [wanted for _, wanted in rows], "names")
 
 
 def check_bases_at_their_limits_are_read():

@@ -216,6 +216,18 @@ def check_a_lock_text_is_read_or_has_its_first_fault():
     expect_locks([text.replace("#", "a" * 257) for text, _ in filled], [wanted for _, wanted in filled])
 
 
+def check_lock_texts_are_utf8():
+    texts = {b'"L\xc3\xa9"': "NotObject", b'{"ID":"L\xc3\xa9"}': json_text("L\u00e9")}
+    texts |= {text: "NotJson" for text in (b"\xff", b'"L\xff"', b'"L\xc3"', b'"\xed\xa0\x80"', b'{"ID":"L\xff"}', b'{"ID":"\xed\xa0\x80"}')}
+    expect_locks(*zip(*texts.items()))
+
+
+def check_white_space_stands_between_tokens_and_at_both_ends():
+    texts = {b' \t\r\n{ "L"\n:\r1\t} \r\n\t': "NoId", b' \t\r\n{ "ID"\n:\r"1"\t} \r\n\t': '"1"', b"": "NotJson"}
+    texts |= {text: "NotJson" for text in (b'"L\n1"', b"\x0b{}", b"\xef\xbb\xbf{}", b'\x0b{"ID":"1"}', b'\xef\xbb\xbf{"ID":"1"}')}
+    expect_locks(*zip(*texts.items()))
+
+
 def check_the_length_of_an_identifier_is_that_after_decoding():
     texts = [f'{{"ID":"{part * count}"}}' for part, count in (("\\u0041", 256), ("\\u0041", 257), ("\\u00e9", 129))]
     expect_locks(texts, [f'"{"A" * 256}"', "TooLong", "TooLong"])

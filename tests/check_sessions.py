@@ -147,61 +147,95 @@ def check_each_push_is_seen_by_the_other_session_at_once():
             expect(asked(second, "GET", "/state/a"), (200, chain(serial)))
 
 
-def asked_in_turn(number, turn):
-    """What a session asks in a turn: a push with a serial that no other push has, a query, an unlock of a name of its own, and a read."""
-    return [("POST", "/state/a", chain(2 * turn + number + 2)), ("GET", "/impact/a/any?of=t.a"), ("UNLOCK", f"/state/own{number}"), ("GET", "/state/a")][turn % 4]
+def asked_in_turn(number, turn, count):
+    """What a session of so many asks in a turn: pushes with serials that no other push has, one of them with an identifier of its own, its lock
+    and its unlock, queries, a read, and an unlock of a name of its own."""
+    me, serial, query = number + 1, count * turn + number + 2, ("GET", "/impact/a/any?of=t.a")
+    return [("POST", "/state/a", chain(serial)), query, ("LOCK", "/state/a", b'{"ID":"%d"}' % me), ("POST", f"/state/a?ID={me}", chain(serial)), query,
+            ("UNLOCK", f"/state/a?ID={me}"), ("GET", "/state/a"), ("UNLOCK", f"/state/own{number}")][turn % 8]
 
 
-def ask_in_turn(connection, number):
-    """A hundred requests. What each is answered."""
-    return [asked(connection, *asked_in_turn(number, turn)) for turn in range(CHANGES)]
-
-
-def entry_for(method, target, *pushed):
+def entry_for(method, target, *body):
     """The entry of a change that is accepted; none of another request."""
-    kinds = {"POST": "push", "UNLOCK": "unlock"}
-    return (kinds[method], target.removeprefix("/state/"), [b"", *pushed]) if method in kinds else None
+    name, _, identifier = target.removeprefix("/state/").partition("?ID=")
+    carried = {"POST": ("push", [identifier.encode(), *body]), "LOCK": ("lock", [*body]), "UNLOCK": ("unlock", [identifier.encode()])}.get(method)
+    return carried and (carried[0], name, carried[1])
 
 
-def states_of(entries):
-    """The state of `a` at each position from 1 on, which is the base's."""
-    states = [chain(1)]
-    for kind, _, parts in entries:
-        states.append(parts[1] if kind == "push" else states[-1])
-    return states
+class Standing:
+    """The state of `a` and the lock information of its holder, at a position."""
+
+    def __init__(self, text, holder=b""):
+        self.text, self.holder = text, holder
+        self.serial, self.held = json.loads(text)["serial"], json.loads(holder)["ID"] if holder else ""
+
+    def after(self, kind, name, parts):
+        """What an entry leaves."""
+        if name != "a":
+            return self
+        return Standing(parts[1] if kind == "push" else self.text, {"push": self.holder, "lock": parts[0], "unlock": b""}[kind])
+
+    def refusal(self, method, target, *body):
+        """Why a change is refused; none where it isn't."""
+        identifier = target.partition("?ID=")[2]
+        others = {"LOCK": self.holder != b"".join(body), "UNLOCK": "own" not in target and identifier != self.held, "POST": identifier != self.held}
+        if self.holder and others[method]:
+            return 423, self.holder
+        if method == "POST" and identifier != self.held:
+            return 409, b'{"error":"LockLost"}'
+        return (409, b'{"error":"SerialTooLow"}') if method == "POST" and json.loads(body[0])["serial"] < self.serial else None
+
+    def answer(self, position, method, target, *body):
+        """What a request is answered by which no entry is made; none where one would be."""
+        if method != "GET":
+            return self.refusal(method, target, *body)
+        if target == "/state/a":
+            return 200, self.text
+        return 200, f'{{"instances":["t.b","t.c"],"position":{position},"serial":{self.serial}}}'.encode()
 
 
-def answer_at(position, state_there, method, target, *pushed):
-    """What a request is answered over the journal of a position by which no entry is made."""
-    serial = json.loads(state_there)["serial"]
-    if pushed and json.loads(pushed[0])["serial"] < serial:
-        return 409, b'{"error":"SerialTooLow"}'
-    reached = f'{{"instances":["t.b","t.c"],"position":{position},"serial":{serial}}}'
-    return {"/state/a": (200, state_there), "/impact/a/any?of=t.a": (200, reached.encode())}[target] if method == "GET" else None
+def standings_of(entries):
+    """What `a` has at each position from 1 on, which is the base's."""
+    standings = [Standing(chain(1))]
+    for entry in entries:
+        standings.append(standings[-1].after(*entry))
+    return standings
 
 
-def follow(number, replies, entries):
-    """Each reply is over a beginning of the journal, no shorter than that of the one before, and each accepted change is an entry there."""
-    requests, states, seen = [asked_in_turn(number, turn) for turn in range(CHANGES)], states_of(entries), 1
-    changes = [entry_for(*request) for request in requests]
+def follow(requests, replies, entries, standings):
+    """Each reply is over a beginning of the journal, no shorter than that of the one before, and each accepted change is an entry there. How many
+    changes were accepted."""
+    changes, seen = [entry_for(*request) for request in requests], 1
     own = [position for position, entry in enumerate(entries, 2) if entry in changes]
-    for turn, (request, change, reply) in enumerate(zip(requests, changes, replies)):
+    count = len(own)
+    for request, change, reply in zip(requests, changes, replies):
         if change and reply == (200, b""):
-            expect((seen < own[0], entries[own[0] - 2]), (True, change), f"turn {turn} of {number}")
+            expect((seen < own[0], entries[own[0] - 2]), (True, change), request)
             seen = own.pop(0)
         else:
-            places = range(seen, len(states) + 1)
-            seen = next((place for place in places if answer_at(place, states[place - 1], *request) == reply), None)
-            expect(seen is not None, True, f"turn {turn} of {number}: a journal over which the answer is {reply}")
-    expect(own, [], f"entries of {number} that no reply told")
+            places = range(seen, len(standings) + 1)
+            seen = next((place for place in places if standings[place - 1].answer(place, *request) == reply), None)
+            expect(seen is not None, True, f"{request}: a journal over which the answer is {reply}")
+    expect(own, [], "entries that no reply told")
+    return count
+
+
+def round_of(count, turns):
+    """So many sessions make so many requests each, at once, and all that they are answered follows one journal. How many changes were accepted."""
+    server = Server(workers=count, old=fresh(b"TFJ2\n" + base_text(1, [(b"a", b"", chain(1))])))
+    asked_by = [[asked_in_turn(number, turn, count) for turn in range(turns)] for number in range(count)]
+    replies = at_once(server, count, lambda connection, number: [asked(connection, *request) for request in asked_by[number]])
+    entries = entries_of(server.kill())
+    standings = standings_of(entries)
+    accepted = sum(follow(requests, told, entries, standings) for requests, told in zip(asked_by, replies))
+    expect(accepted, len(entries), "each entry is a change that was told as accepted")
+    return accepted
 
 
 def check_each_reply_is_over_a_journal_that_the_last_one_begins_with():
-    server = Server(workers=2, old=fresh(b"TFJ2\n" + base_text(1, [(b"a", b"", chain(1))])))
-    replies = at_once(server, 2, ask_in_turn)
-    entries = entries_of(server.kill())
-    for number in range(2):
-        follow(number, replies[number], entries)
+    for count in (2, 16):
+        accepted = round_of(count, CHANGES)
+        expect(count * CHANGES // 8 < accepted < count * CHANGES // 2, True, f"{accepted} changes of {count} sessions, some of which are refused")
 
 
 if __name__ == "__main__":

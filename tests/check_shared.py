@@ -6,7 +6,6 @@ import sys
 from checking import checks_in, expect, run_checks
 from refused_requests import FOREVER, build_shim, built, run_refused
 from sample_states import chain
-from stress import round_of
 
 build_shim()
 PROGRAM = built("tfs_probe")
@@ -101,12 +100,6 @@ def check_a_refusal_before_sharing_ends_the_program_or_changes_nothing():
     for number in range(1, requests_of(text, "read", b"") + 1):
         found = ran(text, "impact", number, number)
         expect(found in ((b"", 1), (ample, 0)), True, f"request {number}: {found}")
-
-
-def check_a_round_of_calls_by_sixteen_sessions_is_answered_as_the_journal_has_it():
-    calls, changes = round_of(PROGRAM)
-    expect(calls, 16_000)
-    expect(1_000 < changes < 8_000, True, f"{changes} changes, of half of the calls, some of which are refused")
 
 
 if __name__ == "__main__":

@@ -1,10 +1,10 @@
 """Counts and refuses the requests for memory of one push to a table, by a preloaded shim: those inside `Table::apply` are what the
 program makes beyond reading the push. Their number doesn't grow with the state. And those of tables that are made, opened and rebased:
-where one is refused, the sink was given no byte."""
+where one is refused, the sink was given no byte. What journals are opened as is worked out by hand."""
 import sys
 
-from checking import S1, checks_in, expect, run_checks
-from journal_reader import push_content, record_text
+from checking import S1, S2, checks_in, expect, run_checks
+from journal_reader import base_text, push_content, record_text
 from refused_requests import FOREVER, build_shim, built, run_refused
 from sample_states import chain
 
@@ -14,7 +14,9 @@ DONE, REFUSED = b"done 1\n", b"refused OutOfMemory\n"
 
 # A journal of two entries, and what is told of each table that is made with ample memory: its position, and what its sink was given. Then the
 # most requests that each makes, those for the input with them.
-JOURNAL = (b"TFJ1\n" + record_text(3, b"a", push_content(b"", S1)) + record_text(1, b"a", b'{"ID":"B"}')).hex().encode()
+PUSH, B = record_text(3, b"a", push_content(b"", S1)), b'{"ID":"B"}'
+FIRST = b"TFJ1\n" + PUSH + record_text(1, b"a", B)
+JOURNAL = FIRST.hex().encode()
 MADE = {"new": b"made at 0, 31 bytes\n", "open": b"made at 2, 130 bytes\n", "rebase": b"made at 2, 92 bytes\n"}
 MOST = {"new": 11, "open": 29, "rebase": 35}
 UNMADE = b"NoMemory, 0 bytes\n"
@@ -54,6 +56,38 @@ def check_all_requests_from_one_on_that_are_refused_end_in_one_line():
     for number in range(before + 1, after + 1):
         output, status, _ = ran(text, "apply", number, FOREVER)
         expect((output, status), (REFUSED, 1), f"from request {number} on")
+
+
+# Journals by their lengths, how many of the bytes are opened, and what is told.
+JOURNALS = {
+    "104": FIRST, "changed": FIRST[:20] + bytes([FIRST[20] ^ 1]) + FIRST[21:], "137": b"TFJ1\n" + record_text(3, b"a", push_content(b"", S2)) + PUSH,
+    "130": b"TFJ2\n" + base_text(0, []) + FIRST[5:], "92": b"TFJ2\n" + base_text(2, [(b"a", B, S1)]),
+}
+OPENINGS = """
+104 104: made at 2, 130 bytes
+104 90: made at 1, 97 bytes
+104 71: made at 1, 97 bytes
+104 70: made at 0, 31 bytes
+104 5: made at 0, 31 bytes
+104 3: made at 0, 31 bytes
+104 0: made at 0, 31 bytes
+changed 104: Damaged(5), 0 bytes
+137 137: Unlawful(2), 0 bytes
+137 71: made at 1, 97 bytes
+130 130: made at 2, 130 bytes
+92 92: made at 2, 92 bytes
+92 5: TornBase, 0 bytes
+92 50: TornBase, 0 bytes
+92 91: TornBase, 0 bytes"""
+
+
+def check_journals_of_both_formats_are_opened():
+    expect([len(text) for text in JOURNALS.values()], [104, 104, 137, 130, 92])
+    for row in OPENINGS.split("\n")[1:]:
+        given, wanted = row.split(": ")
+        length, count = given.split()
+        output, status, _ = ran(JOURNALS[length][:int(count)].hex().encode() + b"\n", "open")
+        expect((output.decode(), status), (wanted + "\n", 0), row)
 
 
 def check_memory_is_refused_before_a_sink_is_given_anything():

@@ -1,4 +1,5 @@
-"""Runs everything that is tested: the lint, then the proof gate `rt ci`, then each black-box check of the built program.
+"""Runs everything that is tested: the lint, then the proof gate `rt ci`, then the black-box checks of the built program,
+two at a time.
 
 What it shows has the time since the start before each line, and leaves out the lines that only say that all is well with
 one function; out/gate.log has all of them, and out/gate-times.json what each part took. What failed is shown once more at
@@ -12,6 +13,7 @@ import subprocess
 import sys
 import threading
 import time
+from concurrent.futures import ThreadPoolExecutor
 
 from gate_times import Watch
 from repository import TOP
@@ -28,6 +30,7 @@ QUIET = re.compile(
 WRONG = re.compile(r"\b(FAILED|NOT REFUSED|NOT TRIED|BAD EDIT)\b")
 TOLD = 8  # the lines, from the one that tells of a failure, that are shown again
 AGAIN = 24  # the most lines that are shown again
+AT_ONCE = 2  # the checks of the built program that run beside one another
 
 
 class Screen:
@@ -73,36 +76,58 @@ def processor_time():
 
 
 def counted(process, hear):
-    """Hears each line of a command; what its last line counts, (passed, failed), where anything unusual counts as failed."""
+    """Hears each line of a command and waits for it: what its last line counts, (passed, failed), where anything unusual counts
+    as failed, and the seconds of processor time that it took."""
     last = None
     for line in process.stdout:
         hear(line.rstrip("\n"))
         if line.strip():
             last = COUNT.match(line.strip())
-    process.wait()
+    _, status, used = os.wait4(process.pid, 0)
+    process.returncode = os.waitstatus_to_exitcode(status)
     if last is None:
         hear("FAILED: the last line has no count")
-        return 0, 1
+        return (0, 1), used.ru_utime + used.ru_stime
     passed, failed = int(last.group(1)), int(last.group(2))
-    return passed, max(failed, 1) if process.returncode else failed
+    return (passed, max(failed, 1) if process.returncode else failed), used.ru_utime + used.ru_stime
 
 
-def run(command, screen, watch=None):
-    """Runs a command under the eyes of a watch: what it counts, (passed, failed), and its times."""
-    screen.show("$ " + " ".join(command))
-    began, before = time.monotonic(), processor_time()
+def run_heard(command, hear, watch=None):
+    """Runs a command, perhaps under the eyes of a watch, and hears each line: what it counts, (passed, failed), and its times."""
+    began, count, used = time.monotonic(), (0, 1), 0
     how = {"cwd": TOP, "stdout": subprocess.PIPE, "stderr": subprocess.STDOUT, "encoding": "utf-8", "errors": "replace"}
     try:
         with subprocess.Popen(command, **how) as process:
             if watch:
                 watch.begin(process.pid)
-            count = counted(process, watch.hear if watch else screen.hear)
+            count, used = counted(process, hear)
             if watch:
                 watch.end()
     except OSError as error:
-        screen.show(f"FAILED: {command[0]} can't be run: {error.strerror}")
-        count = 0, 1
-    return count, {"wall": round(time.monotonic() - began, 1), "processor": round(processor_time() - before, 1)}
+        hear(f"FAILED: {command[0]} can't be run: {error.strerror}")
+    return count, {"wall": round(time.monotonic() - began, 1), "processor": round(used, 1)}
+
+
+def run(command, screen, watch=None):
+    """Shows a command, and each line of it while it runs."""
+    screen.show("$ " + " ".join(command))
+    return run_heard(command, watch.hear if watch else screen.hear, watch)
+
+
+def run_apart(command):
+    """Runs a command and keeps its lines."""
+    lines = []
+    return lines, run_heard(command, lines.append)
+
+
+def run_beside(commands, screen, at_once):
+    """Runs commands, so many at a time, and shows each of them once it has ended, in their order: each with what it counts and its times."""
+    with ThreadPoolExecutor(at_once) as pool:
+        for command, (lines, told) in zip(commands, pool.map(run_apart, commands)):
+            screen.show("$ " + " ".join(command))
+            for line in lines:
+                screen.hear(line)
+            yield command, told
 
 
 def script(path):
@@ -138,12 +163,13 @@ def main():
     with open(OUT / "gate.log", "w", encoding="utf-8") as log:
         screen = Screen(log)
         watch = Watch(screen)
-        passed = failed = 0
-        steps = {}
-        for command in [script(TOP / "tests" / "lint.py"), PROOFS, *map(script, checks())]:
-            (more_passed, more_failed), times = run(command, screen, watch if command == PROOFS else None)
-            passed, failed = passed + more_passed, failed + more_failed
-            steps[" ".join(command[1:] if command != PROOFS else command)] = times
+        lint = script(TOP / "tests" / "lint.py")
+        told = [(lint, run(lint, screen)), (PROOFS, run(PROOFS, screen, watch))]
+        # (a check builds a program that isn't there, and two would build the same one)
+        at_once = 1 if told[-1][1][0][1] else AT_ONCE
+        told += run_beside(list(map(script, checks())), screen, at_once)
+        passed, failed = (sum(count[it] for _, (count, _) in told) for it in (0, 1))
+        steps = {" ".join(command[1:] if command != PROOFS else command): times for command, (_, times) in told}
         write_times(screen, watch, steps, passed, failed)
         for line in screen.wrong[:AGAIN]:
             screen.show(f"again: {line}")

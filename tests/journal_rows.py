@@ -62,6 +62,19 @@ DAMAGED_BASES = """
 WHOLE_BASES = """
 0000000000000003 0001 01 63 00000000 00000000 2ed3ed7408f6a25483850611ab778044
 4000000000000000 0000 3e3c9e5df6115e32ce8b7174b0440bb5"""
+# Entries and their records, and bases, as docs/JOURNAL.md has them: what is read of each, and its bytes, in which S1 and B stand for their own.
+RECORDS = """
+lock a B: 01 01 61 0000000a B 51e58c87956661f2abce797e7e32df48
+unlock a -: 02 01 61 00000000 3656b9beb184d0f7fe8fdd5464f96972
+unlock a 42: 02 01 61 00000001 42 97f3aa44e5e07d48fabb4ede0adb18f1
+push a - S1: 03 01 61 0000002b 0000 S1 0b724c5a93643cb175cc63518b327052
+push a 41 S1: 03 01 61 0000002c 0001 41 S1 d5c1df6dd5d4223c61dd0a2af1244df7
+push b - S2: 03 01 62 0000002b 0000 S2 fc2b0f1dacd37ac45c14a899ad40c2e4
+delete a -: 04 01 61 00000000 f79d446d1720acbc3b66c5987cd21b9a"""
+BASES = """
+base 0: 0000000000000000 0000 a63c90cc3684ad8b0a2176a6a8fe9005
+base 3 row c - -: 0000000000000003 0001 01 63 00000000 00000000 2ed3ed7408f6a25483850611ab778044
+base 2 row a B - row b - S1: 0000000000000002 0002 01 61 0000000a B 00000000 01 62 00000000 00000029 S1 0ae5c3e2dc3f8858a68f384f57e987cd"""
 # What stands behind the empty base, likewise. The last ones have a right MD5: identifiers that aren't UTF-8, in an unlock and in a push;
 # a push of one byte, one whose identifier passes its end, and one without a state; lock information twice, and a state.
 EMPTY = "00000000000000000000 a63c90cc3684ad8b0a2176a6a8fe9005 "

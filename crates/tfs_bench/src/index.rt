@@ -58,9 +58,8 @@ impl<'a> Impacts<'a> {
 
     /// Builds the index: how many instances the state has.
     fn build(&self, rt: &(impl AllocGlobal + Clock)) -> Result<Measured> {
-        let doc = self.version.doc().clone()?;
         let start = Instant::now(rt)?;
-        let version = Version::build(rt.alloc(), doc)?;
+        let version = Version::build(rt.alloc(), self.version.doc().clone()?)?;
         Measured::since(rt, start, version.doc().len())
     }
 

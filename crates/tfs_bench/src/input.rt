@@ -5,10 +5,8 @@ ghost use Rattle.std.specs.Prelude.{◌≤◌, length, IfOk};
 use anyhow::{Result, bail};
 use std::alloc::{AllocError, Global};
 use tfs_calls::{Bytes, Draft, Raw};
-use tfs_records::Discard;
 use tfs_rules::Name;
 use tfs_state::{Doc, MAX_STATE_BYTES};
-use tfs_table::Table;
 
 /// The text of bytes.
 pub(crate) fn text_of(bytes: &[u8]) -> Result<&str> {
@@ -67,9 +65,4 @@ pub(crate) fn name_of(alloc: Global, number: usize) -> Result<Name> {
         Some(name) => Ok(name),
         None => bail!("there is no name"),
     }
-}
-
-/// A new table that keeps no bytes.
-pub(crate) fn new_table(alloc: Global) -> Result<Table<Discard>> {
-    Ok(Table::new(alloc, Discard)?)
 }

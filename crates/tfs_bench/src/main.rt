@@ -3,7 +3,6 @@
 //! each time.
 #![tactic(auto)]
 
-mod converse;
 mod index;
 mod input;
 mod journal;
@@ -13,10 +12,8 @@ mod shared;
 mod sharing;
 mod state;
 mod subject;
-mod table;
 mod worker;
 
-use crate::converse::Talk;
 use crate::index::Impacts;
 use crate::input::{lines_of, split_state, text_of};
 use crate::journal::Journal;
@@ -24,7 +21,6 @@ use crate::planes::Relation;
 use crate::shared::Sessions;
 use crate::state::StateText;
 use crate::subject::{Subject, print_calls};
-use crate::table::{Pushes, requests_of};
 use anyhow::{Result, bail};
 use std::io::Read;
 use std::sync::Wait;
@@ -64,7 +60,7 @@ fn run<R: Threads + Wait + Clock + Print + AllocGlobal + Sync>(
     measure_subject(rt, subject, input, Some(rounds.parse()?), names)
 }
 
-/// Measures calls of a subject in so many rounds, or makes them once. Of two subjects a number stands before the names of the calls.
+/// Measures calls of a subject in so many rounds, or makes them once. Of `shared` a number stands before the names of the calls.
 fn measure_subject<R: Threads + Wait + Clock + Print + AllocGlobal + Sync>(
     rt: &R,
     subject: &str,
@@ -89,20 +85,8 @@ fn measure_subject<R: Threads + Wait + Clock + Print + AllocGlobal + Sync>(
             let journal = Journal::read(rt.alloc(), input)?;
             print_calls(rt, Subject::Journal(&journal), rounds, names)
         }
-        "table" => {
-            let pushes = Pushes::read(rt.alloc(), input)?;
-            print_calls(rt, Subject::Table(&pushes), rounds, names)
-        }
-        "converse" => {
-            let (piece, names) = numbered(names)?;
-            let talk = Talk {
-                requests: input,
-                piece,
-            };
-            print_calls(rt, Subject::Converse(talk), rounds, names)
-        }
         "shared" => measure_shared(rt, input, rounds, names),
-        _ => bail!("the subjects are planes, index, state, journal, table, converse and shared"),
+        _ => bail!("the subjects are planes, index, state, journal and shared"),
     }
 }
 
@@ -153,15 +137,6 @@ fn make_all<R: Threads + Wait + Clock + Print + AllocGlobal + Sync>(
     let journal = journal::text_of(rt.alloc(), state)?;
     let calls = "decode\nparts\nopen\nencode\ncopy\nappend";
     measure_subject(rt, "journal", journal.as_slice(), None, calls)?;
-    measure_subject(rt, "table", state.as_bytes(), None, "converse\napply")?;
-    let requests = requests_of(rt.alloc(), &[state])?;
-    measure_subject(
-        rt,
-        "converse",
-        requests.as_bytes(),
-        None,
-        "64\nstill\ntable",
-    )?;
     let sessions = Sessions {
         states: &[state],
         turns: 100,
@@ -171,6 +146,6 @@ fn make_all<R: Threads + Wait + Clock + Print + AllocGlobal + Sync>(
         rt,
         Subject::Shared(sessions),
         None,
-        "alone\ntogether\nbeside\napply\nsubmit\nread",
+        "alone\ntogether\nbeside\nread",
     )
 }

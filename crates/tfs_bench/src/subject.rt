@@ -1,6 +1,5 @@
 //! The subjects of which calls are measured, and how.
 
-use crate::converse::Talk;
 use crate::index::Impacts;
 use crate::input::lines_of;
 use crate::journal::Journal;
@@ -8,7 +7,6 @@ use crate::measure::Measured;
 use crate::planes::Relation;
 use crate::shared::Sessions;
 use crate::state::StateText;
-use crate::table::Pushes;
 use anyhow::Result;
 use std::alloc::Global;
 use std::sync::Wait;
@@ -22,8 +20,6 @@ pub(crate) enum Subject<'s, 'a> {
     Index(&'s Impacts<'a>),
     State(StateText<'a>),
     Journal(&'s Journal<'a>),
-    Table(&'s Pushes<'a>),
-    Converse(Talk<'a>),
     Shared(Sessions<'a>),
 }
 
@@ -39,8 +35,6 @@ impl Subject<'_, '_> {
             Subject::Index(impacts) => impacts.call(rt, name),
             Subject::State(text) => text.call(rt, name),
             Subject::Journal(journal) => journal.call(rt, name),
-            Subject::Table(pushes) => pushes.call(rt, name),
-            Subject::Converse(talk) => talk.call(rt, name),
             Subject::Shared(sessions) => sessions.call(rt, name),
         }
     }

@@ -7,9 +7,9 @@ use anyhow::{Result, bail};
 use std::alloc::{AllocError, Global};
 use std::sync::Wait;
 use std::sync::atomic::{AtomicU64, Ordering};
+use std::thread;
 use std::thread::Threads;
 use std::time::{Clock, Duration, Instant};
-use std::{mem, thread};
 use tfs_calls::{Draft, Kind, Query, Text, Texts};
 use tfs_records::Sink;
 use tfs_rules::Name;
@@ -22,15 +22,13 @@ pub(crate) enum Role {
     Ask(usize),
     /// It pushes its state until all that ask have done so.
     Write,
-    /// It pushes all states, which is measured.
-    Submit,
     /// It pushes the last state, which others wait for.
     Push,
     /// It reads its state until the last state is pushed: the longest read is measured.
     Read,
 }
 
-/// A role, the number of the session and its name, the state of that name, a query for its first address, and pushes that are to be made.
+/// A role, the number of the session and its name, the state of that name, a query for its first address, and a push that is to be made.
 #[derive(Drop)]
 pub(crate) struct Task<'a> {
     role: Role,
@@ -38,7 +36,7 @@ pub(crate) struct Task<'a> {
     name: Name,
     state: &'a str,
     query: Query,
-    pushes: Vec<(Name, Draft)>,
+    push: Option<(Name, Draft)>,
 }
 
 impl<'a> Task<'a> {
@@ -60,7 +58,7 @@ impl<'a> Task<'a> {
             name,
             state,
             query,
-            pushes: asked.pushes(alloc, role)?,
+            push: asked.push(alloc, role)?,
         })
     }
 
@@ -129,13 +127,7 @@ pub(crate) fn sessions_of<J: Naming>(
 ) -> Result<Vec<Session<J>>, AllocError> {
     let mut sessions = Vec::new(alloc);
     for worker in workers {
-        let Worker {
-            session,
-            task: _task,
-            measured: _,
-            apart: _,
-        } = worker;
-        sessions.push(session)?;
+        sessions.push(worker.into_session())?;
     }
     Ok(sessions)
 }
@@ -172,6 +164,12 @@ pub(crate) fn measured_by<J: Naming>(workers: &[Worker<J>]) -> Result<Measured> 
 }
 
 impl<J: Naming> Worker<'_, J> {
+    /// Its session.
+    fn into_session(self) -> Session<J> {
+        let Worker { session, .. } = self;
+        session
+    }
+
     /// Whether others wait for the end of its task.
     fn is_awaited(&self) -> bool {
         matches!(self.task.role, Role::Ask(_) | Role::Push)
@@ -199,11 +197,7 @@ impl<J: Naming> Worker<'_, J> {
         match self.task.role {
             Role::Ask(turns) => self.ask(rt, shared, turns),
             Role::Write => self.write(rt, shared, busy),
-            Role::Submit => self.submit(rt, shared),
-            Role::Push => {
-                self.submit(rt, shared)?;
-                Ok(Measured::new(Duration::ZERO, 0))
-            }
+            Role::Push => self.push_last(rt, shared),
             Role::Read => self.read(rt, shared, busy),
         }
     }
@@ -250,19 +244,12 @@ impl<J: Naming> Worker<'_, J> {
         submit(rt, shared, &mut self.session, push)
     }
 
-    /// Makes its pushes.
-    fn submit<K: Sink, R: Wait + Clock + AllocGlobal>(
-        &mut self,
-        rt: &R,
-        shared: &Shared<J, K>,
-    ) -> Result<Measured> {
-        let start = Instant::now(rt)?;
-        let pushes = mem::replace(&mut self.task.pushes, Vec::new(rt.alloc()));
-        let count = pushes.len();
-        for push in pushes {
+    /// Makes the push that is ready.
+    fn push_last<K: Sink, R: Wait>(&mut self, rt: &R, shared: &Shared<J, K>) -> Result<Measured> {
+        if let Some(push) = self.task.push.take() {
             submit(rt, shared, &mut self.session, push)?;
         }
-        Measured::since(rt, start, count)
+        Ok(Measured::new(Duration::ZERO, 0))
     }
 
     /// Reads its state until the pushes are made.

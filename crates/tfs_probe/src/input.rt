@@ -14,13 +14,13 @@ pub(crate) fn text_of(bytes: &[u8]) -> Result<&str> {
     }
 }
 
-/// The push of a state, with the identifier of a lock where there is one.
-pub(crate) fn push_of(alloc: Global, id: Option<Text>, state: &[u8]) -> Result<Draft> {
+/// The push of a state.
+fn push_of(alloc: Global, state: &[u8]) -> Result<Draft> {
     if MAX_STATE_BYTES < state.len() {
         bail!("the state is too long");
     }
     let body = Bytes::new(state.to_vec(alloc)?);
-    match Draft::read(alloc, Raw::Push(id, body)) {
+    match Draft::read(alloc, Raw::Push(None, body)) {
         Ok(draft) => Ok(draft),
         Err(refusal) => bail!("the push is no draft: {}", refusal.name()),
     }
@@ -29,7 +29,7 @@ pub(crate) fn push_of(alloc: Global, id: Option<Text>, state: &[u8]) -> Result<D
 /// The push of a state to the workspace `a`.
 pub(crate) fn named_push(alloc: Global, state: &[u8]) -> Result<(Name, Draft)> {
     let name = name_of(alloc, "a")?;
-    Ok((name, push_of(alloc, None, state)?))
+    Ok((name, push_of(alloc, state)?))
 }
 
 /// A query for what an address reaches.

@@ -1,6 +1,5 @@
 //! Has the libraries do what the black-box checks can't see of the built program, over input that comes from standard input, and prints
-//! what came of it: README.md lists the words. Without a word it does a little of each but `append`, `texts` and
-//! `stress`.
+//! what came of it: README.md lists the words. Without a word it does a little of each but `append` and `texts`.
 #![tactic(auto)]
 
 mod addresses;
@@ -10,10 +9,8 @@ mod making;
 mod reading;
 mod shared;
 mod state;
-mod stress;
 mod table;
 mod texts;
-mod worker;
 
 use crate::input::text_of;
 use crate::shared::{Word, make_calls};
@@ -35,10 +32,7 @@ fn main(rt: HostRuntime) -> Result<()> {
     }
     let mut input = Vec::new(rt.alloc());
     rt.reader().read_to_end(&mut input)?;
-    match words.as_slice() {
-        ["stress", rounds] => stress::print_rounds(&rt, rounds.parse()?, input.as_slice()),
-        words => probe(&rt, words, text_of(input.as_slice())?),
-    }
+    probe(&rt, words.as_slice(), text_of(input.as_slice())?)
 }
 
 /// These words, lent.
@@ -64,7 +58,7 @@ fn probe<R: AllocGlobal + Print + Wait>(rt: &R, words: &[&str], text: &str) -> R
         ["table", word] => making::print_made(rt, word, text.trim_end()),
         ["shared", word] => make_calls(rt, Word::read(word)?, text.as_bytes()),
         _ => bail!(
-            "the words are addresses, texts, state, index, journal, append, table, shared or stress, and what README.md says behind them"
+            "the words are addresses, texts, state, index, journal, append, table or shared, and what README.md says behind them"
         ),
     }
 }

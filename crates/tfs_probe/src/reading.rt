@@ -73,7 +73,7 @@ fn push_row(line: &mut String, row: &BaseRow) -> Result<(), AllocError> {
 }
 
 /// Adds the kind and the name of an entry, and what its act carries.
-pub(crate) fn push_entry(line: &mut String, entry: &Entry) -> Result<(), AllocError> {
+fn push_entry(line: &mut String, entry: &Entry) -> Result<(), AllocError> {
     let name = entry.name.text();
     match &entry.act {
         Act::Lock(info) => {

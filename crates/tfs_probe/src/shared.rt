@@ -171,7 +171,7 @@ fn print_end<J: Naming, R: AllocGlobal + Print + Wait>(
 }
 
 /// Gathers the table.
-pub(crate) fn end<J: Naming, R: Wait>(
+fn end<J: Naming, R: Wait>(
     rt: &R,
     shared: Shared<J, Discard>,
     sessions: Vec<Session<J>>,

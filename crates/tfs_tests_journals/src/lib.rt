@@ -1,5 +1,5 @@
-//! Tests of workspaces and their journals: verdicts, records, sinks, calls, readings and tables. Each takes its cases from a text of
-//! lines, whose words the helpers turn into values.
+//! Tests of planes, and of workspaces and their journals: verdicts, records, sinks, calls, readings and tables. Most take their cases
+//! from a text of lines, whose words the helpers turn into values.
 #![tactic(auto)]
 
 #[cfg(test)]
@@ -23,11 +23,9 @@ mod opened;
 #[cfg(test)]
 mod pieces;
 #[cfg(test)]
-mod records;
+mod planes;
 #[cfg(test)]
 mod refusals;
-#[cfg(test)]
-mod rules;
 #[cfg(test)]
 mod sinks;
 #[cfg(test)]

@@ -2,8 +2,8 @@
 //! and, in words, what it is opened as.
 
 use crate::helpers::name_of;
-use crate::journals::{front_of, journal_bytes};
-use crate::lines::{Judge, expect_lines, expect_words, number_in, split};
+use crate::journals::journal_bytes;
+use crate::lines::{Judge, expect_lines, expect_words, number_in};
 use crate::tables::{answer, table_over};
 use std::alloc::{AllocError, Global};
 use std::process::Abort;
@@ -33,39 +33,6 @@ fn opening_of(alloc: Global, bytes: &[u8], calls: u64) -> Result<String, AllocEr
 /// Compares what bytes are opened as over a sink that takes so many calls.
 fn expect_opening(rt: &(impl Alloc<A = Global> + Abort), bytes: &[u8], calls: u64, wanted: &str) {
     expect_words(rt, opening_of(rt.alloc(), bytes, calls), wanted);
-}
-
-/// The length of a text, how many of its bytes are opened, and what they are opened as.
-const OPENINGS: &str = "104 104 = 2 130 Whole
-104 90 = 1 97 Torn(71)
-104 71 = 1 97 Whole
-104 70 = 0 31 Torn(5)
-104 5 = 0 31 Whole
-104 3 = 0 31 Torn(0)
-104 0 = 0 31 Torn(0)
-changed 104 = Damaged(5)
-137 137 = Unlawful(2)
-137 71 = 1 97 Whole
-130 130 = 2 130 Whole
-92 92 = 0 92 Whole
-92 5 = TornBase
-92 50 = TornBase
-92 91 = TornBase";
-
-/// The length of a text, and how many of its bytes are opened.
-struct Openings;
-
-impl Judge for Openings {
-    fn judge(rt: &(impl Alloc<A = Global> + Abort), given: &str, wanted: &str) {
-        let (length, count) = split(given);
-        let bytes = front_of(rt, length, count);
-        expect_opening(rt, bytes.as_slice(), 100, wanted);
-    }
-}
-
-#[test]
-fn journals_of_both_formats_are_opened(rt: HostRuntime) {
-    expect_lines::<Openings>(&rt, OPENINGS);
 }
 
 #[test]

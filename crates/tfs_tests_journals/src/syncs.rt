@@ -4,7 +4,6 @@ use std::alloc::Global;
 use std::process::Abort;
 use std::sync::Wait;
 use std::sync::atomic::{AtomicU64, Ordering};
-use std::test::Fail;
 use tfs_durable::{Counted, Device, SyncFault, Tail};
 use tfs_records::{Out, Sink, SinkFault};
 
@@ -64,12 +63,7 @@ impl<'d> Tail<Syncs<'d>> for Writes<'d> {
 
 /// Makes so many appends over a disk whose device syncs so often, and waits for each third one: how many bytes were told as durable, and how
 /// many are left after a cut.
-fn run(
-    rt: &(impl Wait + Abort),
-    alloc: Global,
-    appends: u64,
-    syncs: u64,
-) -> Result<(u64, u64), Fail> {
+fn run(rt: &(impl Wait + Abort), alloc: Global, appends: u64, syncs: u64) -> (u64, u64) {
     let disk = Disk {
         written: AtomicU64::new(0),
         left: AtomicU64::new(0),
@@ -78,7 +72,8 @@ fn run(
         disk: &disk,
         calls: syncs,
     };
-    let mut out = Out::new(Counted::new(alloc, Writes(&disk), device)?);
+    let counted = Counted::new(alloc, Writes(&disk), device).ok();
+    let mut out = Out::new(counted.expect(rt, "memory"));
     let mut told = 0;
     for turn in 0..appends {
         assert!(rt; out.append(b"piece").is_ok());
@@ -90,16 +85,15 @@ fn run(
             }
         }
     }
-    Ok((told, disk.left.load(Ordering::SeqCst)))
+    (told, disk.left.load(Ordering::SeqCst))
 }
 
 #[test]
-fn what_is_covered_is_left_after_each_cut(rt: HostRuntime) -> Result<(), Fail> {
+fn what_is_covered_is_left_after_each_cut(rt: HostRuntime) {
     for appends in 0..20 {
-        let all = run(&rt, rt.alloc(), appends, 9)?;
+        let all = run(&rt, rt.alloc(), appends, 9);
         assert!(rt; all == (appends / 3 * 15, appends / 3 * 15));
-        let few = run(&rt, rt.alloc(), appends, 2)?;
+        let few = run(&rt, rt.alloc(), appends, 2);
         assert!(rt; few.0 == few.1 && few.0 == (appends / 3).min(2) * 15);
     }
-    Ok(())
 }

@@ -4,7 +4,6 @@ use crate::texts::{DONE, PUSH_AND_READ, REPLIES, S1, reply_of, request_of};
 use std::alloc::Global;
 use std::io;
 use std::process::Abort;
-use std::test::Fail;
 use tfs_conversation::{Ended, Reads, ServeFault, Watched, converse_over_table};
 use tfs_records::Discard;
 use tfs_table::Table;
@@ -141,14 +140,13 @@ fn each_read_is_counted_and_a_short_reply_is_one_write(rt: HostRuntime) {
 }
 
 #[test]
-fn the_input_is_read_to_its_end(rt: HostRuntime) -> Result<(), Fail> {
+fn the_input_is_read_to_its_end(rt: HostRuntime) {
     for most in [53, 95, 129] {
         let (_, writes) = calls_of(&rt, PUSH_AND_READ, most, REPLIES, Ended::Clean);
         assert!(rt; writes == 2, "{most}");
     }
     let (_, writes) = calls_of(&rt, "GET /state/a HT", 1, "", Ended::Cut);
     assert!(rt; writes == 0);
-    Ok(())
 }
 
 /// A writer that takes at most so many bytes a call, and so many in all, has the front of the replies to the input, whose first request is
@@ -169,50 +167,42 @@ fn is_taken(
 }
 
 #[test]
-fn a_writer_that_takes_nothing_more_has_a_front_of_the_replies(
-    rt: HostRuntime,
-) -> Result<(), Fail> {
+fn a_writer_that_takes_nothing_more_has_a_front_of_the_replies(rt: HostRuntime) {
     assert!(rt; REPLIES.len() == 150);
     for room in 0..150 {
         let (front, _) = REPLIES.as_bytes().split_at(room);
         is_taken(&rt, PUSH_AND_READ, (1, room), front, Err(ServeFault::Write));
     }
-    Ok(())
 }
 
 /// S1 and spaces, 200,000 bytes together.
-fn long_state(rt: &impl Alloc<A = Global>) -> Result<String, Fail> {
-    let mut state = String::from_str(rt.alloc(), S1)?;
-    for _ in 0..199_959 {
-        state.push(' ')?;
-    }
-    Ok(state)
+fn long_state(rt: &(impl Alloc<A = Global> + Abort)) -> String {
+    let blanks = " ".repeat(rt.alloc(), 199_959).expect(rt, "memory");
+    format!(in rt.alloc(); "{S1}{blanks}").expect(rt, "memory")
 }
 
 /// A push of a state to `a`, and a read of `a`.
-fn push_and_read(rt: &impl Alloc<A = Global>, state: &str) -> Result<String, Fail> {
-    let mut input = request_of(rt, "POST", "/state/a", state)?;
-    input.push_str("GET /state/a HTTP/1.1\r\nHost: h\r\n\r\n")?;
-    Ok(input)
+fn push_and_read(rt: &(impl Alloc<A = Global> + Abort), state: &str) -> String {
+    let push = request_of(rt, "POST", "/state/a", state);
+    let input = format!(in rt.alloc(); "{push}GET /state/a HTTP/1.1\r\nHost: h\r\n\r\n");
+    input.expect(rt, "memory")
 }
 
 /// The replies to them.
-fn replies_to(rt: &impl Alloc<A = Global>, state: &str) -> Result<String, Fail> {
-    let mut replies = String::from_str(rt.alloc(), DONE)?;
-    replies.push_str(reply_of(rt, state)?.as_str())?;
-    Ok(replies)
+fn replies_to(rt: &(impl Alloc<A = Global> + Abort), state: &str) -> String {
+    let reply = reply_of(rt, state);
+    format!(in rt.alloc(); "{DONE}{reply}").expect(rt, "memory")
 }
 
 #[test]
-fn a_long_state_is_written_in_pieces(rt: HostRuntime) -> Result<(), Fail> {
-    let state = long_state(&rt)?;
-    is_in_pieces(&rt, state.as_str())
+fn a_long_state_is_written_in_pieces(rt: HostRuntime) {
+    is_in_pieces(&rt, long_state(&rt).as_str());
 }
 
 /// The replies to the push and the read of a state are taken in pieces of 1,000 bytes.
-fn is_in_pieces(rt: &(impl Alloc<A = Global> + Abort), state: &str) -> Result<(), Fail> {
-    let input = push_and_read(rt, state)?;
-    let replies = replies_to(rt, state)?;
+fn is_in_pieces(rt: &(impl Alloc<A = Global> + Abort), state: &str) {
+    let input = push_and_read(rt, state);
+    let replies = replies_to(rt, state);
     is_taken(
         rt,
         input.as_str(),
@@ -220,7 +210,6 @@ fn is_in_pieces(rt: &(impl Alloc<A = Global> + Abort), state: &str) -> Result<()
         replies.as_bytes(),
         Ok(Ended::Clean),
     );
-    Ok(())
 }
 
 /// A reader that fails behind the first so many bytes of the push and the read, which come in reads of at most so many, leaves so many
@@ -239,7 +228,7 @@ fn leaves(rt: &(impl Alloc<A = Global> + Abort), (count, most): (usize, usize), 
 }
 
 #[test]
-fn a_reader_that_fails_behind_a_message_leaves_its_reply(rt: HostRuntime) -> Result<(), Fail> {
+fn a_reader_that_fails_behind_a_message_leaves_its_reply(rt: HostRuntime) {
     leaves(&rt, (96, 96), 38);
     for count in 0..131 {
         let written = if count < 96 {
@@ -251,5 +240,4 @@ fn a_reader_that_fails_behind_a_message_leaves_its_reply(rt: HostRuntime) -> Res
         };
         leaves(&rt, (count, 1), written);
     }
-    Ok(())
 }

@@ -3,7 +3,6 @@
 use crate::texts::{PUSH_AND_READ, S1};
 use std::alloc::Global;
 use std::process::Abort;
-use std::test::Fail;
 use tfs_framing::{Received, RequestDecoder, Take, take};
 
 /// A push of S1 in one chunk, of 115 bytes.
@@ -11,49 +10,40 @@ const PUSH_IN_CHUNKS: &str =
     "POST /state/a HTTP/1.1\r\nHost: h\r\nTransfer-Encoding: chunked\r\n\r\n29\r\n{\"version\":4, \"serial\":1 ,\"lineage\":\"L1\"}\r\n0\r\n\r\n";
 
 /// The bytes begin with a push of S1, of so many.
-fn expect_push(
-    rt: &(impl Alloc<A = Global> + Abort),
-    bytes: &[u8],
-    len: usize,
-) -> Result<(), Fail> {
-    match take(rt.alloc(), bytes)? {
+fn expect_push(rt: &(impl Alloc<A = Global> + Abort), bytes: &[u8], len: usize) {
+    match take(rt.alloc(), bytes).expect(rt, "memory") {
         Take::Got(request, used) => {
             assert!(rt; used == len && request.into_body().as_slice() == S1.as_bytes());
-            Ok(())
         }
         _ => panic!(rt; "there is a message in {} bytes", bytes.len()),
     }
 }
 
 /// The bytes are no message yet.
-fn expect_need(rt: &(impl Alloc<A = Global> + Abort), bytes: &[u8]) -> Result<(), Fail> {
-    match take(rt.alloc(), bytes)? {
-        Take::Need => Ok(()),
+fn expect_need(rt: &(impl Alloc<A = Global> + Abort), bytes: &[u8]) {
+    match take(rt.alloc(), bytes).expect(rt, "memory") {
+        Take::Need => {}
         _ => panic!(rt; "{} bytes are no message yet", bytes.len()),
     }
 }
 
 /// The text begins with a push of S1, of so many bytes; fewer are none.
-fn expect_first_push(
-    rt: &(impl Alloc<A = Global> + Abort),
-    text: &str,
-    len: usize,
-) -> Result<(), Fail> {
+fn expect_first_push(rt: &(impl Alloc<A = Global> + Abort), text: &str, len: usize) {
     let bytes = text.as_bytes();
     for n in 0..bytes.len() {
         if n < len {
-            expect_need(rt, &bytes[..n])?;
+            expect_need(rt, &bytes[..n]);
         } else {
-            expect_push(rt, &bytes[..n], len)?;
+            expect_push(rt, &bytes[..n], len);
         }
     }
-    expect_push(rt, bytes, len)
+    expect_push(rt, bytes, len);
 }
 
 #[test]
-fn a_message_is_taken_where_it_is_whole(rt: HostRuntime) -> Result<(), Fail> {
-    expect_first_push(&rt, PUSH_AND_READ, 96)?;
-    expect_first_push(&rt, PUSH_IN_CHUNKS, 115)
+fn a_message_is_taken_where_it_is_whole(rt: HostRuntime) {
+    expect_first_push(&rt, PUSH_AND_READ, 96);
+    expect_first_push(&rt, PUSH_IN_CHUNKS, 115);
 }
 
 /// A decoder needs more bytes, of which it takes so many at once, and is fed with these.
@@ -62,28 +52,23 @@ fn feed(
     decoder: &mut RequestDecoder,
     bytes: &[u8],
     wanted: usize,
-) -> Result<(), Fail> {
-    match decoder.next(rt.alloc())? {
+) {
+    match decoder.next(rt.alloc()).expect(rt, "memory") {
         Received::More(room) => {
             assert!(rt; room == wanted, "room for {room} bytes");
             assert!(rt; bytes.len() <= room);
             decoder.feed(bytes);
-            Ok(())
         }
         _ => panic!(rt; "{} bytes complete a message", bytes.len()),
     }
 }
 
 /// A decoder has a push of S1, and no bytes behind it.
-fn expect_received(
-    rt: &(impl Alloc<A = Global> + Abort),
-    decoder: &mut RequestDecoder,
-) -> Result<(), Fail> {
-    match decoder.next(rt.alloc())? {
+fn expect_received(rt: &(impl Alloc<A = Global> + Abort), decoder: &mut RequestDecoder) {
+    match decoder.next(rt.alloc()).expect(rt, "memory") {
         Received::Message(request) => {
             assert!(rt; request.into_body().as_slice() == S1.as_bytes());
             assert!(rt; decoder.is_empty());
-            Ok(())
         }
         _ => panic!(rt; "the push is whole"),
     }
@@ -96,26 +81,24 @@ fn expect_wanted(
     text: &str,
     len: usize,
     (n, wanted): (usize, usize),
-) -> Result<(), Fail> {
+) {
     assert!(rt; n <= len && len <= text.len());
     let mut decoder = RequestDecoder::new(rt.alloc());
-    feed(rt, &mut decoder, &text.as_bytes()[..n], 65_536)?;
-    feed(rt, &mut decoder, &text.as_bytes()[n..len], wanted)?;
-    expect_received(rt, &mut decoder)
+    feed(rt, &mut decoder, &text.as_bytes()[..n], 65_536);
+    feed(rt, &mut decoder, &text.as_bytes()[n..len], wanted);
+    expect_received(rt, &mut decoder);
 }
 
 #[test]
-fn what_a_head_tells_of_is_wanted_at_once(rt: HostRuntime) -> Result<(), Fail> {
+fn what_a_head_tells_of_is_wanted_at_once(rt: HostRuntime) {
     for row in [(0, 65_536), (1, 65_536), (54, 65_536), (55, 41), (95, 1)] {
-        expect_wanted(&rt, PUSH_AND_READ, 96, row)?;
+        expect_wanted(&rt, PUSH_AND_READ, 96, row);
     }
-    Ok(())
 }
 
 #[test]
-fn a_chunk_is_wanted_with_its_end(rt: HostRuntime) -> Result<(), Fail> {
+fn a_chunk_is_wanted_with_its_end(rt: HostRuntime) {
     for n in [63, 66, 67, 109, 110, 113] {
-        expect_wanted(&rt, PUSH_IN_CHUNKS, 115, (n, 65_536))?;
+        expect_wanted(&rt, PUSH_IN_CHUNKS, 115, (n, 65_536));
     }
-    Ok(())
 }

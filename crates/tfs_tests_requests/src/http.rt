@@ -1,51 +1,49 @@
 //! Calls of requests that no message has, and replies that no conversation over pipes gives.
 
-use crate::texts::refusal_of;
 use std::alloc::Global;
 use std::process::Abort;
 use std::sync::Arc;
-use std::test::Fail;
 use tfs_calls::{Chosen, Impact, Refusal, Reply};
 use tfs_framing::{Form, Request};
 use tfs_http::{Routes, call_of, write_reply};
 use tfs_index::Version;
 use tfs_state::{Doc, MAX_STATE_BYTES};
 
-/// A read of this target has no route.
-fn has_no_route(rt: &(impl Alloc<A = Global> + Abort), target: &[u8]) -> Result<(), Fail> {
-    let routes = Routes::new(rt.alloc())?;
+/// A read of this target.
+fn read_of(rt: &(impl Alloc<A = Global> + Abort), target: &[u8]) -> Request {
     let body = Vec::new(rt.alloc());
-    let request = Request::new(rt.alloc(), b"GET", target, body)?;
-    let refusal = call_of(rt.alloc(), &routes, request).err();
+    let request = Request::new(rt.alloc(), b"GET", target, body);
+    request.ok().expect(rt, "memory")
+}
+
+/// A read of this target has no route.
+fn has_no_route(rt: &(impl Alloc<A = Global> + Abort), routes: &Routes, target: &[u8]) {
+    let refusal = call_of(rt.alloc(), routes, read_of(rt, target)).err();
     assert!(rt; matches!(refusal, Some(Refusal::NoRoute)));
-    Ok(())
 }
 
 #[test]
-fn a_target_that_is_no_text_has_no_route(rt: HostRuntime) -> Result<(), Fail> {
-    has_no_route(&rt, b"/state/\xff")?;
-    has_no_route(&rt, b"/state/a?\xff")
+fn a_target_that_is_no_text_has_no_route(rt: HostRuntime) {
+    let routes = Routes::new(rt.alloc()).ok().expect(&rt, "memory");
+    has_no_route(&rt, &routes, b"/state/\xff");
+    has_no_route(&rt, &routes, b"/state/a?\xff");
 }
 
 /// The text of a reply stands behind what stood there before.
-fn expect_text(
-    rt: &(impl Alloc<A = Global> + Abort),
-    reply: &Reply,
-    close: bool,
-    text: &str,
-) -> Result<(), Fail> {
-    let mut out = b"before".to_vec(rt.alloc())?;
-    write_reply(rt.alloc(), reply, Form { close, bare: false }, &mut out)?;
+fn expect_text(rt: &(impl Alloc<A = Global> + Abort), reply: &Reply, close: bool, text: &str) {
+    let mut out = b"before".to_vec(rt.alloc()).expect(rt, "memory");
+    let written = write_reply(rt.alloc(), reply, Form { close, bare: false }, &mut out);
+    assert!(rt; written.is_ok());
     let (before, behind) = out.as_slice().split_at(out.len().min(6));
     assert!(rt; before == b"before".as_slice() && behind == text.as_bytes());
-    Ok(())
 }
 
 #[test]
-fn a_fault_of_the_journal_is_told(rt: HostRuntime) -> Result<(), Fail> {
-    let text = refusal_of(&rt, "500 Internal Server Error", "JournalFault")?;
+fn a_fault_of_the_journal_is_told(rt: HostRuntime) {
     let fault = Reply::Refused(Refusal::JournalFault);
-    expect_text(&rt, &fault, false, text.as_str())
+    let text =
+        "HTTP/1.1 500 Internal Server Error\r\nContent-Type: application/json\r\nContent-Length: 24\r\n\r\n{\"error\":\"JournalFault\"}";
+    expect_text(&rt, &fault, false, text);
 }
 
 /// Three instances, the second of which depends on the first, and the third on the second.
@@ -55,26 +53,33 @@ const CHAIN: &str = "{\"version\":4,\"serial\":2,\"lineage\":\"L\",\"resources\"
      {\"mode\":\"managed\",\"type\":\"t\",\"name\":\"c\",\"instances\":[{\"dependencies\":[\"t.b[3]\"]}]}]}";
 
 /// The version of a state.
-fn version_of(rt: &(impl Alloc<A = Global> + Abort), text: &str) -> Result<Arc<Version>, Fail> {
+fn version_of(rt: &(impl Alloc<A = Global> + Abort), text: &str) -> Arc<Version> {
+    let version = Version::build(rt.alloc(), doc_of(rt, text));
+    let version = version.ok().expect(rt, "memory");
+    Arc::new(rt.alloc(), version).ok().expect(rt, "memory")
+}
+
+/// The document of a state.
+fn doc_of(rt: &(impl Alloc<A = Global> + Abort), text: &str) -> Arc<Doc> {
     assert!(rt; text.len() <= MAX_STATE_BYTES);
-    let doc = Doc::read(rt.alloc(), text.as_bytes().to_vec(rt.alloc())?);
-    let doc = Arc::new(rt.alloc(), doc.ok().expect(rt, "a state"))?;
-    Ok(Arc::new(rt.alloc(), Version::build(rt.alloc(), doc)?)?)
+    let bytes = text.as_bytes().to_vec(rt.alloc()).expect(rt, "memory");
+    let doc = Doc::read(rt.alloc(), bytes).ok().expect(rt, "a state");
+    Arc::new(rt.alloc(), doc).ok().expect(rt, "memory")
 }
 
 /// The instances of these numbers.
-fn chosen_of(rt: &impl Alloc<A = Global>, numbers: &[usize]) -> Result<Chosen, Fail> {
-    Ok(Chosen::new(Vec::from_slice(rt.alloc(), numbers)?))
+fn chosen_of(rt: &(impl Alloc<A = Global> + Abort), numbers: &[usize]) -> Chosen {
+    Chosen::new(Vec::from_slice(rt.alloc(), numbers).expect(rt, "memory"))
 }
 
 #[test]
-fn a_number_of_no_instance_is_left_out(rt: HostRuntime) -> Result<(), Fail> {
+fn a_number_of_no_instance_is_left_out(rt: HostRuntime) {
     let reply = Reply::Impact(Impact {
-        version: version_of(&rt, CHAIN)?,
-        chosen: chosen_of(&rt, &[2, 3, 0])?,
+        version: version_of(&rt, CHAIN),
+        chosen: chosen_of(&rt, &[2, 3, 0]),
         position: 18_446_744_073_709_551_615,
     });
     let text = "HTTP/1.1 200 OK\r\nConnection: close\r\nContent-Type: application/json\r\n\
          Content-Length: 70\r\n\r\n{\"instances\":[\"t.c\",\"t.a\"],\"position\":18446744073709551615,\"serial\":2}";
-    expect_text(&rt, &reply, true, text)
+    expect_text(&rt, &reply, true, text);
 }

@@ -5,7 +5,7 @@ pub(crate) mod sessions;
 mod tables;
 mod values;
 
-use std::alloc::{AllocError, Global};
+use std::alloc::Global;
 use std::process::Abort;
 use tfs_index::Version;
 use tfs_rules::Name;
@@ -20,8 +20,8 @@ const STATE: &str = "{\"version\":4,\"serial\":1,\"lineage\":\"L1\",\"resources\
 const LOCK: &str = "{\"ID\":\"B\"}";
 
 /// The bytes of a text.
-fn bytes_of(rt: &impl Alloc<A = Global>, text: &str) -> Result<Vec<u8>, AllocError> {
-    text.as_bytes().to_vec(rt.alloc())
+fn bytes_of(rt: &(impl Alloc<A = Global> + Abort), text: &str) -> Vec<u8> {
+    text.as_bytes().to_vec(rt.alloc()).expect(rt, "memory")
 }
 
 /// The name `a`.

@@ -1,7 +1,7 @@
 //! Texts of requests and replies, written by hand from RFC 9112.
 
 use std::alloc::Global;
-use std::test::Fail;
+use std::process::Abort;
 
 /// A state, of 41 bytes.
 pub(crate) const S1: &str = "{\"version\":4, \"serial\":1 ,\"lineage\":\"L1\"}";
@@ -19,33 +19,23 @@ pub(crate) const REPLIES: &str =
 
 /// A request with a body, whose length it tells.
 pub(crate) fn request_of(
-    rt: &impl Alloc<A = Global>,
+    rt: &(impl Alloc<A = Global> + Abort),
     method: &str,
     target: &str,
     body: &str,
-) -> Result<String, Fail> {
+) -> String {
     let len = body.len();
-    Ok(format!(in rt.alloc();
+    let text = format!(in rt.alloc();
         "{method} {target} HTTP/1.1\r\nHost: h\r\nContent-Length: {len}\r\n\r\n{body}"
-    )?)
+    );
+    text.expect(rt, "memory")
 }
 
 /// The reply that tells a JSON text.
-pub(crate) fn reply_of(rt: &impl Alloc<A = Global>, text: &str) -> Result<String, Fail> {
+pub(crate) fn reply_of(rt: &(impl Alloc<A = Global> + Abort), text: &str) -> String {
     let len = text.len();
-    Ok(format!(in rt.alloc();
+    let reply = format!(in rt.alloc();
         "HTTP/1.1 200 OK\r\nContent-Type: application/json\r\nContent-Length: {len}\r\n\r\n{text}"
-    )?)
-}
-
-/// The reply of a refusal after which the conversation goes on.
-pub(crate) fn refusal_of(
-    rt: &impl Alloc<A = Global>,
-    status: &str,
-    name: &str,
-) -> Result<String, Fail> {
-    let len = name.len() + 12;
-    Ok(format!(in rt.alloc();
-        "HTTP/1.1 {status}\r\nContent-Type: application/json\r\nContent-Length: {len}\r\n\r\n{{\"error\":\"{name}\"}}"
-    )?)
+    );
+    reply.expect(rt, "memory")
 }

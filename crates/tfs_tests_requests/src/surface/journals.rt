@@ -1,11 +1,12 @@
 //! The calls on records, journals and sinks.
 
+ghost use Rattle.std.specs.Prelude.{◌≡◌, false};
+
 use super::name_a;
 use std::alloc::{AllocError, Global};
 use std::fs::{self, File};
 use std::io;
 use std::process::Abort;
-use std::test::Fail;
 use tfs_journal::{
     Base, BaseRow, Decoded, Discard, End, Entries, Entry, FileSink, MemorySink, Out, Rows, Sink,
     SinkFault, decode, encode, encode_base,
@@ -13,28 +14,27 @@ use tfs_journal::{
 use tfs_rules::Act;
 
 /// The record of the unlock of `a`.
-fn record(rt: &(impl Alloc<A = Global> + Abort)) -> Result<Vec<u8>, AllocError> {
+fn record(rt: &(impl Alloc<A = Global> + Abort)) -> Vec<u8> {
     let entry: Entry = Entry {
         name: name_a(rt),
         act: Act::Unlock(None),
     };
     let text: Result<Vec<u8>, AllocError> = encode(rt.alloc(), &entry);
-    text
+    text.expect(rt, "memory")
 }
 
-/// A journal of that record.
-fn journal(rt: &(impl Alloc<A = Global> + Abort)) -> Result<Vec<u8>, AllocError> {
-    let mut bytes = b"TFJ1\n".to_vec(rt.alloc())?;
-    bytes.extend_from_slice(record(rt)?.as_slice())?;
-    Ok(bytes)
+/// A journal of a record.
+fn journal(rt: &(impl Alloc<A = Global> + Abort), record: &[u8]) -> Vec<u8> {
+    let mut bytes = b"TFJ1\n".to_vec(rt.alloc()).expect(rt, "memory");
+    bytes.extend_from_slice(record).expect(rt, "memory");
+    bytes
 }
 
 #[test]
-fn records_of_entries(rt: HostRuntime) -> Result<(), Fail> {
-    let bytes = journal(&rt)?;
+fn records_of_entries(rt: HostRuntime) {
+    let bytes = journal(&rt, record(&rt).as_slice());
     let decoded: Result<Decoded, AllocError> = decode(rt.alloc(), bytes.as_slice());
-    is_of_one(&rt, &decoded?);
-    Ok(())
+    is_of_one(&rt, &decoded.expect(&rt, "memory"));
 }
 
 /// A journal that was read is whole, and has one entry.
@@ -50,33 +50,43 @@ fn is_of_one(rt: &impl Abort, decoded: &Decoded) {
     assert!(rt; *end == End::Whole && entries.as_slice().len() == 1);
 }
 
-#[test]
-fn bases_of_journals(rt: HostRuntime) -> Result<(), Fail> {
+/// The row of `a`, which has neither a holder nor a state.
+fn rows_of(rt: &(impl Alloc<A = Global> + Abort)) -> Rows {
     let row: BaseRow = BaseRow {
-        name: name_a(&rt),
+        name: name_a(rt),
         holder: None,
         state: None,
     };
     let mut list: Vec<BaseRow> = Vec::new(rt.alloc());
-    list.push(row)?;
-    let rows: Rows = Rows::new(list);
-    assert!(rt; rows.as_slice().len() == 1);
-    let base: Base = Base::new(7, rows).expect(&rt, "a base");
-    let text: Result<Vec<u8>, AllocError> = encode_base(rt.alloc(), &base);
-    // Position, number of rows, one row of a name of one byte with two lengths, and the digest.
-    assert!(rt; text?.len() == 8 + 2 + (1 + 1 + 4 + 4) + 16);
-    let empty: Base = Base::empty(rt.alloc());
-    assert!(rt; empty.position() == 0 && empty.rows().is_empty());
-    Ok(())
+    list.push(row).ok().expect(rt, "memory");
+    Rows::new(list)
 }
 
 #[test]
-fn ends_of_journals(rt: HostRuntime) -> Result<(), Fail> {
-    let torn = decode(rt.alloc(), b"TFJ")?.end;
-    assert!(rt; torn == End::Torn(0));
-    let damaged = decode(rt.alloc(), b"XXXX\n")?.end;
-    assert!(rt; damaged == End::Damaged(0));
-    Ok(())
+fn bases_of_journals(rt: HostRuntime) {
+    let rows: Rows = rows_of(&rt);
+    assert!(rt; rows.as_slice().len() == 1);
+    let base: Option<Base> = Base::new(7, rows);
+    is_encoded(&rt, &base.expect(&rt, "a base"));
+    let empty: Base = Base::empty(rt.alloc());
+    assert!(rt; empty.position() == 0 && empty.rows().is_empty());
+}
+
+/// The text of a base has position, number of rows, one row of a name of one byte with two lengths, and the digest.
+fn is_encoded(rt: &(impl Alloc<A = Global> + Abort), base: &Base) {
+    let text: Result<Vec<u8>, AllocError> = encode_base(rt.alloc(), base);
+    assert!(rt; text.expect(rt, "memory").len() == 8 + 2 + (1 + 1 + 4 + 4) + 16);
+}
+
+/// The end of bytes.
+fn end_of(rt: &(impl Alloc<A = Global> + Abort), bytes: &[u8]) -> End {
+    decode(rt.alloc(), bytes).expect(rt, "memory").end
+}
+
+#[test]
+fn ends_of_journals(rt: HostRuntime) {
+    assert!(rt; end_of(&rt, b"TFJ") == End::Torn(0));
+    assert!(rt; end_of(&rt, b"XXXX\n") == End::Damaged(0));
 }
 
 #[test]
@@ -94,13 +104,18 @@ fn appends(rt: HostRuntime) {
 }
 
 #[test]
-fn sinks_over_files(rt: HostRuntime) -> Result<(), Fail> {
+fn sinks_over_files(rt: HostRuntime) {
     let path = "/tmp/tfs_tests_requests_file_sink";
     let _ = fs::remove_file(&rt, path);
     let made: io::Result<FileSink> = FileSink::create_new(&rt, path);
-    let mut sink: FileSink<File> = made?;
+    is_written(&rt, made.ok().expect(&rt, "a file"));
+    assert!(rt; fs::remove_file(&rt, path).is_ok());
+}
+
+/// A sink over a file takes three bytes.
+fn is_written(rt: &impl Abort, mut sink: FileSink<File>)
+    requires { sink.has_failed ≡ false }
+{
     let taken: Result<usize, SinkFault> = sink.write(b"abc");
     assert!(rt; taken == Ok(3));
-    fs::remove_file(&rt, path)?;
-    Ok(())
 }

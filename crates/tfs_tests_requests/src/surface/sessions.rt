@@ -10,7 +10,6 @@ use std::net::TcpListener;
 use std::process::Abort;
 use std::sync::atomic::AtomicBool;
 use std::sync::{Arc, Mutex, Wait};
-use std::test::Fail;
 use std::thread::Threads;
 use std::time::Clock;
 use tfs_journal::{Discard, Sink};
@@ -25,7 +24,7 @@ use tfs_table::{Bytes, Call, Draft, Impact, Kind, Query, Raw, Refusal, Reply, Ta
 const READ: &[u8] = b"GET /state/a HTTP/1.1\r\nHost: h\r\n\r\n";
 
 #[test]
-fn conversations(rt: HostRuntime) -> Result<(), Fail> {
+fn conversations(rt: HostRuntime) {
     let mut table = Table::new(rt.alloc(), Discard).ok().expect(&rt, "a table");
     let desk: TableDesk<'_, Discard> = TableDesk {
         alloc: rt.alloc(),
@@ -33,7 +32,6 @@ fn conversations(rt: HostRuntime) -> Result<(), Fail> {
     };
     let (ended, used) = conversed(rt.alloc(), desk);
     assert!(rt; ended == Ok(Ended::Clean) && used == 2);
-    Ok(())
 }
 
 /// How the conversation of a read ends, and how many reads it takes.
@@ -53,11 +51,10 @@ fn conversed(alloc: Global, mut desk: TableDesk<'_, Discard>) -> (Result<Ended, 
 }
 
 #[test]
-fn checks_of_journals(rt: HostRuntime) -> Result<(), Fail> {
+fn checks_of_journals(rt: HostRuntime) {
     let mut writer = Watched::new(Vec::new(rt.alloc()));
     let status: Result<u8, RunFault> = run_check(rt.alloc(), b"TFJ1\n", &mut writer);
     assert!(rt; status.ok() == Some(0) && writer.inner.as_slice() == b"whole\n".as_slice());
-    Ok(())
 }
 
 #[test]
@@ -73,11 +70,10 @@ fn rebases_of_journals(rt: HostRuntime) {
 }
 
 #[test]
-fn shared_tables(rt: HostRuntime) -> Result<(), Fail> {
+fn shared_tables(rt: HostRuntime) {
     let listener = listener_of(&rt);
     let scene = Scene::Works(&listener);
     assert!(rt; played(&rt, new_table(&rt), 1, scene) == 1);
-    Ok(())
 }
 
 /// A session's calls.

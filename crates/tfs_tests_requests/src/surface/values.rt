@@ -1,12 +1,11 @@
 //! The calls on rows, addresses, documents, locks, records and versions.
 
-ghost use Rattle.std.specs.Prelude.{◌≡◌, IfOk};
+ghost use Rattle.std.specs.Prelude.{◌≡◌};
 
 use super::{LOCK, bytes_of, doc_of, name_a};
 use std::alloc::{AllocError, Global};
 use std::process::Abort;
 use std::sync::Arc;
-use std::test::Fail;
 use tfs_addr::{AddrFault, Key, Mode, config_text, instance_text, strip};
 use tfs_index::{ImpactFault, Version};
 use tfs_lock::{Id, LockFault, LockInfo};
@@ -25,39 +24,47 @@ fn words(rt: HostRuntime) {
 }
 
 #[test]
-fn rows(rt: HostRuntime) -> Result<(), Fail> {
-    let mut row: Row = Row::new(rt.alloc(), 65)?;
-    row.set(64);
-    let other = single(&rt)?;
+fn rows(rt: HostRuntime) {
+    let mut row = single(&rt);
+    let other = single(&rt);
     row.union_with(&other);
     row.meet_with(&other);
-    let count: usize = row.count();
-    assert!(rt; row.get(64) && count == 1);
-    let members: Result<Vec<usize>, AllocError> = row.members(rt.alloc());
-    assert!(rt; members?.as_slice() == [64].as_slice());
-    Ok(())
+    is_single(&rt, &row);
 }
 
 /// A row of 65 with its last number.
-fn single(rt: &impl Alloc<A = Global>) -> Result<Row, AllocError>
-    ensures { IfOk result (λ row. row.size ≡ 65) }
+fn single(rt: &(impl Alloc<A = Global> + Abort)) -> Row
+    ensures { result.size ≡ 65 }
 {
-    let mut row = Row::new(rt.alloc(), 65)?;
+    let mut row: Row = Row::new(rt.alloc(), 65).expect(rt, "memory");
     row.set(64);
-    Ok(row)
+    row
+}
+
+/// A row has its last number alone.
+fn is_single(rt: &(impl Alloc<A = Global> + Abort), row: &Row) {
+    let count: usize = row.count();
+    assert!(rt; row.size() == 65 && row.get(64) && count == 1);
+    let members: Result<Vec<usize>, AllocError> = row.members(rt.alloc());
+    assert!(rt; members.expect(rt, "memory").as_slice() == [64].as_slice());
 }
 
 #[test]
-fn planes(rt: HostRuntime) -> Result<(), Fail> {
-    let mut plane: Plane = Plane::new(rt.alloc(), 3)?;
+fn planes(rt: HostRuntime) {
+    let mut plane: Plane = Plane::new(rt.alloc(), 3).expect(&rt, "memory");
     plane.set(0, 1);
     plane.set(1, 2);
     plane.close();
+    is_closed(&rt, &plane);
+}
+
+/// A plane of three numbers has the pair of the first and the last one.
+fn is_closed(rt: &(impl Alloc<A = Global> + Abort), plane: &Plane) {
+    assert!(rt; plane.size() == 3);
     assert!(rt; plane.get(0, 2) && !plane.get(2, 0));
-    let mut row = Row::new(rt.alloc(), 3)?;
+    let mut row = Row::new(rt.alloc(), 3).expect(rt, "memory");
     plane.row_into(0, &mut row);
     assert!(rt; row.count() == 2);
-    Ok(())
 }
 
 #[test]
@@ -91,10 +98,14 @@ fn has_text(rt: &impl Abort, text: Option<String>, expected: &str) {
 }
 
 #[test]
-fn documents(rt: HostRuntime) -> Result<(), Fail> {
+fn documents(rt: HostRuntime) {
     let refused: Result<Doc, StateFault> = Doc::read(rt.alloc(), Vec::new(rt.alloc()));
     assert!(rt; refused.err() == Some(StateFault::NotJson));
-    let doc = doc_of(&rt);
+    is_read(&rt, &doc_of(&rt));
+}
+
+/// The document of the state has what stands there.
+fn is_read(rt: &impl Abort, doc: &Doc) {
     let (serial, lineage): (u64, &str) = (doc.serial(), doc.lineage());
     assert!(rt; serial == 1 && lineage == "L1" && doc.bytes().len() == super::STATE.len());
     let len: usize = doc.len();
@@ -102,28 +113,32 @@ fn documents(rt: HostRuntime) -> Result<(), Fail> {
     assert!(rt; doc.address(1).is("t.b") && doc.config(0) == "t.a");
     let depends: bool = doc.depends(1, 0);
     assert!(rt; depends);
-    Ok(())
 }
 
 #[test]
-fn locks(rt: HostRuntime) -> Result<(), Fail> {
-    let read: Result<LockInfo, LockFault> = LockInfo::read(rt.alloc(), bytes_of(&rt, LOCK)?);
-    let info = read.ok().expect(&rt, "lock information");
-    let id: &Id = info.id();
-    assert!(rt; id.text() == "B" && info.bytes() == LOCK.as_bytes());
+fn locks(rt: HostRuntime) {
+    let read: Result<LockInfo, LockFault> = LockInfo::read(rt.alloc(), bytes_of(&rt, LOCK));
+    is_lock(&rt, &read.ok().expect(&rt, "lock information"));
     let none: Option<Id> = Id::read(String::new(rt.alloc()));
     assert!(rt; none.is_none());
-    Ok(())
+}
+
+/// The lock information is this one.
+fn is_lock(rt: &impl Abort, info: &LockInfo) {
+    let id: &Id = info.id();
+    assert!(rt; id.text() == "B" && info.bytes() == LOCK.as_bytes());
 }
 
 #[test]
-fn names_and_acts(rt: HostRuntime) -> Result<(), Fail> {
-    let name = name_a(&rt);
-    let copy: Result<Name, AllocError> = name.copy();
-    assert!(rt; copy?.text() == "a");
+fn names(rt: HostRuntime) {
+    let copy: Result<Name, AllocError> = name_a(&rt).copy();
+    assert!(rt; copy.expect(&rt, "memory").text() == "a");
+}
+
+#[test]
+fn acts(rt: HostRuntime) {
     let act: Result<Act, AllocError> = Act::Delete(None).copy();
-    act?;
-    Ok(())
+    assert!(rt; act.is_ok());
 }
 
 #[test]
@@ -135,6 +150,11 @@ fn records(rt: HostRuntime) {
     if record.verdict(&act) == Verdict::Accept {
         record.commit(act);
     }
+    is_empty(&rt, &record);
+}
+
+/// A record has neither a state nor a holder.
+fn is_empty(rt: &impl Abort, record: &Record) {
     let state: Option<&Arc<Doc>> = record.state();
     assert!(rt; state.is_none());
     let holder: Option<&Arc<LockInfo>> = record.holder();
@@ -142,15 +162,24 @@ fn records(rt: HostRuntime) {
 }
 
 #[test]
-fn versions(rt: HostRuntime) -> Result<(), Fail> {
+fn versions(rt: HostRuntime) {
     let doc: Arc<Doc> = Arc::new(rt.alloc(), doc_of(&rt)).ok().expect(&rt, "memory");
-    let version: Version = Version::build(rt.alloc(), doc)?;
+    let version: Version = Version::build(rt.alloc(), doc).ok().expect(&rt, "memory");
+    is_indexed(&rt, &version);
+    let any: Result<Vec<usize>, ImpactFault> = version.any(rt.alloc(), &["t.a"]);
+    is_answer(&rt, any.ok(), &[1]);
+    let all: Result<Vec<usize>, ImpactFault> = version.all(rt.alloc(), &["t.b"]);
+    is_answer(&rt, all.ok(), &[]);
+}
+
+/// The first instance of two reaches the second.
+fn is_indexed(rt: &impl Abort, version: &Version) {
     assert!(rt; version.doc().len() == 2);
     let reaches: bool = version.reaches(0, 1);
     assert!(rt; reaches);
-    let any: Result<Vec<usize>, ImpactFault> = version.any(rt.alloc(), &["t.a"]);
-    assert!(rt; any.ok().expect(&rt, "an answer").as_slice() == [1].as_slice());
-    let all: Result<Vec<usize>, ImpactFault> = version.all(rt.alloc(), &["t.b"]);
-    assert!(rt; all.ok().expect(&rt, "an answer").is_empty());
-    Ok(())
+}
+
+/// An answer has these numbers.
+fn is_answer(rt: &impl Abort, answer: Option<Vec<usize>>, numbers: &[usize]) {
+    assert!(rt; answer.expect(rt, "an answer").as_slice() == numbers);
 }

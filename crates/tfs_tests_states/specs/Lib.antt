@@ -1,2 +1,0 @@
--- What the plain programs look for.
-pub mod PlainWalks
