@@ -183,9 +183,10 @@ fn long_state(rt: &(impl Alloc<A = Global> + Abort)) -> String {
 
 /// A push of a state to `a`, and a read of `a`.
 fn push_and_read(rt: &(impl Alloc<A = Global> + Abort), state: &str) -> String {
-    let push = request_of(rt, "POST", "/state/a", state);
-    let input = format!(in rt.alloc(); "{push}GET /state/a HTTP/1.1\r\nHost: h\r\n\r\n");
-    input.expect(rt, "memory")
+    let mut input = request_of(rt, "POST", "/state/a", state);
+    let read = "GET /state/a HTTP/1.1\r\nHost: h\r\n\r\n";
+    input.push_str(read).expect(rt, "memory");
+    input
 }
 
 /// The replies to them.
