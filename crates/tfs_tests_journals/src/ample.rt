@@ -34,10 +34,9 @@ fn is_of_serial(ready: &Ready, serial: u64) -> bool {
 fn finished(table: &mut Table<Discard>, prepared: Prepared, serial: u64) -> Option<u64> {
     match table.ready(prepared) {
         Ok(ready) => {
-            if !is_of_serial(&ready, serial) {
-                return None;
-            }
-            table.finish(ready).ok()
+            let is_it = is_of_serial(&ready, serial);
+            let position = table.finish(ready).ok();
+            if is_it { position } else { None }
         }
         Err(_) => None,
     }

@@ -78,11 +78,9 @@ fn finished(table: &mut Table<Discard>, prepared: Prepared) -> Option<u64> {
         return None;
     };
     let version: Option<&Arc<Version>> = ready.version();
-    if version.is_some() || ready.name().text() != "a" {
-        return None;
-    }
+    let is_it = version.is_none() && ready.name().text() == "a";
     let finished: Result<u64, Refusal> = table.finish(ready);
-    finished.ok()
+    if is_it { finished.ok() } else { None }
 }
 
 #[test]
