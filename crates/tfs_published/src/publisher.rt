@@ -80,7 +80,13 @@ impl<J: Naming> Publisher<J> {
     {
         let (history, newest) = opened.named::<J>();
         let first = Published::of(alloc, table, &newest)?;
-        let second = Published::of(alloc, table, &newest)?;
+        let second = match Published::of(alloc, table, &newest) {
+            Ok(second) => second,
+            Err(error) => {
+                drop(first);
+                return Err(error);
+            }
+        };
         // The opening journal is lawful.
         table.is_kept();
         let writer: CopyWriter<J> = Writer::new(alloc, first, second, number)?;
@@ -173,22 +179,26 @@ impl<J: Naming> Publisher<J> {
         ensures err { OnErr result (self.new.next ≡ None) }
         ensures kept { (self.new.journal ≡ self.old.journal) × (self.new.makers ≡ self.old.makers) × (self.new.shown ≡ self.old.shown) }
     {
-        let version = version_after(ready)?;
         let Some(writer) = &mut self.writer else {
             return Err(AllocError);
         };
+        let version = version_after(ready)?;
         let Some(token) = self.newest.with(&self.history, ready, maker) else {
+            drop(version);
             return Err(AllocError);
         };
         let position = self.position + 1;
-        queue(
+        if let Err(error) = queue(
             writer,
             ready.number(),
             ready.name(),
             version,
             position,
             &token,
-        )?;
+        ) {
+            drop(token);
+            return Err(error);
+        }
         self.next = Some(token);
         Ok(())
     }
@@ -206,6 +216,7 @@ impl<J: Naming> Publisher<J> {
             return;
         };
         let Some(writer) = self.writer.take() else {
+            drop(token);
             return;
         };
         let replaced = writer.published().version(number);

@@ -38,6 +38,7 @@ pub(crate) fn change<J: Naming, K: Sink, R: Wait>(
         Err(refusal) => return Err(refusal),
     };
     if publisher.stage(&ready, maker).is_err() {
+        drop(ready);
         return Err(Refusal::OutOfMemory);
     }
     let number = ready.number();

@@ -101,6 +101,7 @@ impl<J: Naming, K: Sink> LockedState<J, K> {
         self.is_kept();
         session.is_kept();
         if !session.is_covered(&self.publisher) {
+            drop(prepared);
             return Err(Refusal::NoCopy);
         }
         let maker = session.number();

@@ -1,30 +1,58 @@
 //! Making a change ready: all that it needs before it is made.
 
-ghost use Rattle.std.specs.Prelude.{◌≡◌, ◌<◌, All, None, Some, IfOk, OnOk, option_map, slice_get, vec_len, vec_capacity};
+ghost use Rattle.std.specs.Prelude.{◌≡◌, ◌<◌, ◌⊎◌, All, None, Some, IfOk, IfErr, OnOk, option_map, slice_get, length, vec_len, vec_capacity};
 ghost use Rattle.std.specs.Arc.{arc_value};
 ghost use Rattle.tfs_rules.specs.Act.{ActValue, act_value};
 ghost use Rattle.tfs_rules.specs.History.{state_after};
 ghost use Rattle.tfs_records.specs.Journal.{Journal, names_of, with_entry};
 ghost use Rattle.tfs_calls.specs.Pushed.{pushed_by};
-ghost use Rattle.tfs_calls.specs.Transition.{act_refusal, open_model};
+ghost use Rattle.tfs_calls.specs.Refusal.{refusal_value, out_of_memory};
+ghost use Rattle.tfs_calls.specs.Transition.{act_refusal, open_model, MayLackMemory};
 ghost use Rattle.tfs_table.specs.Lawful.{IsLawful};
-ghost use Rattle.tfs_table.specs.Workspaces.{standing_at, IsFound, AreWorkspacesOf, HasVersion};
+ghost use Rattle.tfs_table.specs.Workspaces.{standing_at, Rise, IsFound, AreWorkspacesOf, HasVersion};
 
+use crate::judge::judge;
 use crate::prepared::Prepared;
 use crate::ready::Ready;
 use crate::workspace::Workspace;
 use std::alloc::AllocError;
 use std::snapshot::Snapshot;
 use std::sync::Arc;
+use tfs_calls::Refusal;
 use tfs_index::Version;
 use tfs_records::{Base, Entry};
 use tfs_rules::{Act, Name};
 
-/// Makes room for one more entry and one more workspace.
-pub(crate) fn make_room(
+/// Judges an entry, and makes room for it. The place is that of its name among the workspaces.
+pub(crate) fn make_way(
     entries: &mut Vec<Entry>,
     workspaces: &mut Vec<Workspace>,
-) -> Result<(), AllocError>
+    entry: &Entry,
+) -> Result<Result<usize, usize>, Refusal>
+    requires rise { Rise workspaces.old.items }
+    ensures same { (entries.new.items ≡ entries.old.items) × (workspaces.new.items ≡ workspaces.old.items) }
+    ensures room { OnOk result ((vec_len entries.new < vec_capacity entries.new) × (vec_len workspaces.new < vec_capacity workspaces.new)) }
+    ensures found { IfOk result (IsFound entry.now.name workspaces.old.items) }
+    ensures accepted { OnOk result ((j : Journal) → AreWorkspacesOf j workspaces.old.items → length j.entries ≡ length entries.old.items
+        → act_refusal (open_model j) entry.now.name entry.now.act ≡ None) }
+    ensures refused { IfErr result (λ refusal. (refusal_value refusal ≡ out_of_memory)
+        ⊎ ((j : Journal) → AreWorkspacesOf j workspaces.old.items → length j.entries ≡ length entries.old.items
+        → act_refusal (open_model j) entry.now.name entry.now.act ≡ Some (refusal_value refusal))) }
+    ensures memory { IfErr result (λ refusal. refusal_value refusal ≡ out_of_memory → (j : Journal) → AreWorkspacesOf j workspaces.old.items
+        → length j.entries ≡ length entries.old.items → MayLackMemory (open_model j) entry.now.name entry.now.act) }
+{
+    let place = judge(
+        entries.len(),
+        workspaces.as_slice(),
+        &entry.name,
+        &entry.act,
+    )?;
+    make_room(entries, workspaces)?;
+    Ok(place)
+}
+
+/// Makes room for one more entry and one more workspace.
+fn make_room(entries: &mut Vec<Entry>, workspaces: &mut Vec<Workspace>) -> Result<(), AllocError>
     ensures entries { entries.new.items ≡ entries.old.items }
     ensures workspaces { workspaces.new.items ≡ workspaces.old.items }
     ensures room { OnOk result (vec_len entries.new < vec_capacity entries.new) }
@@ -61,7 +89,16 @@ pub(crate) fn make_ready(
         text,
     } = prepared;
     let number = number_after(workspaces, &name, place);
-    let version = version_after(workspaces, &name, place, &act, pushed)?;
+    let version = match version_after(workspaces, &name, place, &act, pushed) {
+        Ok(version) => version,
+        Err(error) => {
+            drop(entry);
+            drop(name);
+            drop(act);
+            drop(text);
+            return Err(error);
+        }
+    };
     Ok(Ready {
         entry,
         name,

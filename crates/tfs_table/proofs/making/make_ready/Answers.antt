@@ -13,7 +13,7 @@ invariant_of-result c =
     is_ready _ c.args.base.now _ c.args.entries.now.items c.prepared.inside.entry c.prepared.inside.name c.number_after-number.result
     (act_value c.prepared.inside.act) c.args.workspaces.now _ _ c.of.ensures (ap (λ v. v.items) c.of-2.ensures) is.name is.act is.read
     is.text
-    c.requires.workspaces c.in_ok-version.ensures.value (c.number_after-number.ensures given (act_value c.prepared.inside.act)
+    c.requires.workspaces c.in-Ok.ensures.value (c.number_after-number.ensures given (act_value c.prepared.inside.act)
     c.requires.workspaces)
     c.requires.lawful
     (subst (λ (x : EntryValue). act_refusal (open_model given) x.name x.act ≡ None) (sym c.prepared.view_is) c.requires.accepted)

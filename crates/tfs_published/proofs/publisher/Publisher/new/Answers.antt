@@ -6,7 +6,7 @@ use Rattle.tfs_published.proofs.Publishers.{publisher_new, stands_new, no_change
 use Rattle.tfs_published.proofs.publisher.Publisher.new.Goals as goal
 
 pub new-requires-clause-alike : goal.new-requires-clause-alike
-new-requires-clause-alike g c = c.in_ok-first.ensures.value ∙ sym c.in_ok-second.ensures.value
+new-requires-clause-alike g c = c.in_ok-first.ensures.value ∙ sym c.in-Ok.ensures.value
 
 pub new-requires-clause-rule : goal.new-requires-clause-rule
 new-requires-clause-rule g c =

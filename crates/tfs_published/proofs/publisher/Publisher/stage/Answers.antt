@@ -32,7 +32,7 @@ invariant_of-self-2 g c =
     let at = subst (λ (j : Journal). slice_get (names_of (with_entry j entry)) number ≡ Some entry.name) journal c.number.ensures.value in
     let done = publisher_staged book opening inside.newest token writer.desk.shown.value (drop writer.behind writer.log.items)
     (drop after.behind after.log.items)
-    update (change_of c.args.maker ready) inside.position publisher c.in_ok-queue.ensures.ok c.in-Some-with.ensures.book
+    update (change_of c.args.maker ready) inside.position publisher c.in_default-queue.ensures.ok c.in-Some-with.ensures.book
     c.in-Some-with.ensures.changes refl place refl
     c.self.invariant.0 at c.number.ensures.most state (subst (λ (j : Journal). IsLawful j → IsLawful (with_entry j entry)) journal
     c.in_ok-version.ensures.lawful) in (
