@@ -92,6 +92,7 @@ pub(crate) fn make_calls<R: AllocGlobal + Print + Wait>(
         bail!("there is no memory for a table");
     };
     if word == Word::Read {
+        drop(table);
         calls_of(rt.alloc(), word, state)?;
         return Ok(());
     }

@@ -27,12 +27,17 @@ pub(crate) fn print_impacts(
     state: &str,
     addresses: &str,
 ) -> Result<()> {
+    let version = told_version(rt, state)?;
+    print_chosen(rt, &version, addresses)
+}
+
+/// The index of a state. A line tells that the state is read, and one that the index is built.
+fn told_version(rt: &(impl AllocGlobal + Print), state: &str) -> Result<Version> {
     let doc = doc_of(rt.alloc(), state)?;
     println!(rt; "read")?;
     let version = version_of(rt.alloc(), doc)?;
     println!(rt; "built")?;
-    let texts = lines_of(rt.alloc(), addresses)?;
-    print_chosen(rt, &version, texts.as_slice())
+    Ok(version)
 }
 
 /// The index of a state.
@@ -49,8 +54,10 @@ fn lines_of(alloc: Global, text: &str) -> Result<Vec<&str>, AllocError> {
     Ok(lines)
 }
 
-/// Prints the numbers of what an index has for any and all of the addresses.
-fn print_chosen(rt: &(impl AllocGlobal + Print), version: &Version, texts: &[&str]) -> Result<()> {
+/// Prints the numbers of what an index has for any and all of the addresses, one a line.
+fn print_chosen(rt: &(impl AllocGlobal + Print), version: &Version, addresses: &str) -> Result<()> {
+    let texts = lines_of(rt.alloc(), addresses)?;
+    let texts = texts.as_slice();
     print_numbers(rt, "any", version.any(rt.alloc(), texts)?.as_slice())?;
     print_numbers(rt, "all", version.all(rt.alloc(), texts)?.as_slice())
 }

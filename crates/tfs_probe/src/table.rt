@@ -12,10 +12,20 @@ pub(crate) fn push(rt: &(impl AllocGlobal + Print), is_applied: bool, state: &[u
     let Ok(mut table) = Table::new(rt.alloc(), Discard) else {
         bail!("there is no memory for a table");
     };
+    push_to(rt, &mut table, is_applied, state)
+}
+
+/// The same over a table.
+fn push_to(
+    rt: &(impl AllocGlobal + Print),
+    table: &mut Table<Discard>,
+    is_applied: bool,
+    state: &[u8],
+) -> Result<()> {
     if !is_applied {
         named_push(rt.alloc(), state)?;
-    } else if !apply(rt, &mut table, state)? {
-        apply(rt, &mut table, state)?;
+    } else if !apply(rt, table, state)? {
+        apply(rt, table, state)?;
     }
     Ok(())
 }

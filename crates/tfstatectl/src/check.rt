@@ -46,17 +46,21 @@ fn tell_files(rt: &HostRuntime, files: &[FolderFile]) -> io::Result<()> {
 fn line_of(alloc: Global, file: &FolderFile) -> io::Result<String> {
     let name = file.name();
     match Table::open(alloc, file.bytes(), Discard) {
-        Ok((table, end)) => {
-            let (base, position, names) = (
-                table.base().position(),
-                table.position(),
-                table.names(),
-            );
-            let end = end_text(alloc, end)?;
-            Ok(format!(in alloc; "{name}: base {base}, position {position}, {names} names, {end}")?)
-        }
+        Ok((table, end)) => table_line(alloc, name, &table, end),
         Err(fault) => Ok(format!(in alloc; "{name}: {fault}")?),
     }
+}
+
+/// What a journal that opens as a table is.
+fn table_line(
+    alloc: Global,
+    name: &str,
+    table: &Table<Discard>,
+    end: JournalEnd,
+) -> io::Result<String> {
+    let (base, position, names) = (table.base().position(), table.position(), table.names());
+    let end = end_text(alloc, end)?;
+    Ok(format!(in alloc; "{name}: base {base}, position {position}, {names} names, {end}")?)
 }
 
 /// How a journal ends.
