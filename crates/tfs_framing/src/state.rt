@@ -54,7 +54,7 @@ impl State {
         State::Head(Search::start())
     }
 
-    /// Makes that nothing is known.
+    /// Forgets what is known of a message.
     pub(crate) fn forget(&mut self)
         ensures at { (bytes : List ℕ) → IsAt bytes self.new bytes }
         ensures room { (spare : ℕ) → HasRoomFor 0 self.new spare }

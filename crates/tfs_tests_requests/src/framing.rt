@@ -7,7 +7,8 @@ use tfs_framing::{Received, RequestDecoder, Take, take};
 
 /// A push of S1 in one chunk, of 115 bytes.
 const PUSH_IN_CHUNKS: &str =
-    "POST /state/a HTTP/1.1\r\nHost: h\r\nTransfer-Encoding: chunked\r\n\r\n29\r\n{\"version\":4, \"serial\":1 ,\"lineage\":\"L1\"}\r\n0\r\n\r\n";
+    "POST /state/a HTTP/1.1\r\nHost: h\r\nTransfer-Encoding: chunked\r\n\r\n\
+29\r\n{\"version\":4, \"serial\":1 ,\"lineage\":\"L1\"}\r\n0\r\n\r\n";
 
 /// The bytes begin with a push of S1, of so many.
 fn expect_push(rt: &(impl Alloc<A = Global> + Abort), bytes: &[u8], len: usize) {

@@ -1,4 +1,5 @@
-//! Each public call once, from its crate, with the types of its arguments and of its result written out.
+//! Each public call once, from its crate, with the types of its arguments and of its result written out. The two that share and gather a
+//! table stand in shared.rt.
 
 mod journals;
 pub(crate) mod sessions;
