@@ -17,7 +17,7 @@ FAULT = re.compile(
 )
 CALLS = re.compile(r"\bset_len\b|\bFile::create\(|\btry_clone\b|\b(?:with_capacity|reserve|reserve_exact|resize)\(.*(?:<<|\b\d\d|\b\d_|\b[iu]\w+::MAX\b)")
 FUNCTION = re.compile(r"^\s*(?:pub(?:\([a-z]+\))? )?(?:const )?(?:unsafe )?fn (\w+)")
-LEFT_OUT = ("tfs_tests_", "tfs_bench", "tfs_probe")
+LEFT_OUT = ("tfs_tests", "tfs_bench", "tfs_probe")
 
 
 def sources():

@@ -1,5 +1,5 @@
 -- The names of the history and of the ledger that were just opened, and the journal that the table has.
-use Rattle.tfs_tests_requests.proofs.shared.played.Given as goal
+use Rattle.tfs_tests.proofs.shared.played.Given as goal
 
 abbrev pub ghosts-play-J-Naming : goal.ghosts-play-J-Naming
 ghosts-play-J-Naming g a = record { book = a.opened; opening = a.table.journal; sessions = a.number }

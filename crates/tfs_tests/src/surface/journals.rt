@@ -105,7 +105,7 @@ fn appends(rt: HostRuntime) {
 
 #[test]
 fn sinks_over_files(rt: HostRuntime) {
-    let path = "/tmp/tfs_tests_requests_file_sink";
+    let path = "/tmp/tfs_tests_file_sink";
     let _ = fs::remove_file(&rt, path);
     let made: io::Result<FileSink> = FileSink::create_new(&rt, path);
     is_written(&rt, made.ok().expect(&rt, "a file"));

@@ -5,7 +5,7 @@ use denote.Param.Send.{param_sync, arg_sync, shr_sync}
 use Rattle.std.proofs.sync.atomic.AtomicU64.TheSendSync as atomic
 use Rattle.tfs_shared.proofs.Captures.{three_sync}
 use Rattle.tfs_shared.proofs.Crossing.{shared_sync}
-use Rattle.tfs_tests_requests.proofs.waiting.ask_meanwhile.Goals as goal
+use Rattle.tfs_tests.proofs.waiting.ask_meanwhile.Goals as goal
 
 pub for_each_mut-requires-sync-F : goal.for_each_mut-requires-sync-F
 for_each_mut-requires-sync-F g c κs within =

@@ -1,0 +1,60 @@
+//! Tests of the crates below the programs, through what they offer: planes, journals, tables and folders, whose cases stand as lines of
+//! a text where they are many; requests, replies, conversations and shared tables. What is wanted is written by hand.
+#![tactic(auto)]
+
+#[cfg(test)]
+mod ample;
+#[cfg(test)]
+mod closed;
+#[cfg(test)]
+mod connections;
+#[cfg(test)]
+mod conversations;
+#[cfg(test)]
+mod digests;
+#[cfg(test)]
+mod drafts;
+#[cfg(test)]
+mod files;
+#[cfg(test)]
+mod folders;
+#[cfg(test)]
+mod framing;
+#[cfg(test)]
+mod helpers;
+#[cfg(test)]
+mod http;
+#[cfg(test)]
+mod journals;
+#[cfg(test)]
+mod limits;
+#[cfg(test)]
+mod lines;
+#[cfg(test)]
+mod opened;
+#[cfg(test)]
+mod pieces;
+#[cfg(test)]
+mod planes;
+#[cfg(test)]
+mod refusals;
+#[cfg(test)]
+mod runs;
+#[cfg(test)]
+mod sessions;
+#[cfg(test)]
+mod shared;
+#[cfg(test)]
+mod sinks;
+#[cfg(test)]
+mod surface;
+#[cfg(test)]
+mod syncs;
+#[cfg(test)]
+mod tables;
+#[cfg(test)]
+mod texts;
+#[cfg(test)]
+mod waiting;
+#[cfg(test)]
+mod workers;
