@@ -54,13 +54,14 @@ struct Calls<'a> {
 
 /// The calls of a state.
 fn calls_of(alloc: Global, word: Word, state: &[u8]) -> Result<Calls> {
+    let name = name_of(alloc, "a")?;
     let push = named_push(alloc, state)?;
     let query = query_of(alloc, &push.1)?;
     Ok(Calls {
         word,
         state,
         push: Some(push),
-        name: name_of(alloc, "a")?,
+        name,
         query,
     })
 }

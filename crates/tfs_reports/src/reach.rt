@@ -10,6 +10,7 @@ use crate::report::Report;
 use serde_json::{Value, json};
 use std::alloc::{AllocError, Global};
 use tfs_calls::{Impact, Kind, Query, Refusal, Text, Texts};
+use tfs_rules::Name;
 use tfs_state::Doc;
 use tfs_versions::picture;
 
@@ -37,12 +38,18 @@ pub fn print_impact(
     form: Form,
 ) -> Result<(), End> {
     let name = name_of(rt.alloc(), name)?;
-    let newest = newest_journal(rt, folder)?;
-    if newest.table.number(&name).is_none() {
+    let answer = answer_of(rt, folder, &name, &query)?;
+    tell(rt, &answer, form)
+}
+
+/// The answer over the newest journal of a folder.
+fn answer_of(rt: &HostRuntime, folder: &str, name: &Name, query: &Query) -> Result<Impact, End> {
+    let table = newest_journal(rt, folder)?.table;
+    if table.number(name).is_none() {
         return Err(End::at(Place::Name, Fault::NoName));
     }
-    match newest.table.impact(&name, &query) {
-        Ok(answer) => tell(rt, &answer, form),
+    match table.impact(name, query) {
+        Ok(answer) => Ok(answer),
         Err(refusal) => Err(End::at(Place::Name, fault_of(&refusal))),
     }
 }

@@ -88,12 +88,13 @@ static COMMANDS: [Form; 9] = [
 
 /// The program's command.
 pub(crate) fn program<'a>(alloc: Global) -> Result<Command<'a>, AllocError> {
+    let commands = commands(alloc, &COMMANDS)?;
     Command::new(alloc, "tfstatectl")
         .about("Runs a server for Terraform's state on a folder of journals")
         .version(VERSION)
         .after_help(STATUSES)
         .subcommand_required(true)
-        .subcommands(commands(alloc, &COMMANDS)?)
+        .subcommands(commands)
 }
 
 /// The commands below it.

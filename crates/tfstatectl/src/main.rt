@@ -13,34 +13,59 @@ mod serve;
 mod start;
 
 use crate::command::{Copying, Serving, folder_of, matches_of, words_of};
-use clap::Error;
+use clap::{ArgMatches, Error};
 use std::process::ExitCode;
+use std::sync::Wait;
+use std::thread::Threads;
+use std::time::Clock;
 use tfs_files::{End, Fault, Place, end_by};
 
 fn main(rt: HostRuntime) -> ExitCode {
-    let words = match words_of(&rt) {
-        Ok(words) => words,
-        Err(status) => return status,
-    };
-    let matches = match matches_of(rt.alloc(), words.as_slice()) {
-        Ok(matches) => matches,
+    match words_of(&rt) {
+        Ok(words) => run(&rt, &rt, words.as_slice()),
+        Err(status) => status,
+    }
+}
+
+/// Runs the command that the program's words ask for.
+fn run<R: AllocGlobal + Threads + Wait + Clock + Sync>(
+    rt: &R,
+    host: &HostRuntime,
+    words: &[String],
+) -> ExitCode {
+    match matches_of(host.alloc(), words) {
+        Ok(matches) => run_command(rt, host, &matches),
         Err(error) => {
-            let _ = error.print(&rt);
-            return end_of_words(&error);
+            let _ = error.print(host);
+            end_of_words(&error)
         }
-    };
+    }
+}
+
+/// Runs a command.
+fn run_command<R: AllocGlobal + Threads + Wait + Clock + Sync>(
+    rt: &R,
+    host: &HostRuntime,
+    matches: &ArgMatches<'_>,
+) -> ExitCode {
     match matches.subcommand() {
-        Some(("serve", given)) => {
-            let asked = Serving::of(given);
-            match start::start(&rt, &asked) {
-                Ok(ready) => serve::run(&rt, &rt, &asked, ready),
-                Err(end) => end_by(&rt, asked.name_at(end.place()), end),
-            }
-        }
-        Some(("copy", given)) => copy::run(&rt, &Copying::of(given)),
-        Some(("check", given)) => check::run(&rt, folder_of(given)),
-        Some((command, given)) => reading::run(&rt, command, given),
-        None => end_by(&rt, "", End::at(Place::Command, Fault::Arguments)),
+        Some(("serve", given)) => run_server(rt, host, &Serving::of(given)),
+        Some(("copy", given)) => copy::run(host, &Copying::of(given)),
+        Some(("check", given)) => check::run(host, folder_of(given)),
+        Some((command, given)) => reading::run(host, command, given),
+        None => end_by(host, "", End::at(Place::Command, Fault::Arguments)),
+    }
+}
+
+/// Serves a folder, once it is ready.
+fn run_server<R: AllocGlobal + Threads + Wait + Clock + Sync>(
+    rt: &R,
+    host: &HostRuntime,
+    asked: &Serving<'_>,
+) -> ExitCode {
+    match start::start(host, asked) {
+        Ok(ready) => serve::run(rt, host, asked, ready),
+        Err(end) => end_by(host, asked.name_at(end.place()), end),
     }
 }
 

@@ -33,6 +33,21 @@ pub(crate) fn start(rt: &HostRuntime, asked: &Serving<'_>) -> Result<Ready, End>
     let Ok(listener) = TcpListener::bind(rt, asked.listen) else {
         return Err(End::at(Place::Address, Fault::CannotBind));
     };
+    let (least, table) = begun(rt, asked, begins)?;
+    Ok(Ready {
+        lock,
+        listener,
+        least,
+        table,
+    })
+}
+
+/// The file of the least position, which is raised to the table's, and the table over the folder's next journal.
+fn begun(
+    rt: &HostRuntime,
+    asked: &Serving<'_>,
+    begins: bool,
+) -> Result<(Option<PositionFile>, Table<JournalSink>), End> {
     let least = PositionFile::named(rt, asked.least_file, begins)?;
     let start = Start {
         least: least_position(asked.start.least, &least),
@@ -40,10 +55,5 @@ pub(crate) fn start(rt: &HostRuntime, asked: &Serving<'_>) -> Result<Ready, End>
     };
     let table = started(rt, &start)?;
     let least = raised(rt, least, table.position())?;
-    Ok(Ready {
-        lock,
-        listener,
-        least,
-        table,
-    })
+    Ok((least, table))
 }
