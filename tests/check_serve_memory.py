@@ -1,7 +1,6 @@
-"""What `tfstated serve` does where memory is refused, at its start and to a connection, by a preloaded shim; and what it needs of it for
-texts that are long or meant to take much."""
+"""What `tfstated serve` does where memory is refused at its start, by a preloaded shim; and what it needs of it for texts that are long or
+meant to take much."""
 import contextlib
-import io
 import itertools
 import os
 import re
@@ -14,17 +13,13 @@ from pathlib import Path
 
 from checking import S1, checks_in, expect, run_checks
 from journal_reader import base_text, push_content, record_text
-from refused_requests import FOREVER, SHIM, build_shim, run_refused
+from refused_requests import FOREVER, build_shim, run_refused
 from sample_states import chain
-from serve_program import LOOPBACK, Server, asked, entries_of, free_port, fresh, hostile, limited, preloaded, push_large, reply_of, state
-from stdio_model import Request, Table
+from serve_program import LOOPBACK, Server, answer_of, asked, free_port, fresh, hostile, limited, preloaded, push_large, reply_of, state
 from stdio_program import PROGRAM, USAGE, request_text
 
 A, B = b'{"ID":"A" ,"Who":""}', b'{"ID":"B"}'
 WHOLE = b"TFJ2\n" + base_text(0, []) + record_text(3, b"a", push_content(b"", S1)) + record_text(1, b"a", B)
-NO_MEMORY = (503, b'{"error":"OutOfMemory"}')
-TALK = [("POST", "/state/a", S1), ("GET", "/state/a", b""), ("LOCK", "/state/a", B), ("LOCK", "/state/a", A),
-        ("GET", "/impact/a/any?of=t.a", b""), ("UNLOCK", "/state/a", B)]
 # How long a small request may take beside bodies that are read for seconds, and how many are to be answered meanwhile. Who waits for one
 # of these bodies each time gets far fewer answers. Where memory runs out, some may be refused, at most a tenth.
 SMALL_SECONDS, SMALL_ANSWERS = 5, 120
@@ -65,82 +60,6 @@ def check_a_start_that_is_refused_memory_tells_it():
     expect(seen >= {usage} | faults, True, f"memory is refused at each place: {seen}")
 
 
-def end_between_connections(server):
-    """Ends a server of one worker by shutting what it listens on. Memory may be refused to one connection before."""
-    for _ in range(2):
-        with server.connect() as held:
-            reply = answer_over(held, ("GET", "/state/b"))
-            if reply == (404, b'{"error":"NoState"}'):
-                server.shut()
-                break
-            expect(reply in (None, NO_MEMORY), True, f"{reply}")
-    return server.end()
-
-
-def talk_refused(first, last):
-    """What the requests of a talk are answered, each on a connection of its own, by a server whose requests for memory from the first to
-    the last are refused. With it the changes that are in the journal, and how many requests the program made."""
-    reading, writing = os.pipe()
-    given = {"LD_PRELOAD": str(SHIM), "REFUSE_FROM": str(first), "REFUSE_TO": str(last), "COUNTS": str(writing)}
-    server = Server(workers=1, env=given, pass_fds=[writing])
-    os.close(writing)
-    replies = [answer_of(server, request) for request in TALK]
-    expect(end_between_connections(server), (b"", 1, b"tfstated: AcceptFault\n"), f"requests {first} to {last}")
-    with os.fdopen(reading) as counts:
-        requests = int(counts.read().split()[0])
-    return replies, [kind for kind, _, _ in entries_of(Path(server.new).read_bytes())], requests
-
-
-def answer_over(connection, request):
-    """The reply to a request; none where its connection ends without one."""
-    try:
-        return asked(connection, *request)
-    except ConnectionError:
-        return None
-
-
-def answer_of(server, request):
-    """The same on a connection of its own."""
-    with server.connect() as connection:
-        return answer_over(connection, request)
-
-
-def told_without(number):
-    """What the talk is told, and what the journal has, where the request of this number changes nothing."""
-    table, replies = Table(), []
-    for each, request in enumerate(TALK):
-        replies.append(None if each == number else reply_of(io.BytesIO(table.reply(Request(*request)))))
-    kinds = {"POST": "push", "LOCK": "lock", "UNLOCK": "unlock"}
-    changes = [each for each, (method, _, _) in enumerate(TALK) if method in kinds and replies[each] and replies[each][0] == 200]
-    return replies, [kinds[TALK[each][0]] for each in changes]
-
-
-def allowed_talks():
-    """What the talk may be told where one request for memory is refused: all; or a request is OutOfMemory or its connection ends,
-    and it has changed nothing; or it has done what it asks for, and only its reply is lost."""
-    whole, kinds = told_without(None)
-    yield whole, kinds
-    for number in range(len(TALK)):
-        replies, fewer = told_without(number)
-        yield replies, fewer
-        yield [*replies[:number], NO_MEMORY, *replies[number + 1 :]], fewer
-        yield [*whole[:number], None, *whole[number + 1 :]], kinds
-
-
-def check_a_connection_that_is_refused_memory_ends_alone():
-    allowed, seen = list(allowed_talks()), []
-    *ample, requests = talk_refused(0, 0)
-    expect(tuple(ample), allowed[0], "with ample memory")
-    with open("/dev/full", "wb", buffering=0) as full:
-        before = run_refused([PROGRAM, "serve", f"{LOOPBACK}:{free_port()}", "1", fresh()], 0, 0, stdout=full)[3]
-    expect(before < requests, True, f"{before} of {requests} requests are made at the start")
-    for request in range(before + 1, requests + 1):
-        *told, _ = talk_refused(request, request)
-        expect(tuple(told) in allowed, True, f"request {request} of {requests}: {told}")
-        seen += told[0]
-    expect(NO_MEMORY in seen and None in seen, True, "some are told so, and some connections end")
-
-
 def most_memory(server):
     """The most bytes of memory that a server has had at once."""
     lines = Path(f"/proc/{server.process.pid}/status").read_text().splitlines()
@@ -174,7 +93,8 @@ def length_of_answer(file):
 
 @contextlib.contextmanager
 def asking(connection):
-    """Asks for the state of b five times a second on a connection, which is to be shown each time."""
+    """Asks for the state of b five times a second on a connection, which is to be shown each time. A worker has to wait for a connection
+    meanwhile: where none waits, a connection without a request is ended after half a second, and a busy machine may take that long."""
     ended, replies = threading.Event(), []
 
     def ask():
@@ -188,12 +108,12 @@ def asking(connection):
     finally:
         ended.set()
         thread.join()
-    expect(set(replies) <= {(200, S1)}, True, "replies beside")
+    expect([reply for reply in replies if reply != (200, S1)], [], "replies beside that tell something else")
 
 
 def check_a_long_module_path_takes_a_few_times_its_bytes():
     length = 8 << 20
-    server, text = Server(workers=2, preexec_fn=limited(6 * 10**9)), long_module_path(length)
+    server, text = Server(workers=3, preexec_fn=limited(6 * 10**9)), long_module_path(length)
     with server.connect() as other:
         expect(asked(other, "POST", "/state/b", S1), (200, b""))
         before = most_memory(server)

@@ -1,106 +1,151 @@
-"""Refuses the requests for memory of a shared table's calls, each in turn, by a preloaded shim. Each word of the program makes the
-requests of the one before it, and its own call's after them. A clone of a version makes none, as `state` shows, so that no request
-can be refused that would lose a place of a published copy: such a clone is refused only where a version has 2^63 - 1 owners."""
+"""Refuses requests for memory of a server of one worker, by a preloaded shim: each request of a talk in turn, and all from each one on. What
+is refused is told so, or its connection ends, and it changes nothing. With ample memory a call of a table that is shared asks for it hardly
+more often than the same call of a table alone, however large the state is."""
+import io
+import os
 import sys
+from pathlib import Path
 
-from checking import checks_in, expect, run_checks
-from refused_requests import FOREVER, build_shim, built, run_refused
+from checking import S1, checks_in, expect, run_checks
+from refused_requests import FOREVER, SHIM, build_shim, run_refused
 from sample_states import chain
+from serve_program import LOOPBACK, Server, answer_of, answer_over, entries_of, free_port, fresh, reply_of
+from stdio_model import Request, Table
+from stdio_program import PROGRAM, request_text
 
-build_shim()
-PROGRAM = built("tfs_probe")
-SERIAL = 7
-# What is told with ample memory: of sharing, of the push, of what is asked after it, and of the end.
-SHARED, PUSHED = b"shared\n", b"done 1, accepted 1, seen 1\n"
-STATE = b"done %d, accepted 0, seen 1\n" % SERIAL
-# What is told of a call that is refused: nothing is counted or seen by it.
-UNSHARED = b"refused NoMemory\n"
-UNPUSHED = b"refused OutOfMemory, accepted 0, seen 0\n"
-UNANSWERED = b"refused OutOfMemory, accepted 1, seen 1\n"
-
-
-def gathered(count):
-    return b"gathered %d\n" % count
+A, B = b'{"ID":"A" ,"Who":""}', b'{"ID":"B"}'
+NO_MEMORY = (503, b'{"error":"OutOfMemory"}')
+QUERY = ("GET", "/impact/a/any?of=t.r0", b"")
+TALK = [("POST", "/state/a", S1), ("GET", "/state/a", b""), ("LOCK", "/state/a", B), ("LOCK", "/state/a", A),
+        ("GET", "/impact/a/any?of=t.a", b""), ("UNLOCK", "/state/a", B)]
+LONG_TALK = [("POST", "/state/a", chain(70)), QUERY, ("GET", "/state/a", b"")]
+KINDS = {"POST": "push", "LOCK": "lock", "UNLOCK": "unlock"}
+# A push of a shared table prepares the published change, and a list that grows asks again now and then.
+MORE_OF_A_PUSH, MORE_IN_ALL = 5, 2
 
 
-def state_of(count):
-    """A state of so many instances, each of which depends on the one before."""
-    return chain(count, serial=SERIAL)
+def end_between_connections(server):
+    """Ends a server of one worker by shutting what it listens on. Memory may be refused to one connection before."""
+    for _ in range(2):
+        with server.connect() as held:
+            reply = answer_over(held, ("GET", "/state/b"))
+            if reply == (404, b'{"error":"NoState"}'):
+                server.shut()
+                break
+            expect(reply in (None, NO_MEMORY), True, f"{reply}")
+    return server.end()
 
 
-def impact_of(count):
-    """The answer to what the first of so many instances reaches."""
-    return b"done %d, accepted 1, seen 1\n" % (count - 1)
+class Refusing(Server):
+    """A server of one worker, whose requests for memory from the first to the last are refused."""
+
+    def __init__(self, first, last):
+        reading, writing = os.pipe()
+        given = {"LD_PRELOAD": str(SHIM), "REFUSE_FROM": str(first), "REFUSE_TO": str(last), "COUNTS": str(writing)}
+        super().__init__(workers=1, env=given, pass_fds=[writing])
+        os.close(writing)
+        self.counts = reading
+
+    def requests(self):
+        """How many requests for memory it has made, once it was ended."""
+        expect(end_between_connections(self), (b"", 1, b"tfstated: AcceptFault\n"), "its end")
+        with os.fdopen(self.counts) as counts:
+            return int(counts.read().split()[0])
 
 
-def ran(text, word, first=0, last=0):
-    """What the program wrote, and its status."""
-    return run_refused([PROGRAM, "shared", word], first, last, text)[:2]
+def changes_in(data):
+    return [kind for kind, _, _ in entries_of(data)]
 
 
-def requests_of(text, word, ample):
-    """How many requests the program makes with ample memory, of which it has to write this."""
-    output, status, _, requests, _ = run_refused([PROGRAM, "shared", word], 0, 0, text)
-    expect((output, status), (ample, 0), word)
-    return requests
+def talk_refused(talk, first, last):
+    """What the requests of a talk are answered, each on a connection of its own, where requests for memory from the first to the last are
+    refused. With it the changes that are in the journal, and how many requests the program made."""
+    server = Refusing(first, last)
+    replies = [answer_of(server, request) for request in talk]
+    requests = server.requests()
+    return replies, changes_in(Path(server.new).read_bytes()), requests
 
 
-def check_sharing_that_is_refused_gives_the_table_back():
-    text = state_of(2)
-    before, after = requests_of(text, "read", b""), requests_of(text, "share", SHARED + gathered(0))
-    expect(before < after, True, "sharing requests memory")
-    for number in range(before + 1, after + 1):
-        ample = UNSHARED + SHARED + PUSHED + impact_of(2) + gathered(1)
-        expect(ran(text, "impact", number, number), (ample, 0), f"request {number} of {before} to {after}")
-        expect(ran(text, "share", number, FOREVER), (UNSHARED, 1), f"from request {number} on")
+def told_without(talk, number):
+    """What a talk is told, and what the journal has, where the request of this number changes nothing."""
+    table, replies = Table(), []
+    for each, request in enumerate(talk):
+        replies.append(None if each == number else reply_of(io.BytesIO(table.reply(Request(*request)))))
+    return replies, [KINDS[method] for (method, _, _), reply in zip(talk, replies) if method in KINDS and reply and reply[0] == 200]
 
 
-def check_a_push_that_is_refused_changes_nothing():
-    for count in (1, 300):
-        text = state_of(count)
-        before = requests_of(text, "share", SHARED + gathered(0))
-        after = requests_of(text, "submit", SHARED + PUSHED + gathered(1))
-        expect(before < after, True, "a push requests memory")
-        for number in range(before + 1, after + 1):
-            ample = SHARED + UNPUSHED + PUSHED + impact_of(count) + gathered(1)
-            expect(ran(text, "impact", number, number), (ample, 0), f"request {number} of {before} to {after}")
-            expect(ran(text, "submit", number, FOREVER), (SHARED + UNPUSHED + gathered(0), 1), f"from request {number} on")
+def allowed_talks(talk):
+    """What a talk may be told where one request for memory is refused: all; or a request is OutOfMemory or its connection ends,
+    and it has changed nothing; or it has done what it asks for, and only its reply is lost."""
+    whole, kinds = told_without(talk, None)
+    yield whole, kinds
+    for number in range(len(talk)):
+        replies, fewer = told_without(talk, number)
+        yield replies, fewer
+        yield [*replies[:number], NO_MEMORY, *replies[number + 1 :]], fewer
+        yield [*whole[:number], None, *whole[number + 1 :]], kinds
 
 
-def check_a_query_that_is_refused_changes_nothing():
-    text = state_of(300)
-    before = requests_of(text, "submit", SHARED + PUSHED + gathered(1))
-    after = requests_of(text, "impact", SHARED + PUSHED + impact_of(300) + gathered(1))
-    expect(before < after, True, "a query requests memory")
-    for number in range(before + 1, after + 1):
-        ample = SHARED + PUSHED + UNANSWERED + impact_of(300) + gathered(1)
-        expect(ran(text, "impact", number, number), (ample, 0), f"request {number} of {before} to {after}")
-        never = SHARED + PUSHED + UNANSWERED * 2 + gathered(1)
-        expect(ran(text, "impact", number, FOREVER), (never, 0), f"from request {number} on")
+def requests_at_the_start():
+    """How many requests for memory are made before the first connection comes."""
+    with open("/dev/full", "wb", buffering=0) as full:
+        return run_refused([PROGRAM, "serve", f"{LOOPBACK}:{free_port()}", "1", fresh()], 0, 0, stdout=full)[3]
 
 
-def check_no_request_is_made_for_a_state():
-    for count in (1, 300):
-        text = state_of(count)
-        before = requests_of(text, "submit", SHARED + PUSHED + gathered(1))
-        expect(requests_of(text, "state", SHARED + PUSHED + STATE + gathered(1)), before)
-        expect(ran(text, "state", before + 1, FOREVER), (SHARED + PUSHED + STATE + gathered(1), 0))
+def expect_refused_in_turn(talk):
+    allowed, seen, before = list(allowed_talks(talk)), [set() for _ in talk], requests_at_the_start()
+    *ample, requests = talk_refused(talk, 0, 0)
+    expect(tuple(ample), allowed[0], "with ample memory")
+    expect(before < requests, True, f"{before} of {requests} requests are made at the start")
+    for request in range(before + 1, requests + 1):
+        *told, _ = talk_refused(talk, request, request)
+        expect(tuple(told) in allowed, True, f"request {request} of {requests}: {told}")
+        for replies, reply in zip(seen, told[0]):
+            replies.add(reply)
+    expect([{NO_MEMORY, None} <= replies for replies in seen], [True] * len(talk), "each is told so once, and its connection ends once")
 
 
-def check_requests_are_few_and_do_not_grow_with_the_state():
-    for text in map(state_of, (1, 2, 4096)):
-        made = [requests_of(text, "read", b""), requests_of(text, "share", SHARED + gathered(0)),
-                requests_of(text, "submit", SHARED + PUSHED + gathered(1))]
-        expect((made[1] - made[0] <= 12, made[2] - made[1] <= 5), (True, True), f"requests up to sharing, its end, and the push: {made}")
+def check_a_connection_that_is_refused_memory_ends_alone():
+    expect_refused_in_turn(TALK)
 
 
-def check_a_refusal_before_sharing_ends_the_program_or_changes_nothing():
-    text = state_of(2)
-    ample = SHARED + PUSHED + impact_of(2) + gathered(1)
-    for number in range(1, requests_of(text, "read", b"") + 1):
-        found = ran(text, "impact", number, number)
-        expect(found in ((b"", 1), (ample, 0)), True, f"request {number}: {found}")
+def check_a_push_and_a_query_of_70_instances_that_are_refused_change_nothing():
+    expect_refused_in_turn(LONG_TALK)
+
+
+def check_all_requests_from_each_one_on_are_refused():
+    for talk in (TALK, LONG_TALK):
+        (whole, kinds), before = told_without(talk, None), requests_at_the_start()
+        for first in range(before + 1, talk_refused(talk, 0, 0)[-1] + 1):
+            server = Refusing(first, FOREVER)
+            replies = [answer_of(server, request) for request in talk]
+            left, _ = changes_in(server.kill()), os.close(server.counts)
+            told = next((number for number, reply in enumerate(replies) if reply in (NO_MEMORY, None)), len(talk))
+            expect((replies[:told], set(replies[told:]) <= {NO_MEMORY, None}), (whole[:told], True), f"from request {first} on: {replies}")
+            done = len([method for (method, _, _), reply in zip(talk, replies[:told]) if method in KINDS and reply[0] == 200])
+            expect(left == kinds[: len(left)] and len(left) in (done, done + 1), True, f"from request {first} on: {left}")
+
+
+def requests_of(state, request, times):
+    """How many requests for memory are made where a state is pushed and a request follows so many times on one connection: by a server, and
+    by a table alone."""
+    talk = [("POST", "/state/a", state)] + [request] * times
+    server = Refusing(0, 0)
+    with server.connect() as connection:
+        expect({answer_over(connection, each)[0] for each in talk}, {200}, f"{request[:2]}")
+    alone = run_refused([PROGRAM, "stdio"], 0, 0, b"".join(request_text(*each) for each in talk))
+    expect(alone[1], 0, "alone")
+    return server.requests(), alone[3]
+
+
+def check_a_shared_table_asks_for_memory_hardly_more_often_than_one_alone():
+    for count in (1, 300, 4096):
+        state = chain(count)
+        for more, request in ((0, ("GET", "/state/a", b"")), (0, QUERY), (MORE_OF_A_PUSH, ("POST", "/state/a", state))):
+            shared, alone = (once - twice for once, twice in zip(requests_of(state, request, 20), requests_of(state, request, 10)))
+            expect(shared - alone <= 10 * more + MORE_IN_ALL, True, f"{request[:2]} of {count}: {shared} and {alone} requests of ten")
 
 
 if __name__ == "__main__":
+    build_shim()
     sys.exit(run_checks(checks_in(globals())))

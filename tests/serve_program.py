@@ -122,6 +122,20 @@ def asked(connection, method, target, body=b"", more=""):
         return reply_of(file)
 
 
+def answer_over(connection, request):
+    """The reply to a request; none where its connection ends without one."""
+    try:
+        return asked(connection, *request)
+    except ConnectionError:
+        return None
+
+
+def answer_of(server, request):
+    """The same on a connection of its own."""
+    with server.connect() as connection:
+        return answer_over(connection, request)
+
+
 def run(*words, **how):
     """Runs the program, which is to end by itself: what it wrote, its status, and what it wrote on standard error."""
     how = {"stdout": subprocess.PIPE, **how}

@@ -4,8 +4,9 @@ ghost use Rattle.std.specs.Prelude.{◌≤◌, length, IfOk};
 
 use anyhow::{Result, bail};
 use std::alloc::{AllocError, Global};
-use tfs_calls::{Bytes, Draft, Raw};
-use tfs_rules::Name;
+use std::sync::Arc;
+use tfs_records::Entry;
+use tfs_rules::{Act, Name};
 use tfs_state::{Doc, MAX_STATE_BYTES};
 
 /// The text of bytes.
@@ -41,28 +42,14 @@ pub(crate) fn doc_of(alloc: Global, state: &[u8]) -> Result<Doc> {
     Ok(Doc::read(alloc, state.to_vec(alloc)?)?)
 }
 
-/// The push of a state to the name of a number.
-pub(crate) fn push_of(alloc: Global, number: usize, state: &str) -> Result<(Name, Draft)> {
-    let name = name_of(alloc, number)?;
-    Ok((name, draft_of(alloc, state)?))
-}
-
-/// The draft of the push of a state.
-fn draft_of(alloc: Global, state: &str) -> Result<Draft> {
-    if MAX_STATE_BYTES < state.len() {
-        bail!("the state is too long");
-    }
-    let body = Bytes::new(state.as_bytes().to_vec(alloc)?);
-    match Draft::read(alloc, Raw::Push(None, body)) {
-        Ok(draft) => Ok(draft),
-        Err(refusal) => bail!("the push is no draft: {}", refusal.name()),
-    }
-}
-
-/// The name of a number.
-pub(crate) fn name_of(alloc: Global, number: usize) -> Result<Name> {
-    match Name::read(format!(in alloc; "w{number}")?) {
-        Some(name) => Ok(name),
-        None => bail!("there is no name"),
-    }
+/// The entry of the push of a state to the name `a`.
+pub(crate) fn entry_of(alloc: Global, state: &str) -> Result<Entry> {
+    let Some(name) = Name::read(String::from_str(alloc, "a")?) else {
+        bail!("there is no name");
+    };
+    let doc = Arc::new(alloc, doc_of(alloc, state.as_bytes())?)?;
+    Ok(Entry {
+        name,
+        act: Act::Push(None, doc),
+    })
 }

@@ -1,6 +1,6 @@
 //! The reading and opening of a journal, beside the reading of its states; and the writing of a record, beside a copy of its bytes.
 
-use crate::input::{doc_of, push_of};
+use crate::input::{doc_of, entry_of};
 use crate::measure::Measured;
 use anyhow::{Result, bail};
 use md5::{Digest, Md5};
@@ -118,16 +118,26 @@ fn docs_of(alloc: Global, entries: &[Entry]) -> Result<Vec<Doc>> {
 
 /// The text of a journal that has the push of a state.
 pub(crate) fn text_of(alloc: Global, state: &str) -> Result<Vec<u8>> {
-    let mut text = Vec::new(alloc);
-    text.extend_from_slice(b"TFJ2\n")?;
-    text.extend_from_slice(encode_base(alloc, &Base::empty(alloc))?.as_slice())?;
-    text.extend_from_slice(record_of(alloc, state)?.as_slice())?;
+    let mut text = b"TFJ2\n".to_vec(alloc)?;
+    push_base(&mut text, alloc)?;
+    push_record(&mut text, alloc, state)?;
     Ok(text)
+}
+
+/// Adds the base of a journal that begins with nothing.
+fn push_base(text: &mut Vec<u8>, alloc: Global) -> Result<()> {
+    let base = encode_base(alloc, &Base::empty(alloc))?;
+    Ok(text.extend_from_slice(base.as_slice())?)
+}
+
+/// Adds the record of the push of a state.
+fn push_record(text: &mut Vec<u8>, alloc: Global, state: &str) -> Result<()> {
+    let record = record_of(alloc, state)?;
+    Ok(text.extend_from_slice(record.as_slice())?)
 }
 
 /// The record of the push of a state.
 fn record_of(alloc: Global, state: &str) -> Result<Vec<u8>> {
-    let (name, draft) = push_of(alloc, 0, state)?;
-    let act = draft.into_act();
-    Ok(encode(alloc, &Entry { name, act })?)
+    let entry = entry_of(alloc, state)?;
+    Ok(encode(alloc, &entry)?)
 }

@@ -5,12 +5,9 @@ use crate::input::lines_of;
 use crate::journal::Journal;
 use crate::measure::Measured;
 use crate::planes::Relation;
-use crate::shared::Sessions;
 use crate::state::StateText;
 use anyhow::Result;
 use std::alloc::Global;
-use std::sync::Wait;
-use std::thread::Threads;
 use std::time::{Clock, Duration};
 
 /// What has calls, over some input.
@@ -20,29 +17,23 @@ pub(crate) enum Subject<'s, 'a> {
     Index(&'s Impacts<'a>),
     State(StateText<'a>),
     Journal(&'s Journal<'a>),
-    Shared(Sessions<'a>),
 }
 
 impl Subject<'_, '_> {
     /// Makes the call of a name once.
-    fn call<R: Threads + Wait + Clock + Print + AllocGlobal + Sync>(
-        &self,
-        rt: &R,
-        name: &str,
-    ) -> Result<Measured> {
+    fn call<R: Clock + Print + AllocGlobal>(&self, rt: &R, name: &str) -> Result<Measured> {
         match self {
             Subject::Planes(relation) => relation.call(rt, name),
             Subject::Index(impacts) => impacts.call(rt, name),
             Subject::State(text) => text.call(rt, name),
             Subject::Journal(journal) => journal.call(rt, name),
-            Subject::Shared(sessions) => sessions.call(rt, name),
         }
     }
 }
 
 /// Makes calls so many times, in turns, and prints the nanoseconds of the shortest of each, and what it gave last. No rounds: each call
 /// is made once, and what it gave is printed. In none of 0 rounds the input was made, and no more.
-pub(crate) fn print_calls<R: Threads + Wait + Clock + Print + AllocGlobal + Sync>(
+pub(crate) fn print_calls<R: Clock + Print + AllocGlobal>(
     rt: &R,
     subject: Subject,
     rounds: Option<usize>,
@@ -58,7 +49,7 @@ pub(crate) fn print_calls<R: Threads + Wait + Clock + Print + AllocGlobal + Sync
 }
 
 /// Makes each call once, and keeps the shorter times.
-fn take_turns<R: Threads + Wait + Clock + Print + AllocGlobal + Sync>(
+fn take_turns<R: Clock + Print + AllocGlobal>(
     rt: &R,
     subject: Subject,
     names: &[&str],

@@ -2,7 +2,7 @@
 
 use anyhow::{Result, bail};
 use std::alloc::Global;
-use tfs_calls::{Bytes, Draft, Kind, Query, Raw, Text, Texts};
+use tfs_calls::{Bytes, Draft, Raw};
 use tfs_rules::Name;
 use tfs_state::MAX_STATE_BYTES;
 
@@ -32,18 +32,8 @@ pub(crate) fn named_push(alloc: Global, state: &[u8]) -> Result<(Name, Draft)> {
     Ok((name, push_of(alloc, state)?))
 }
 
-/// A query for what an address reaches.
-pub(crate) fn query_for(alloc: Global, address: String) -> Result<Query> {
-    let mut texts = Vec::new(alloc);
-    texts.push(Text::new(address))?;
-    Ok(Query {
-        kind: Kind::Any,
-        texts: Texts::new(texts),
-    })
-}
-
 /// A workspace's name.
-pub(crate) fn name_of(alloc: Global, text: &str) -> Result<Name> {
+fn name_of(alloc: Global, text: &str) -> Result<Name> {
     match Name::read(String::from_str(alloc, text)?) {
         Some(name) => Ok(name),
         None => bail!("the name is none"),

@@ -7,19 +7,16 @@ mod files;
 mod input;
 mod making;
 mod reading;
-mod shared;
 mod state;
 mod table;
 mod texts;
 
 use crate::input::text_of;
-use crate::shared::{Word, make_calls};
 use crate::table::push;
 use anyhow::{Result, bail};
 use std::alloc::Global;
 use std::env;
 use std::io::Read;
-use std::sync::Wait;
 
 fn main(rt: HostRuntime) -> Result<()> {
     let mut words = Vec::new(rt.alloc());
@@ -45,7 +42,7 @@ fn lent(alloc: Global, words: &[String]) -> Result<Vec<&str>> {
 }
 
 /// Does what words say with a text.
-fn probe<R: AllocGlobal + Print + Wait>(rt: &R, words: &[&str], text: &str) -> Result<()> {
+fn probe<R: AllocGlobal + Print>(rt: &R, words: &[&str], text: &str) -> Result<()> {
     match words {
         [] => probe_all(rt, text),
         ["addresses"] => addresses::print_answers(rt),
@@ -56,22 +53,20 @@ fn probe<R: AllocGlobal + Print + Wait>(rt: &R, words: &[&str], text: &str) -> R
         ["table", "read"] => push(rt, false, text.as_bytes()),
         ["table", "apply"] => push(rt, true, text.as_bytes()),
         ["table", word] => making::print_made(rt, word, text.trim_end()),
-        ["shared", word] => make_calls(rt, Word::read(word)?, text.as_bytes()),
         _ => bail!(
-            "the words are addresses, texts, state, index, journal, append, table or shared, and what README.md says behind them"
+            "the words are addresses, texts, state, index, journal, append or table, and what README.md says behind them"
         ),
     }
 }
 
 /// Does a little of each: of a state, its first line, with the address of the second, and of journals, the lines behind them.
-fn probe_all<R: AllocGlobal + Print + Wait>(rt: &R, text: &str) -> Result<()> {
+fn probe_all<R: AllocGlobal + Print>(rt: &R, text: &str) -> Result<()> {
     let Some((state, rest)) = text.split_once('\n') else {
         bail!("the input has one line");
     };
     addresses::print_answers(rt)?;
     state::print_count(rt, state)?;
     push(rt, true, state.as_bytes())?;
-    make_calls(rt, Word::Impact, state.as_bytes())?;
     let Some((address, journals)) = rest.split_once('\n') else {
         bail!("the input has two lines");
     };

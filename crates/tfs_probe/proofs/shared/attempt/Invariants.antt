@@ -1,8 +1,0 @@
--- The names of the history and of the ledger that were just opened, and the journal that the table has.
-use Rattle.tfs_probe.proofs.shared.attempt.Given as goal
-
-abbrev pub ghosts-play-J-Naming : goal.ghosts-play-J-Naming
-ghosts-play-J-Naming g a = record { book = a.opened; opening = a.table.journal; sessions = 2 }
-
-abbrev pub ghosts-play-J-Ledger : goal.ghosts-play-J-Ledger
-ghosts-play-J-Ledger g a = record { name = a.blank.name; parts = a.blank.parts }
