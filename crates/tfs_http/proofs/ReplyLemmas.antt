@@ -1,5 +1,5 @@
 -- Laws of the texts of replies.
-use Rattle.std.proofs.Common.{◌≡◌, ◌≢◌, ◌∙◌, ℕ, List, [], ◌++◌, length, codes, decimal, refl, ap, append_assoc}
+use Rattle.std.proofs.Common.{◌≡◌, ◌≢◌, ◌∙◌, ℕ, List, [], ◌∷◌, ◌++◌, length, codes, decimal, refl, ap, append_assoc}
 use Rattle.tfs_calls.specs.Refusal.{RefusalValue, head_too_large, bad_head, bad_length, transfer_coding, body_too_large, no_route, method_not_allowed}
 use Rattle.tfs_calls.specs.Refusal.{bad_name, no_host, bad_chunk, bad_digest}
 use Rattle.tfs_calls.specs.Refusal.{bad_lock_info, bad_state, too_many_instances, journal_stopped, locked, lock_lost, lineage_differs, serial_too_low}
@@ -26,41 +26,45 @@ head_added code status listed allow close kind digits body old added form is_sta
 pub added_to : (before after now part text : List ℕ) → after ≡ now ++ part → part ≡ text → now ≡ before → after ≡ before ++ text
 added_to before after now part text e is was = e ∙ ap (λ (t : List ℕ). t ++ part) was ∙ ap (λ (t : List ℕ). before ++ t) is
 
+-- A text that has a first byte isn't empty.
+filled : (first : ℕ) (others : List ℕ) → first ∷ others ≢ []
+filled first others e = cc
+
 -- The status of each refusal has a phrase.
 refusal_has_phrase : (refusal : RefusalValue) → phrase_of (row_of refusal).status ≢ []
-refusal_has_phrase head_too_large e = cc
-refusal_has_phrase bad_head e = cc
-refusal_has_phrase no_host e = cc
-refusal_has_phrase bad_length e = cc
-refusal_has_phrase transfer_coding e = cc
-refusal_has_phrase body_too_large e = cc
-refusal_has_phrase bad_chunk e = cc
-refusal_has_phrase no_route e = cc
-refusal_has_phrase (method_not_allowed methods) e = cc
-refusal_has_phrase bad_name e = cc
-refusal_has_phrase bad_digest e = cc
-refusal_has_phrase bad_lock_info e = cc
-refusal_has_phrase bad_state e = cc
-refusal_has_phrase too_many_instances e = cc
-refusal_has_phrase journal_stopped e = cc
-refusal_has_phrase (locked info) e = cc
-refusal_has_phrase lock_lost e = cc
-refusal_has_phrase lineage_differs e = cc
-refusal_has_phrase serial_too_low e = cc
-refusal_has_phrase serial_reused e = cc
-refusal_has_phrase no_state e = cc
-refusal_has_phrase no_address e = cc
-refusal_has_phrase too_many_addresses e = cc
-refusal_has_phrase (unknown_address k) e = cc
-refusal_has_phrase table_full e = cc
-refusal_has_phrase journal_full e = cc
-refusal_has_phrase out_of_memory e = cc
-refusal_has_phrase journal_fault e = cc
-refusal_has_phrase no_copy e = cc
+refusal_has_phrase head_too_large = filled _ _
+refusal_has_phrase bad_head = filled _ _
+refusal_has_phrase no_host = filled _ _
+refusal_has_phrase bad_length = filled _ _
+refusal_has_phrase transfer_coding = filled _ _
+refusal_has_phrase body_too_large = filled _ _
+refusal_has_phrase bad_chunk = filled _ _
+refusal_has_phrase no_route = filled _ _
+refusal_has_phrase (method_not_allowed methods) = filled _ _
+refusal_has_phrase bad_name = filled _ _
+refusal_has_phrase bad_digest = filled _ _
+refusal_has_phrase bad_lock_info = filled _ _
+refusal_has_phrase bad_state = filled _ _
+refusal_has_phrase too_many_instances = filled _ _
+refusal_has_phrase journal_stopped = filled _ _
+refusal_has_phrase (locked info) = filled _ _
+refusal_has_phrase lock_lost = filled _ _
+refusal_has_phrase lineage_differs = filled _ _
+refusal_has_phrase serial_too_low = filled _ _
+refusal_has_phrase serial_reused = filled _ _
+refusal_has_phrase no_state = filled _ _
+refusal_has_phrase no_address = filled _ _
+refusal_has_phrase too_many_addresses = filled _ _
+refusal_has_phrase (unknown_address k) = filled _ _
+refusal_has_phrase table_full = filled _ _
+refusal_has_phrase journal_full = filled _ _
+refusal_has_phrase out_of_memory = filled _ _
+refusal_has_phrase journal_fault = filled _ _
+refusal_has_phrase no_copy = filled _ _
 
 -- And so has that of each reply.
 pub reply_has_phrase : (reply : ReplyValue) → phrase_of (status_of reply) ≢ []
-reply_has_phrase (done position) e = cc
-reply_has_phrase (state d) e = cc
-reply_has_phrase (impact d chosen position) e = cc
-reply_has_phrase (refused refusal) e = refusal_has_phrase refusal e
+reply_has_phrase (done position) = filled _ _
+reply_has_phrase (state d) = filled _ _
+reply_has_phrase (impact d chosen position) = filled _ _
+reply_has_phrase (refused refusal) = refusal_has_phrase refusal

@@ -3,3 +3,4 @@ pub mod Routing
 pub mod Rows
 pub mod Pieces
 pub mod ReplyText
+pub mod Asked

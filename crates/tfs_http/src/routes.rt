@@ -1,12 +1,14 @@
 //! From a request to a call.
 
 ghost use Rattle.std.specs.Prelude.{◌≡◌, ◌≢◌, ◌⊎◌, ℕ, List, codes, Contains, IfOk, IfErr, IfSome, IfNone, OnOk, true, false};
+ghost use Rattle.tfs_calls.specs.declared.call.Call.TheVariants.{Impact};
 ghost use Rattle.tfs_calls.specs.declared.refusal.Methods.TheVariants.{State};
 ghost use Rattle.tfs_rules.specs.Name.{IsName};
-ghost use Rattle.tfs_calls.specs.declared.refusal.Refusal.TheVariants.{OutOfMemory, BadName, BadDigest};
-ghost use Rattle.tfs_http.specs.Query.{identifier_parameter, texts_parameter};
+ghost use Rattle.tfs_calls.specs.declared.refusal.Refusal.TheVariants.{OutOfMemory};
+ghost use Rattle.tfs_http.specs.Query.{texts_parameter};
 ghost use Rattle.tfs_http.specs.Routing.{path_of, Route, IsPathOf, HasRoute, IsTaken, IsSound, IsOneOf, HasCall, methods_of, routing_refusal, routes as all_routes};
-ghost use Rattle.tfs_http.specs.Routing.{impact_path, route_of};
+ghost use Rattle.tfs_http.specs.Routing.{route_of};
+ghost use Rattle.tfs_http.specs.Asked.{method_text, state_identifier, state_call};
 ghost use Rattle.tfs_http.specs.Rows.{route_rows};
 
 use crate::query::{identifier_parameter, texts_parameter};
@@ -14,7 +16,7 @@ use matchit::{InsertError, Router};
 use std::alloc::{AllocError, Global};
 use std::marker::Model;
 use std::str;
-use tfs_calls::{Call, Kind, Methods, Query, Raw, Refusal, Text, Texts};
+use tfs_calls::{Bytes, Call, Kind, Methods, Query, Raw, Refusal, Text, Texts};
 use tfs_framing::Request;
 use tfs_rules::{Name, is_name};
 
@@ -93,53 +95,14 @@ pub fn call_of(alloc: Global, routes: &Routes, request: Request) -> Result<Call,
     let Some((served, target, part)) = route_target(routes, request.target()) else {
         return Err(Refusal::NoRoute);
     };
-    if let Served::Impact(kind) = served {
-        return call_of_impact(alloc, &request, kind, target, part);
-    }
-    let Some(method) = method_of(request.method()) else {
-        return Err(Refusal::MethodNotAllowed(Methods::State));
-    };
-    check_name_and_body(&request, part)?;
-    let name = read_name(alloc, part)?;
-    match method {
-        Method::Get => Ok(Call::Read(name)),
-        Method::Post => {
-            let id = read_identifier(alloc, target)?;
-            Ok(Call::Change(name, Raw::Push(id, request.into_body())))
-        }
-        Method::Delete => {
-            let id = read_identifier(alloc, target)?;
-            Ok(Call::Change(name, Raw::Delete(id)))
-        }
-        Method::Lock => Ok(Call::Change(name, Raw::Lock(request.into_body()))),
-        Method::Unlock => {
-            let id = read_identifier(alloc, target)?;
-            Ok(Call::Change(name, Raw::Unlock(request.into_body(), id)))
+    let method = sound_method(&request, served, part)?;
+    match served {
+        Served::Impact(kind) => read_query(alloc, kind, target, part),
+        Served::State => {
+            let asked = read_asked(alloc, method, target, part)?;
+            Ok(asked.with_body(request.into_body()))
         }
     }
-}
-
-/// The call of a request whose target has the route of an impact.
-fn call_of_impact(
-    alloc: Global,
-    request: &Request,
-    kind: Kind,
-    target: &str,
-    part: &str,
-) -> Result<Call, Refusal>
-    requires text { target.now ≡ request.now.target }
-    requires route { HasRoute request.now.target (impact_path kind) part.now }
-    ensures ok { IfOk result (HasCall request.now) }
-    ensures err { IfErr result (λ refusal. refusal ≢ OutOfMemory → routing_refusal request.now refusal) }
-    ensures memory { IfErr result (λ refusal. refusal ≡ OutOfMemory → IsSound request.now (impact_path kind) part.now) }
-{
-    if request.method() != b"GET".as_slice() {
-        return Err(Refusal::MethodNotAllowed(Methods::Impact));
-    }
-    check_name_and_body(request, part)?;
-    let name = read_name(alloc, part)?;
-    let texts = read_texts(alloc, target)?;
-    Ok(Call::Impact(name, Query { kind, texts }))
 }
 
 /// What is served at a target, the target, and the part of its path that stands for a name, if it has a route.
@@ -176,12 +139,7 @@ enum Method {
 
 /// The method that the text names, byte for byte (RFC 9110, section 9.1).
 fn method_of(text: &[u8]) -> Option<Method>
-    ensures get { IfSome result (λ method. method ≡ Method.Get → text.now ≡ codes "GET") }
-    ensures post { IfSome result (λ method. method ≡ Method.Post → text.now ≡ codes "POST") }
-    ensures delete { IfSome result (λ method. method ≡ Method.Delete → text.now ≡ codes "DELETE") }
-    ensures lock { IfSome result (λ method. method ≡ Method.Lock → text.now ≡ codes "LOCK") }
-    ensures unlock { IfSome result (λ method. method ≡ Method.Unlock → text.now ≡ codes "UNLOCK") }
-    ensures known { IfSome result (λ method. IsOneOf text.now (methods_of State)) }
+    ensures found { IfSome result (λ method. text.now ≡ method_text method) }
     ensures absent { IfNone result (¬ (IsOneOf text.now (methods_of State))) }
 {
     match text {
@@ -194,19 +152,86 @@ fn method_of(text: &[u8]) -> Option<Method>
     }
 }
 
-/// Refuses a part that is no name, and else a body that hasn't the digest that is told. Memory isn't asked for.
-fn check_name_and_body(request: &Request, part: &str) -> Result<(), Refusal>
-    ensures ok { OnOk result (IsName part.now × (request.now.intact ≡ true)) }
-    ensures err { IfErr result (λ refusal. ((refusal ≡ BadName) × ¬ (IsName part.now))
-        ⊎ ((refusal ≡ BadDigest) × IsName part.now × (request.now.intact ≡ false))) }
+/// The method that the text names, or, where the route doesn't take it, the methods that it takes.
+fn taken_method(served: Served, text: &[u8]) -> Result<Method, Methods>
+    ensures ok { IfOk result (λ method. (text.now ≡ method_text method) × IsOneOf text.now (methods_of (route_of served).methods)) }
+    ensures err { IfErr result (λ methods. (methods ≡ (route_of served).methods) × ¬ (IsOneOf text.now (methods_of methods))) }
 {
+    match served {
+        Served::State => method_of(text).ok_or(Methods::State),
+        Served::Impact(_) => {
+            if text == b"GET".as_slice() {
+                Ok(Method::Get)
+            } else {
+                Err(Methods::Impact)
+            }
+        }
+    }
+}
+
+/// The method of a request whose target has a route. Refuses a method that the route doesn't take, then a part that is no name, then a body
+/// that hasn't the digest that is told. Memory isn't asked for.
+fn sound_method(request: &Request, served: Served, part: &str) -> Result<Method, Refusal>
+    requires { HasRoute request.now.target (route_of served) part.now }
+    ensures ok { IfOk result (λ method. (request.now.method ≡ method_text method) × IsSound request.now (route_of served) part.now) }
+    ensures err { IfErr result (λ refusal. refusal ≢ OutOfMemory × routing_refusal request.now refusal) }
+{
+    let method = match taken_method(served, request.method()) {
+        Ok(method) => method,
+        Err(methods) => return Err(Refusal::MethodNotAllowed(methods)),
+    };
     if !is_name(part) {
         return Err(Refusal::BadName);
     }
     if !request.is_intact() {
         return Err(Refusal::BadDigest);
     }
-    Ok(())
+    Ok(method)
+}
+
+/// What is asked of a state, but for the body: the method, the name, and the identifier, where the method takes one.
+#[derive(Drop)]
+struct Asked {
+    method: Method,
+    name: Name,
+    id: Option<Text>,
+}
+
+impl Asked {
+    /// The call with this body.
+    fn with_body(self, body: Bytes) -> Call
+        ensures { result ≡ state_call self.method self.name self.id body }
+    {
+        match self.method {
+            Method::Get => Call::Read(self.name),
+            Method::Post => Call::Change(self.name, Raw::Push(self.id, body)),
+            Method::Delete => Call::Change(self.name, Raw::Delete(self.id)),
+            Method::Lock => Call::Change(self.name, Raw::Lock(body)),
+            Method::Unlock => Call::Change(self.name, Raw::Unlock(body, self.id)),
+        }
+    }
+}
+
+/// What is asked of the state of this name with this method, at a target.
+fn read_asked(alloc: Global, method: Method, target: &str, part: &str) -> Result<Asked, Refusal>
+    requires { IsName part.now }
+    ensures ok { IfOk result (λ asked. asked ≡ record { method = method; name = part.now; id = state_identifier method target.now }) }
+    ensures err { IfErr result (λ refusal. refusal ≡ OutOfMemory) }
+{
+    let name = read_name(alloc, part)?;
+    let id = read_identifier(alloc, method, target)?;
+    Ok(Asked { method, name, id })
+}
+
+/// The query for the impact of changes in the state of this name, at a target.
+fn read_query(alloc: Global, kind: Kind, target: &str, part: &str) -> Result<Call, Refusal>
+    requires { IsName part.now }
+    ensures ok { IfOk result (λ call. call ≡ Impact part.now (record { kind = kind; texts = texts_parameter target.now })) }
+    ensures err { IfErr result (λ refusal. refusal ≡ OutOfMemory) }
+{
+    let name = read_name(alloc, part)?;
+    let texts = read_texts(alloc, target)?;
+    Ok(Call::Impact(name, Query { kind, texts }))
 }
 
 /// A copy of a part that is a name.
@@ -224,11 +249,14 @@ fn read_name(alloc: Global, part: &str) -> Result<Name, Refusal>
     }
 }
 
-/// The parameter `ID` of a target, as a text of a call; the empty one too.
-fn read_identifier(alloc: Global, target: &str) -> Result<Option<Text>, Refusal>
-    ensures ok { IfOk result (λ id. id ≡ identifier_parameter target.now) }
+/// The parameter `ID` of a target, where the method takes one, as a text of a call; the empty one too.
+fn read_identifier(alloc: Global, method: Method, target: &str) -> Result<Option<Text>, Refusal>
+    ensures ok { IfOk result (λ id. id ≡ state_identifier method target.now) }
     ensures err { IfErr result (λ refusal. refusal ≡ OutOfMemory) }
 {
+    if matches!(method, Method::Get | Method::Lock) {
+        return Ok(None);
+    }
     match identifier_parameter(alloc, target) {
         Ok(Some(id)) => Ok(Some(Text::new(id))),
         Ok(None) => Ok(None),
