@@ -10,7 +10,7 @@ use Rattle.tfs_conversation.specs.Turns.{work_left}
 use Rattle.tfs_conversation.specs.declared.input.Arrived.{Arrived}
 use Rattle.tfs_conversation.specs.declared.ended.Ended.{Ended}
 use Rattle.tfs_conversation.specs.declared.ended.Ended.TheVariants.{Clean, Cut}
-use Rattle.tfs_conversation.specs.declared.ended.ServeFault.{ServeFault}
+use Rattle.tfs_http.specs.declared.fault.ServeFault.{ServeFault}
 
 -- What is told of a result is told of what it is.
 pub what_comes : (bytes left : List ℕ) (before after : ℕ) (a b : Result (Option Arrived) ServeFault) → a ≡ b

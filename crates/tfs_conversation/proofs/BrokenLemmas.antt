@@ -14,8 +14,9 @@ use Rattle.tfs_http.specs.ReplyText.{reply_text}
 use Rattle.tfs_conversation.specs.Arrived.{BreaksThere}
 use Rattle.tfs_conversation.specs.Conversation.{AnswersRequest, Exchange, Course, ComesInReads}
 use Rattle.tfs_conversation.specs.Conversation.{closing_form}
-use Rattle.tfs_conversation.specs.Turns.{WritesPart, moment, course_of, HasBroken}
-use Rattle.tfs_conversation.specs.declared.ended.ServeFault.{ServeFault}
+use Rattle.tfs_conversation.specs.Turns.{moment, course_of, HasBroken}
+use Rattle.tfs_http.specs.Lent.{WritesPart}
+use Rattle.tfs_http.specs.declared.fault.ServeFault.{ServeFault}
 use Rattle.tfs_conversation.proofs.CourseLemmas.{takes_none, takes_refusal, takes_one}
 use Rattle.tfs_conversation.proofs.FaultLemmas.{comes_between, comes_writing}
 use Rattle.tfs_conversation.proofs.ConversationLemmas.{moved_reading, moved_writing}

@@ -16,10 +16,11 @@ use Rattle.tfs_conversation.specs.Arrived.{EndsSo}
 use Rattle.tfs_conversation.specs.Conversation.{AnswersRequest, Course, messages_of, closing_form, replies_text, course_text, TakesCourse}
 use Rattle.tfs_conversation.specs.Conversation.{IsReadThrough, ComesInReads}
 use Rattle.tfs_conversation.specs.Turns.{Moment, moment, Moved, course_of, Went, HasEnded, HasBroken}
-use Rattle.tfs_conversation.specs.declared.ended.ServeFault.{ServeFault}
+use Rattle.tfs_http.specs.declared.fault.ServeFault.{ServeFault}
 use Rattle.tfs_conversation.specs.declared.ended.Ended.{Ended}
 use Rattle.tfs_conversation.specs.declared.ended.Ended.TheVariants.{Asked, Refused}
-use Rattle.tfs_conversation.proofs.IoLemmas.{appends_more, consumes_more, appends_nothing, consumes_nothing, comes_more, comes_nothing}
+use Rattle.tfs_conversation.proofs.IoLemmas.{consumes_more, consumes_nothing, comes_more, comes_nothing}
+use Rattle.tfs_http.proofs.OutputLemmas.{appends_more, appends_nothing}
 use Rattle.tfs_conversation.proofs.CourseLemmas.{later, later_text, replies_then, asked_behind, stop_later, takes_then, takes_none, takes_refusal, takes_one}
 use Rattle.tfs_conversation.proofs.FaultLemmas.{comes_later}
 

@@ -6,8 +6,8 @@ use Rattle.tfs_conversation.specs.Arrived.{BreaksThere}
 use Rattle.tfs_conversation.specs.Messages.{one_asks}
 use Rattle.tfs_conversation.specs.Conversation.{Exchange, requests_of, Course, IsBetween, IsLastReply, ComesAt}
 use Rattle.tfs_conversation.specs.Turns.{FailsReading, course_of}
-use Rattle.tfs_conversation.specs.declared.ended.ServeFault.{ServeFault}
-use Rattle.tfs_conversation.specs.declared.ended.ServeFault.TheVariants.{Read as ReadFault, Write, TooManyReads, NoMemory}
+use Rattle.tfs_http.specs.declared.fault.ServeFault.{ServeFault}
+use Rattle.tfs_http.specs.declared.fault.ServeFault.TheVariants.{Read as ReadFault, Write, TooManyReads, NoMemory}
 use Rattle.tfs_conversation.proofs.CourseLemmas.{later, asked_behind}
 
 -- Between messages nothing is lost.

@@ -6,7 +6,7 @@ use Rattle.tfs_calls.specs.Reply.{ReplyValue}
 use Rattle.tfs_framing.specs.Request.{RequestValue}
 use Rattle.tfs_conversation.specs.Conversation.{AnswersRequest, Exchange, Runs, Course, TakesCourse, Converses, BreaksOff, ComesInReads}
 use Rattle.tfs_conversation.specs.declared.ended.Ended.{Ended}
-use Rattle.tfs_conversation.specs.declared.ended.ServeFault.{ServeFault}
+use Rattle.tfs_http.specs.declared.fault.ServeFault.{ServeFault}
 
 -- Where each step of a desk is one of another over a view of it, the same holds of whole conversations.
 module _ {S T : Type 0} (step : S → Call → ReplyValue → S → Type 0) (other : T → Call → ReplyValue → T → Type 0) (view : S → T)

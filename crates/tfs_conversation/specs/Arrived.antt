@@ -6,8 +6,8 @@ use Rattle.tfs_conversation.specs.Turns.{FailsReading}
 use Rattle.tfs_conversation.specs.declared.input.Arrived.{Arrived}
 use Rattle.tfs_conversation.specs.declared.ended.Ended.{Ended}
 use Rattle.tfs_conversation.specs.declared.ended.Ended.TheVariants.{Clean, Cut}
-use Rattle.tfs_conversation.specs.declared.ended.ServeFault.{ServeFault}
-use Rattle.tfs_conversation.specs.declared.ended.ServeFault.TheVariants.{NoMemory}
+use Rattle.tfs_http.specs.declared.fault.ServeFault.{ServeFault}
+use Rattle.tfs_http.specs.declared.fault.ServeFault.TheVariants.{NoMemory}
 
 -- The input has ended so: with no bytes, or inside a message.
 abbrev pub EndsSo : List ℕ → Ended → Type 0

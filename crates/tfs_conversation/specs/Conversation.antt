@@ -14,8 +14,8 @@ use Rattle.tfs_http.specs.ReplyText.{reply_text}
 use Rattle.tfs_conversation.specs.Messages.{Messages, HasMessages, Stop, one_asks}
 use Rattle.tfs_conversation.specs.declared.ended.Ended.{Ended}
 use Rattle.tfs_conversation.specs.declared.ended.Ended.TheVariants.{Clean, Cut, Asked, Refused}
-use Rattle.tfs_conversation.specs.declared.ended.ServeFault.{ServeFault}
-use Rattle.tfs_conversation.specs.declared.ended.ServeFault.TheVariants.{Read, Write, TooManyReads, NoMemory}
+use Rattle.tfs_http.specs.declared.fault.ServeFault.{ServeFault}
+use Rattle.tfs_http.specs.declared.fault.ServeFault.TheVariants.{Read, Write, TooManyReads, NoMemory}
 
 -- The target has a route that takes the method, its part is a name, and the body has the digest that is told: only then routing asks for
 -- memory.

@@ -1,7 +1,6 @@
 pub mod Desk
 pub mod Messages
 pub mod Conversation
-pub mod Lent
 pub mod Arrived
 pub mod Turns
 pub mod Output

@@ -6,16 +6,8 @@ use Rattle.tfs_calls.specs.Reply.{ReplyValue}
 use Rattle.tfs_conversation.specs.Conversation.{Exchange, requests_of, Course, replies_text, TakesCourse, IsReadThrough, ComesInReads, Converses, BreaksOff}
 use Rattle.tfs_conversation.specs.Messages.{one_asks}
 use Rattle.tfs_conversation.specs.declared.ended.Ended.{Ended}
-use Rattle.tfs_conversation.specs.declared.ended.ServeFault.{ServeFault}
-use Rattle.tfs_conversation.specs.declared.ended.ServeFault.TheVariants.{Read, Write, TooManyReads, NoMemory}
-
--- A fault came while the text was written: the writer's, and not all of it was written, or want of memory, and none was.
-pub record WritesPart (into writer : Option (List ℕ)) (text : List ℕ) (fault : ServeFault) : Type 0 where
-  pub part : List ℕ
-  pub rest : List ℕ
-  pub split : text ≡ part ++ rest
-  pub appended : Appends into writer part
-  pub one_of : ((fault ≡ Write) × (rest ≢ [])) ⊎ ((fault ≡ NoMemory) × (part ≡ []))
+use Rattle.tfs_http.specs.declared.fault.ServeFault.{ServeFault}
+use Rattle.tfs_http.specs.declared.fault.ServeFault.TheVariants.{Read, Write, TooManyReads, NoMemory}
 
 -- A fault that comes while more is read, between two counts of reads.
 abbrev pub FailsReading : ServeFault → ℕ → ℕ → Type 0

@@ -6,20 +6,20 @@ ghost use Rattle.tfs_calls.specs.Reply.{ReplyValue, reply_value};
 ghost use Rattle.tfs_framing.specs.Form.{form_of};
 ghost use Rattle.tfs_http.specs.ReplyText.{reply_text};
 ghost use Rattle.tfs_conversation.specs.Conversation.{AnswersRequest, ComesInReads, Converses, BreaksOff, IsReadThrough};
-ghost use Rattle.tfs_conversation.specs.Turns.{WritesPart, moment, Went, HasEnded, HasBroken, work_left};
+ghost use Rattle.tfs_conversation.specs.Turns.{moment, Went, HasEnded, HasBroken, work_left};
+ghost use Rattle.tfs_http.specs.Lent.{TellsReader, TellsWriter, WritesPart};
 ghost use Rattle.tfs_conversation.specs.declared.ended.Ended.TheVariants.{Asked};
-ghost use Rattle.tfs_conversation.specs.Lent.{TellsReader, TellsWriter};
 
-use crate::ended::{Ended, ServeFault};
+use crate::ended::Ended;
 use crate::impact_reply::send_impact;
 use crate::input::{Arrived, Input};
-use crate::lent::{Outlet, Source};
-use crate::output::{JOINED_BYTES, write_joined};
 use crate::reads::Reads;
 use std::alloc::{AllocError, Global};
 use tfs_calls::{Call, Refusal, Reply};
 use tfs_framing::{Form, Request};
-use tfs_http::{Routes, body_of, call_of, write_head};
+use tfs_http::{
+    JOINED_BYTES, Outlet, Routes, ServeFault, Source, body_of, call_of, write_head, write_joined,
+};
 
 /// The form of a reply after which the conversation ends.
 const CLOSING: Form = Form {

@@ -6,16 +6,15 @@ ghost use Rattle.std.specs.Io.KnownBytes.{Appends};
 ghost use Rattle.tfs_calls.specs.Reply.{impact};
 ghost use Rattle.tfs_escapes.specs.Room.{HasRoom};
 ghost use Rattle.tfs_http.specs.ReplyText.{head_text, impact_body, reply_text};
-ghost use Rattle.tfs_conversation.specs.Lent.{TellsWriter};
-ghost use Rattle.tfs_conversation.specs.Turns.{WritesPart};
+ghost use Rattle.tfs_http.specs.Lent.{TellsWriter, WritesPart};
 
-use crate::ended::ServeFault;
-use crate::lent::Outlet;
-use crate::output::{PIECE_BYTES, write_in_pieces, write_joined, write_out};
 use std::alloc::{AllocError, Global};
 use tfs_calls::Impact;
 use tfs_framing::Form;
-use tfs_http::{ImpactBody, write_impact_head};
+use tfs_http::{
+    ImpactBody, Outlet, PIECE_BYTES, ServeFault, write_impact_head, write_in_pieces, write_joined,
+    write_out,
+};
 
 /// Room for the head of an answer, whose length has at most 39 digits.
 const HEAD_BYTES: usize = 160;

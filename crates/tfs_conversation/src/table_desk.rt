@@ -7,15 +7,15 @@ ghost use Rattle.tfs_calls.specs.Reply.{reply_value};
 ghost use Rattle.tfs_calls.specs.declared.call.Call.TheVariants.{Read as CallRead, Change, Impact};
 ghost use Rattle.tfs_conversation.specs.Conversation.{ComesInReads, Converses, BreaksOff, IsReadThrough};
 ghost use Rattle.tfs_conversation.specs.Desk.{AnswersCall};
-ghost use Rattle.tfs_conversation.specs.Lent.{TellsReader, TellsWriter};
+ghost use Rattle.tfs_http.specs.Lent.{TellsReader, TellsWriter};
 
 use crate::conversation::{Desk, converse};
-use crate::ended::{Ended, ServeFault};
-use crate::lent::{Outlet, Source};
+use crate::ended::Ended;
 use crate::reads::Reads;
 use json::Scratch;
 use std::alloc::Global;
 use tfs_calls::{Call, Draft, Query, Raw, Reply, a_change_is_answered_as_its_act_is};
+use tfs_http::{Outlet, ServeFault, Source};
 use tfs_records::Sink;
 use tfs_rules::Name;
 use tfs_table::Table;

@@ -10,3 +10,4 @@ pub mod QueryLemmas
 pub mod CallLemmas
 pub mod PieceLemmas
 pub mod EscapedLemmas
+pub mod OutputLemmas

@@ -4,3 +4,4 @@ pub mod Rows
 pub mod Pieces
 pub mod ReplyText
 pub mod Asked
+pub mod Lent

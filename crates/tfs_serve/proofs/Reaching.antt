@@ -5,7 +5,7 @@ use Rattle.tfs_calls.specs.declared.call.Call.{Call}
 use Rattle.tfs_calls.specs.Reply.{ReplyValue}
 use Rattle.tfs_conversation.specs.Conversation.{AnswersRequest, Exchange, Runs, Converses, BreaksOff, ComesInReads}
 use Rattle.tfs_conversation.specs.declared.ended.Ended.{Ended}
-use Rattle.tfs_conversation.specs.declared.ended.ServeFault.{ServeFault}
+use Rattle.tfs_http.specs.declared.fault.ServeFault.{ServeFault}
 
 -- A relation that each step keeps to, where nothing done and one after another keep to it too.
 module _ {S : Type 0} (step : S → Call → ReplyValue → S → Type 0) (reaches : S → S → Type 0) (itself : (s : S) → reaches s s)

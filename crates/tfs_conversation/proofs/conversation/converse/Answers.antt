@@ -7,7 +7,7 @@ use Rattle.tfs_calls.specs.Reply.{ReplyValue}
 use Rattle.tfs_conversation.specs.Conversation.{BreaksOff, ComesInReads, Converses}
 use Rattle.tfs_conversation.specs.Turns.{HasBroken, HasEnded, Moment}
 use Rattle.tfs_conversation.specs.declared.ended.Ended.{Ended}
-use Rattle.tfs_conversation.specs.declared.ended.ServeFault.{ServeFault}
+use Rattle.tfs_http.specs.declared.fault.ServeFault.{ServeFault}
 use Rattle.tfs_conversation.proofs.BrokenLemmas.{broken_between}
 use Rattle.tfs_conversation.proofs.IoLemmas.{comes_nothing, consumes_nothing}
 use Rattle.tfs_conversation.proofs.conversation.converse.Goals as goal

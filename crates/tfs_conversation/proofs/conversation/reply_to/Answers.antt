@@ -4,7 +4,7 @@ use Rattle.std.specs.Io.KnownBytes.{Appends}
 use Rattle.tfs_calls.specs.Reply.{reply_value}
 use Rattle.tfs_framing.specs.declared.request.Form.{Form}
 use Rattle.tfs_http.specs.ReplyText.{reply_text}
-use Rattle.tfs_conversation.specs.Turns.{WritesPart}
+use Rattle.tfs_http.specs.Lent.{WritesPart}
 use Rattle.tfs_conversation.proofs.conversation.reply_to.Goals as goal
 
 pub returns-clause-ok : goal.returns-clause-ok

@@ -1,7 +1,7 @@
 -- The writer has the part of the text that isn't left.
 use Rattle.std.proofs.Common.{◌≡◌, ℕ, List, ◌++◌, length}
 use Rattle.std.specs.Io.KnownBytes.{Appends}
-use Rattle.tfs_conversation.proofs.output.write_out.Given as goal
+use Rattle.tfs_http.proofs.output.write_out.Given as goal
 
 abbrev pub invariant-loop-rest : goal.invariant-loop-rest
 invariant-loop-rest g l = (part : List ℕ) × (l.text ≡ part ++ l.rest)

@@ -1,6 +1,6 @@
 -- A part of the first text, or the first and a part of the second, is a part of both.
-use Rattle.tfs_conversation.proofs.IoLemmas.{front_of_both, then_front}
-use Rattle.tfs_conversation.proofs.output.write_both.Goals as goal
+use Rattle.tfs_http.proofs.OutputLemmas.{front_of_both, then_front}
+use Rattle.tfs_http.proofs.output.write_both.Goals as goal
 
 pub returns-in-Err-clause-err : goal.returns-in-Err-clause-err
 returns-in-Err-clause-err g c =

@@ -1,7 +1,7 @@
 -- One more write takes some of what is left.
 use Rattle.std.proofs.Common.{sym, ◌∙◌}
-use Rattle.tfs_conversation.proofs.IoLemmas.{written_more}
-use Rattle.tfs_conversation.proofs.output.write_out.Goals as goal
+use Rattle.tfs_http.proofs.OutputLemmas.{written_more}
+use Rattle.tfs_http.proofs.output.write_out.Goals as goal
 
 pub loop-rest-preserved : goal.loop-rest-preserved
 loop-rest-preserved g c =

@@ -1,7 +1,7 @@
 -- A part of the head, or the head and a part of the body, is a part of both.
 use Rattle.std.proofs.Common.{◌++◌}
-use Rattle.tfs_conversation.proofs.IoLemmas.{front_of_both, then_all, then_front}
-use Rattle.tfs_conversation.proofs.output.write_in_pieces.Goals as goal
+use Rattle.tfs_http.proofs.OutputLemmas.{front_of_both, then_all, then_front}
+use Rattle.tfs_http.proofs.output.write_in_pieces.Goals as goal
 
 pub returns-in-Err-clause-err : goal.returns-in-Err-clause-err
 returns-in-Err-clause-err g c =

@@ -2,7 +2,7 @@
 use Rattle.std.proofs.Common.{◌≡◌, ◌+◌, ℕ, List, ◌++◌, length}
 use Rattle.std.specs.Io.KnownBytes.{Appends}
 use Rattle.tfs_escapes.specs.Room.{HasRoom}
-use Rattle.tfs_conversation.proofs.output.write_pieces.Given as goal
+use Rattle.tfs_http.proofs.output.write_pieces.Given as goal
 
 abbrev pub invariant-pieces : goal.invariant-pieces
 invariant-pieces g l = (sent : List ℕ) × (l.initial.text.items ++ l.initial.left ≡ sent ++ (l.text.items ++ l.left))

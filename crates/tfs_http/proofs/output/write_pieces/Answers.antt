@@ -1,7 +1,7 @@
 -- One more piece is written.
 use Rattle.std.proofs.Common.{◌∙◌, List, ℕ, ◌++◌, arith, ap, sym}
-use Rattle.tfs_conversation.proofs.IoLemmas.{pieces_more, last_piece, broken_piece, fewer_left}
-use Rattle.tfs_conversation.proofs.output.write_pieces.Goals as goal
+use Rattle.tfs_http.proofs.OutputLemmas.{pieces_more, last_piece, broken_piece, fewer_left}
+use Rattle.tfs_http.proofs.output.write_pieces.Goals as goal
 
 pub pieces-preserved : goal.pieces-preserved
 pieces-preserved g c =

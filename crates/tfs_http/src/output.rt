@@ -1,26 +1,24 @@
-//! Writes texts to a writer.
+//! Writes texts to an outlet.
 
 ghost use Rattle.std.specs.Prelude.{◌≡◌, ◌≤◌, ◌+◌, ◌++◌, Err, length, OnOk, IfErr};
 ghost use Rattle.std.specs.Io.KnownBytes.{Appends};
-ghost use Rattle.tfs_conversation.specs.Check.{WritesFront};
-ghost use Rattle.tfs_conversation.specs.Turns.{WritesPart};
-ghost use Rattle.tfs_conversation.specs.declared.ended.ServeFault.TheVariants.{Write as WriteFault, NoMemory};
-ghost use Rattle.tfs_conversation.specs.Lent.{TellsWriter};
+ghost use Rattle.tfs_http.specs.Lent.{TellsWriter, WritesFront, WritesPart};
+ghost use Rattle.tfs_http.specs.declared.fault.ServeFault.TheVariants.{Write as WriteFault, NoMemory};
 ghost use Rattle.tfs_escapes.specs.Room.{HasRoom};
 
-use crate::ended::ServeFault;
+use crate::fault::ServeFault;
+use crate::impact_body::ImpactBody;
 use crate::lent::Outlet;
-use tfs_http::ImpactBody;
 
 /// The most bytes of two texts that are put together before they are written.
-pub(crate) const JOINED_BYTES: usize = 16_384;
+pub const JOINED_BYTES: usize = 16_384;
 
 /// The most bytes of a body that are put together before they are written.
-pub(crate) const PIECE_BYTES: usize = 65_536;
+pub const PIECE_BYTES: usize = 65_536;
 
 /// Writes two texts. Where they have at most 16,384 bytes together, the second is added to the first, so that one write can take
 /// both; else it isn't copied.
-pub(crate) fn write_joined<W: Outlet>(
+pub fn write_joined<W: Outlet>(
     writer: &mut W,
     text: &mut Vec<u8>,
     more: &[u8],
@@ -53,7 +51,7 @@ fn write_both<W: Outlet>(writer: &mut W, text: &[u8], more: &[u8]) -> Result<(),
 }
 
 /// Writes all of a text, by single writes. After a fault the writer has a part of the text, and not all of it.
-pub(crate) fn write_out<W: Outlet>(writer: &mut W, text: &[u8]) -> Result<(), ServeFault>
+pub fn write_out<W: Outlet>(writer: &mut W, text: &[u8]) -> Result<(), ServeFault>
     ensures ok { OnOk result (Appends (W.contents writer.old) (W.contents writer.new) text.now) }
     ensures err { IfErr result (λ fault. (fault ≡ WriteFault) × WritesFront (W.contents writer.old) (W.contents writer.new) text.now) }
     ensures writer { TellsWriter result (W.failed writer.old) (W.failed writer.new) }
@@ -73,7 +71,7 @@ pub(crate) fn write_out<W: Outlet>(writer: &mut W, text: &[u8]) -> Result<(), Se
 
 /// Writes a head, and behind it a body in pieces of at most 65,536 bytes. The first piece is in the text already, and the others are put
 /// together there.
-pub(crate) fn write_in_pieces<W: Outlet>(
+pub fn write_in_pieces<W: Outlet>(
     writer: &mut W,
     head: &[u8],
     text: &mut Vec<u8>,
