@@ -1,6 +1,6 @@
 //! From a request to a call.
 
-ghost use Rattle.std.specs.Prelude.{◌≡◌, ◌≢◌, ◌⊎◌, ℕ, List, codes, Contains, IfOk, IfErr, IfSome, IfNone, OnOk, true, false};
+ghost use Rattle.std.specs.Prelude.{◌≡◌, ◌≢◌, ℕ, List, [], codes, Contains, IfOk, IfErr, IfSome, IfNone, OnOk};
 ghost use Rattle.tfs_calls.specs.declared.call.Call.TheVariants.{Impact};
 ghost use Rattle.tfs_calls.specs.declared.refusal.Methods.TheVariants.{State};
 ghost use Rattle.tfs_rules.specs.Name.{IsName};
@@ -78,10 +78,19 @@ fn build(alloc: Global) -> Result<Router<Served>, InsertError>
     ensures { IfOk result (λ router. router ≡ route_rows) }
 {
     let mut router = Router::new(alloc);
+    insert_routes(&mut router)?;
+    Ok(router)
+}
+
+/// Adds the routes to a router that has none.
+fn insert_routes(router: &mut Router<Served>) -> Result<(), InsertError>
+    requires { router.old ≡ [] }
+    ensures { OnOk result (router.new ≡ route_rows) }
+{
     router.insert("/state/{name}", Served::State)?;
     router.insert("/impact/{name}/any", Served::Impact(Kind::Any))?;
     router.insert("/impact/{name}/all", Served::Impact(Kind::All))?;
-    Ok(router)
+    Ok(())
 }
 
 /// The call of a request, or its first refusal in the order of their numbers. Memory is asked for only where there is none of these; where

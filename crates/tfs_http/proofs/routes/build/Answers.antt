@@ -1,7 +1,0 @@
--- A router that was empty has the three routes.
-use Rattle.matchit.proofs.OnLiterals.{matchit_on_literals}
-use Rattle.tfs_http.proofs.routes.build.Goals as goal
-
-pub returns : goal.returns
-unfolding matchit_on_literals
-returns c = (rw ((rw ((rw c.new-router.ensures at c.in_ok-insert.ensures).1) at c.in_ok-insert-2.ensures).1) at c.in_ok-insert-3.ensures).1
