@@ -9,22 +9,18 @@ use Rattle.tfs_calls.specs.Reply.{ReplyValue, done, state, impact, refused}
 use Rattle.tfs_http.specs.ReplyText.{status_of, status_line, close_line, type_line, phrase_of, head_text}
 use Rattle.tfs_framing.specs.declared.request.Form.{Form}
 
--- Seven parts added one after another, the last of which is twice a line's end, and the lines that they are.
-joined : (old a b c d e f g : List ℕ) → ((((((old ++ a) ++ b) ++ c) ++ d) ++ e) ++ f) ++ (g ++ g) ≡ old ++ (a ++ b ++ c ++ d ++ ((e ++ f) ++ g) ++ g)
+-- Seven parts added in three steps, the last of which is twice a line's end, and the lines that they are.
+joined : (old a b c d e f g : List ℕ) → ((old ++ a) ++ (b ++ (c ++ d))) ++ (e ++ (f ++ (g ++ g))) ≡ old ++ (a ++ b ++ c ++ d ++ ((e ++ f) ++ g) ++ g)
 joined old a b c d e f g = simp append_assoc refl
 
--- What was added line by line is the head.
-pub head_added : (code status : ℕ) (listed allow close kind digits body old added : List ℕ) (form : Form) → code ≡ status → listed ≡ allow
-    → close ≡ close_line form → kind ≡ type_line body → digits ≡ decimal (length body)
-    → added ≡ ((((((old ++ status_line code) ++ listed) ++ close) ++ kind) ++ codes "Content-Length: ") ++ digits) ++ codes "\r\n\r\n"
-    → added ≡ old ++ head_text status allow form body
-head_added code status listed allow close kind digits body old added form is_status is_allow is_close is_kind is_digits e =
-    rw (← is_status, ← is_allow, ← is_close, ← is_kind, ← is_digits)
-    (e ∙ joined old (status_line code) listed close kind (codes "Content-Length: ") digits (codes "\r\n"))
-
--- A part that was added to what stood there before.
-pub added_to : (before after now part text : List ℕ) → after ≡ now ++ part → part ≡ text → now ≡ before → after ≡ before ++ text
-added_to before after now part text e is was = e ∙ ap (λ (t : List ℕ). t ++ part) was ∙ ap (λ (t : List ℕ). before ++ t) is
+-- What was added in three steps is the head.
+pub head_added : (status : ℕ) (allow close kind digits body old first second added : List ℕ) (form : Form) → close ≡ close_line form
+    → kind ≡ type_line body → digits ≡ decimal (length body) → first ≡ old ++ status_line status → second ≡ first ++ (allow ++ (close ++ kind))
+    → added ≡ second ++ (codes "Content-Length: " ++ (digits ++ codes "\r\n\r\n")) → added ≡ old ++ head_text status allow form body
+head_added status allow close kind digits body old first second added form is_close is_kind is_digits f s e =
+    rw (← is_close, ← is_kind, ← is_digits)
+    (e ∙ ap (λ (t : List ℕ). t ++ (codes "Content-Length: " ++ (digits ++ codes "\r\n\r\n"))) (s ∙ ap (λ (t : List ℕ). t ++ (allow ++ (close ++ kind))) f)
+    ∙ joined old (status_line status) allow close kind (codes "Content-Length: ") digits (codes "\r\n"))
 
 -- A text that has a first byte isn't empty.
 filled : (first : ℕ) (others : List ℕ) → first ∷ others ≢ []

@@ -144,12 +144,8 @@ fn push_head(
 {
     let mut digits = Buffer::new();
     push_status_line(status, out)?;
-    out.extend_from_slice(allow.as_bytes())?;
-    out.extend_from_slice(close_line(form).as_bytes())?;
-    out.extend_from_slice(type_line(len).as_bytes())?;
-    out.extend_from_slice(b"Content-Length: ")?;
-    out.extend_from_slice(digits.format(len).as_bytes())?;
-    out.extend_from_slice(b"\r\n\r\n")?;
+    push_three(allow, close_line(form), type_line(len), out)?;
+    push_three("Content-Length: ", digits.format(len), "\r\n\r\n", out)?;
     Ok(())
 }
 
@@ -159,11 +155,20 @@ fn push_status_line(status: u16, out: &mut Vec<u8>) -> Result<(), AllocError>
     ensures err { OnErr result (take (vec_len out.old) out.new.items ≡ out.old.items) }
 {
     let mut digits = Buffer::new();
-    out.extend_from_slice(b"HTTP/1.1 ")?;
-    out.extend_from_slice(digits.format(status).as_bytes())?;
-    out.extend_from_slice(b" ")?;
-    out.extend_from_slice(phrase(status).as_bytes())?;
-    out.extend_from_slice(b"\r\n")
+    push_three("HTTP/1.1", " ", digits.format(status), out)?;
+    push_three(" ", phrase(status), "\r\n", out)?;
+    Ok(())
+}
+
+/// Adds three texts one behind another; where memory is refused, some bytes of them.
+fn push_three(first: &str, second: &str, third: &str, out: &mut Vec<u8>) -> Result<(), AllocError>
+    ensures ok { OnOk result (out.new.items ≡ out.old.items ++ (first.now ++ (second.now ++ third.now))) }
+    ensures err { OnErr result (take (vec_len out.old) out.new.items ≡ out.old.items) }
+{
+    out.extend_from_slice(first.as_bytes())?;
+    out.extend_from_slice(second.as_bytes())?;
+    out.extend_from_slice(third.as_bytes())?;
+    Ok(())
 }
 
 /// The status of a reply.
