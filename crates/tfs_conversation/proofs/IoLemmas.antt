@@ -1,8 +1,8 @@
 -- Laws of the bytes that readers have left and writers hold, over several reads and writes.
-use Rattle.std.proofs.Common.{◌≡◌, ◌≢◌, ◌<◌, ◌+◌, ℕ, List, length, [], ◌∷◌, ◌++◌, Option, Some, None, Result, Ok, Err, IfErr, take, drop, refl, sym, ◌∙◌, ap, subst, inl, inr, arith, Bool, true, false, if◌then◌else◌}
+use Rattle.std.proofs.Common.{◌≡◌, ℕ, List, [], ◌++◌, Option, Some, None, Result, Ok, Err, IfErr, refl, sym, ◌∙◌, ap, subst, inl, inr, arith, Bool, true, false, if◌then◌else◌}
 use Rattle.std.specs.Result.{OnOk}
 use Rattle.std.proofs.Common.{append_assoc, append-nil}
-use Rattle.std.proofs.Common.{length-append, take-append-drop}
+use Rattle.std.proofs.Common.{length-append}
 use Rattle.std.specs.Io.KnownBytes.{Appends, Consumes}
 use Rattle.tfs_calls.specs.Reply.{impact}
 use Rattle.tfs_framing.specs.declared.request.Form.{Form}
@@ -10,7 +10,7 @@ use Rattle.tfs_http.specs.ReplyText.{head_text, impact_body, reply_text}
 use Rattle.tfs_state.specs.Document.{Document}
 use Rattle.tfs_conversation.specs.Conversation.{ComesInReads}
 use Rattle.tfs_http.specs.Lent.{WritesFront, WritesPart}
-use Rattle.tfs_http.proofs.OutputLemmas.{appends_more, appends_nothing}
+use Rattle.tfs_http.proofs.OutputLemmas.{appends_nothing}
 use Rattle.tfs_http.specs.declared.fault.ServeFault.{ServeFault}
 use Rattle.tfs_http.specs.declared.fault.ServeFault.TheVariants.{Write, NoMemory}
 

@@ -201,10 +201,7 @@ fn reply_to<W: Outlet, D: Desk>(
     ensures writer { TellsWriter result (W.failed writer.old) (W.failed writer.new) }
 {
     let reply = answer(connection.alloc, &connection.routes, desk, request);
-    if let Err(fault) = send(connection.alloc, &mut connection.text, writer, &reply, form) {
-        return Err(fault);
-    }
-    Ok(())
+    send(connection.alloc, &mut connection.text, writer, &reply, form)
 }
 
 /// The reply to a request: its refusal by routing, or the desk's.
@@ -255,8 +252,12 @@ fn send_whole<W: Outlet>(
     if write_head(reply, form, body.as_slice(), text).is_err() {
         return Err(ServeFault::NoMemory);
     }
-    if form.bare {
-        return write_joined(writer, text, b"");
-    }
-    write_joined(writer, text, body.as_slice())
+    write_joined(writer, text, shown(form, body.as_slice()))
+}
+
+/// What of a body goes out in a form.
+fn shown(form: Form, body: &[u8]) -> &[u8]
+    ensures { result.now ≡ (if form.bare then [] else body.now) }
+{
+    if form.bare { b"" } else { body }
 }
