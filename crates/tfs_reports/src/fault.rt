@@ -11,7 +11,7 @@ use tfs_versions::RestoreFault;
 use thiserror::Error;
 
 /// Why a reading command ended before its work was done.
-#[derive(Clone, Copy, Debug, PartialEq, Eq, Error)]
+#[derive(Clone, Copy, Debug, Error)]
 pub enum Fault {
     /// A fault that all commands share.
     #[error("{0}")]
@@ -61,7 +61,7 @@ pub fn status_of(fault: Fault) -> u8
 }
 
 /// What a fault is about.
-#[derive(Clone, Copy, Debug, PartialEq, Eq)]
+#[derive(Clone, Copy)]
 pub enum Place {
     /// The command itself.
     Command,
@@ -82,7 +82,7 @@ pub enum Place {
 }
 
 /// The end of a command by a fault.
-#[derive(Clone, Copy, Debug, PartialEq, Eq)]
+#[derive(Clone, Copy)]
 pub struct End {
     place: Place,
     fault: Fault,
@@ -123,11 +123,6 @@ impl End {
         }
     }
 
-    /// The end because the output couldn't be written.
-    pub(crate) fn unwritten() -> End {
-        End::of_files(Place::Command, tfs_files::Fault::Write)
-    }
-
     /// The end because a version isn't brought back.
     pub(crate) fn unrestored(why: RestoreFault) -> End {
         let fault = match why {
@@ -153,19 +148,29 @@ pub fn end_by(rt: &impl Eprint, folder: &str, name: &str, end: End) -> ExitCode 
     let fault = end.fault;
     let _ = match end.place {
         Place::Command => eprintln!(rt; "tfstatectl: {fault}"),
-        Place::Folder => eprintln!(rt; "tfstatectl: {folder}: {fault}"),
-        Place::Old => eprintln!(rt; "tfstatectl: {folder}/old: {fault}"),
-        Place::Journal(number) => eprintln!(rt;
-            "tfstatectl: {folder}/journal-{number:010}.tfj: {fault}"
-        ),
-        Place::OldJournal(number) => eprintln!(rt;
-            "tfstatectl: {folder}/old/journal-{number:010}.tfj: {fault}"
-        ),
+        Place::Folder => tell(rt, folder, "", fault),
+        Place::Old => tell(rt, folder, "/old", fault),
+        Place::Journal(number) => tell_journal(rt, folder, "", number, fault),
+        Place::OldJournal(number) => tell_journal(rt, folder, "/old", number, fault),
         Place::Name => eprintln!(rt; "tfstatectl: {folder}: {name}: {fault}"),
-        Place::Copies => eprintln!(rt; "tfstatectl: {name}: {fault}"),
-        Place::Copy(number) => eprintln!(rt;
-            "tfstatectl: {name}/journal-{number:010}.tfj: {fault}"
-        ),
+        Place::Copies => tell(rt, name, "", fault),
+        Place::Copy(number) => tell_journal(rt, name, "", number, fault),
     };
     ExitCode::from(status_of(fault))
+}
+
+/// Tells a fault of a folder, or of one below it.
+fn tell(rt: &impl Eprint, folder: &str, below: &str, fault: Fault) -> io::Result<()> {
+    eprintln!(rt; "tfstatectl: {folder}{below}: {fault}")
+}
+
+/// Tells a fault of the journal of a number in a folder, or in one below it.
+fn tell_journal(
+    rt: &impl Eprint,
+    folder: &str,
+    below: &str,
+    number: u64,
+    fault: Fault,
+) -> io::Result<()> {
+    eprintln!(rt; "tfstatectl: {folder}{below}/journal-{number:010}.tfj: {fault}")
 }

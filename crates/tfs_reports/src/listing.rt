@@ -11,7 +11,7 @@ ghost use Rattle.tfs_reports.specs.Rows.{name_row, whole_or_null};
 use crate::fault::End;
 use crate::files::newest_journal;
 use crate::report::Report;
-use crate::texts::{member, text};
+use crate::texts::member;
 use serde_json::{Value, json};
 use std::alloc::{AllocError, Global};
 use tfs_records::Discard;
@@ -51,15 +51,25 @@ fn report_of(alloc: Global, table: &Table<Discard>, json: bool) -> Result<Report
 fn row_of(alloc: Global, table: &Table<Discard>, name: &Name) -> Result<Value, AllocError>
     ensures { IfOk result (λ row. view row ≡ name_row table.now.journal name.now) }
 {
-    let (serial, instances, bytes) = numbers_of(table, name);
     let held = words_at(alloc, table, name)?;
-    let own = text(alloc, name.text())?;
-    let holder = member(alloc, &held, "ID")?;
-    let who = member(alloc, &held, "Who")?;
-    let operation = member(alloc, &held, "Operation")?;
-    let created = member(alloc, &held, "Created")?;
-    json!(in alloc; {"name": own, "serial": serial, "instances": instances, "bytes": bytes,
-        "holder": holder, "who": who, "operation": operation, "created": created})
+    standing_row(alloc, table, name, &held)
+}
+
+/// What a name has, whose holder says this of itself.
+fn standing_row(
+    alloc: Global,
+    table: &Table<Discard>,
+    name: &Name,
+    held: &Value,
+) -> Result<Value, AllocError>
+    requires { (at : List ℕ) → text_at at (view held.now)
+        ≡ option_and_then (word_at at) (holder_of (acts_of name.now table.now.journal)) }
+    ensures { IfOk result (λ row. view row ≡ name_row table.now.journal name.now) }
+{
+    let (serial, instances, bytes) = numbers_of(table, name);
+    json!(in alloc; {"name": name.text(), "serial": whole(serial), "instances": whole(instances), "bytes": whole(bytes),
+        "holder": member(alloc, held, "ID")?, "who": member(alloc, held, "Who")?,
+        "operation": member(alloc, held, "Operation")?, "created": member(alloc, held, "Created")?})
 }
 
 /// What the holder of a name says of itself; null for none.
@@ -73,21 +83,28 @@ fn words_at(alloc: Global, table: &Table<Discard>, name: &Name) -> Result<Value,
     }
 }
 
-/// The serial, the instances and the bytes of a name's state; nulls for none.
-fn numbers_of(table: &Table<Discard>, name: &Name) -> (Value, Value, Value)
-    ensures serial { view result.0 ≡ whole_or_null (option_map (λ d. d.serial) (state_of (acts_of name.now table.now.journal))) }
-    ensures instances { view result.1 ≡ whole_or_null (option_map (λ d. length d.instances) (state_of (acts_of name.now table.now.journal))) }
-    ensures bytes { view result.2 ≡ whole_or_null (option_map (λ d. length d.bytes) (state_of (acts_of name.now table.now.journal))) }
+/// The serial, the instances and the bytes of a name's state; none where it has none.
+fn numbers_of(table: &Table<Discard>, name: &Name) -> (Option<u64>, Option<u64>, Option<u64>)
+    ensures serial { result.0 ≡ option_map (λ d. d.serial) (state_of (acts_of name.now table.now.journal)) }
+    ensures instances { result.1 ≡ option_map (λ d. length d.instances) (state_of (acts_of name.now table.now.journal)) }
+    ensures bytes { result.2 ≡ option_map (λ d. length d.bytes) (state_of (acts_of name.now table.now.journal)) }
 {
     match table.version(name) {
         Some(version) => {
             let doc = version.doc();
-            (
-                Value::from(doc.serial()),
-                Value::from(doc.len()),
-                Value::from(doc.bytes().len()),
-            )
+            let (instances, bytes) = (doc.len() as u64, doc.bytes().len() as u64);
+            (Some(doc.serial()), Some(instances), Some(bytes))
         }
-        None => (Value::Null, Value::Null, Value::Null),
+        None => (None, None, None),
+    }
+}
+
+/// A number as JSON; null for none.
+fn whole(number: Option<u64>) -> Value
+    ensures { view result ≡ whole_or_null number }
+{
+    match number {
+        Some(number) => Value::from(number),
+        None => Value::Null,
     }
 }

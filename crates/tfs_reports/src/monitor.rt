@@ -8,7 +8,7 @@ use jiff::Timestamp;
 use std::alloc::{AllocError, Global};
 use std::time::SystemTime;
 use std::{fs, io};
-use tfs_files::numbers_in;
+use tfs_files::{journal_path, numbers_in};
 use tfs_versions::Measures;
 
 /// A number with its name, its kind and what it means.
@@ -19,6 +19,23 @@ struct Metric {
     help: &'static str,
     value: u64,
 }
+
+/// A number that may rise and fall: its name, and what it means.
+#[derive(Clone, Copy)]
+struct Gauge {
+    name: &'static str,
+    help: &'static str,
+}
+
+const LOCK_AGE: Gauge = Gauge {
+    name: "tfstated_oldest_lock_age_seconds",
+    help: "For how long the oldest lock has been held, by its holder's clock.",
+};
+
+const COPY_AGE: Gauge = Gauge {
+    name: "tfstated_newest_copy_age_seconds",
+    help: "For how long the newest journal of the copies has been as it is.",
+};
 
 /// Prints the numbers of what is whole of the newest journal of a folder, and how old the newest copy is, where a folder of copies is
 /// given. An age that isn't known is left out.
@@ -31,16 +48,23 @@ pub fn stats(rt: &HostRuntime, folder: &str, copies: Option<&str>) -> Result<(),
         },
         None => (None, None),
     };
-    let mut text = numbers_text(rt.alloc(), &measures)?;
-    if let Some(now) = seconds_now(rt) {
-        add_lock_age(rt.alloc(), &mut text, now, measures.oldest_lock)?;
-        add_copy_age(rt.alloc(), &mut text, now, copied)?;
-    }
-    write(rt, text.as_bytes())?;
+    tell(rt, &measures, copied)?;
     match fault.or(copies_fault) {
         Some(end) => Err(end),
         None => Ok(()),
     }
+}
+
+/// Prints the numbers, with ages where there is a clock.
+fn tell(rt: &HostRuntime, measures: &Measures, copied: Option<i64>) -> Result<(), End> {
+    let mut text = String::new(rt.alloc());
+    add_numbers(rt.alloc(), &mut text, measures)?;
+    if let Some(now) = seconds_now(rt) {
+        let held_for = age_of(now, measures.oldest_lock);
+        add_gauge(rt.alloc(), &mut text, LOCK_AGE, held_for)?;
+        add_gauge(rt.alloc(), &mut text, COPY_AGE, age_of(now, copied))?;
+    }
+    write(rt, text.as_bytes())
 }
 
 /// The time, in seconds since 1970, if there is a clock.
@@ -54,23 +78,28 @@ fn seconds_now(rt: &HostRuntime) -> Option<i64> {
 /// When the newest journal of a folder of copies was written, by the times of files, in seconds since 1970.
 fn copied_at(rt: &HostRuntime, copies: &str) -> Result<i64, End> {
     for _ in 0..TRIES {
-        let numbers = match numbers_in(rt, copies) {
-            Ok(numbers) => numbers,
-            Err(error) => return Err(End::by_system(Place::Copies, &error)),
-        };
-        let Some(number) = numbers.as_slice().last() else {
-            return Err(End::of_files(Place::Copies, tfs_files::Fault::NoJournal));
-        };
-        if let Some(time) = written_at(rt, copies, *number)? {
+        let number = newest_copy(rt, copies)?;
+        if let Some(time) = written_at(rt, copies, number)? {
             return Ok(time);
         }
     }
     Err(End::at(Place::Copies, Fault::Changing))
 }
 
+/// The number of the newest journal of a folder of copies.
+fn newest_copy(rt: &HostRuntime, copies: &str) -> Result<u64, End> {
+    match numbers_in(rt, copies) {
+        Ok(numbers) => match numbers.as_slice().last() {
+            Some(number) => Ok(*number),
+            None => Err(End::of_files(Place::Copies, tfs_files::Fault::NoJournal)),
+        },
+        Err(error) => Err(End::by_system(Place::Copies, &error)),
+    }
+}
+
 /// When the journal of a number was written; none where it went away.
 fn written_at(rt: &HostRuntime, copies: &str, number: u64) -> Result<Option<i64>, End> {
-    let path = format!(in rt.alloc(); "{copies}/journal-{number:010}.tfj")?;
+    let path = journal_path(rt, copies, number)?;
     let place = Place::Copy(number);
     match modified_at(rt, path.as_str()) {
         Ok(time) => match Timestamp::try_from(time) {
@@ -89,8 +118,8 @@ fn modified_at(rt: &HostRuntime, path: &str) -> io::Result<SystemTime> {
     fs::metadata(rt, path)?.modified()
 }
 
-/// The numbers of a journal as text.
-fn numbers_text(alloc: Global, of: &Measures) -> Result<String, AllocError> {
+/// Adds the numbers of a journal.
+fn add_numbers(alloc: Global, text: &mut String, of: &Measures) -> Result<(), AllocError> {
     let changes = Metric {
         name: "tfstated_changes_total",
         kind: "counter",
@@ -116,62 +145,42 @@ fn numbers_text(alloc: Global, of: &Measures) -> Result<String, AllocError> {
         ),
         ("tfstated_locks", "Locks that are held.", of.locks),
     ];
-    let mut text = String::new(alloc);
-    add(alloc, &mut text, changes)?;
+    add(alloc, text, changes)?;
     for (name, help, value) in gauges {
-        add(alloc, &mut text, gauge(name, help, value as u64))?;
+        add_gauge(alloc, text, Gauge { name, help }, Some(value as u64))?;
     }
-    Ok(text)
+    Ok(())
 }
 
-/// Adds how long ago the lock was taken that is held longest, if that is known.
-fn add_lock_age(
+/// Adds a number that may rise and fall, if it is known.
+fn add_gauge(
     alloc: Global,
     text: &mut String,
-    now: i64,
-    taken: Option<i64>,
+    gauge: Gauge,
+    value: Option<u64>,
 ) -> Result<(), AllocError> {
-    let name = "tfstated_oldest_lock_age_seconds";
-    let help = "For how long the oldest lock has been held, by its holder's clock.";
-    match taken {
-        Some(taken) => add(alloc, text, gauge(name, help, age_of(now, taken))),
-        None => Ok(()),
-    }
-}
-
-/// Adds how long ago the newest copy was made, if that is known.
-fn add_copy_age(
-    alloc: Global,
-    text: &mut String,
-    now: i64,
-    copied: Option<i64>,
-) -> Result<(), AllocError> {
-    let name = "tfstated_newest_copy_age_seconds";
-    let help = "For how long the newest journal of the copies has been as it is.";
-    match copied {
-        Some(copied) => add(alloc, text, gauge(name, help, age_of(now, copied))),
-        None => Ok(()),
-    }
-}
-
-/// How many seconds ago a time was; 0 for one to come.
-fn age_of(now: i64, then: i64) -> u64 {
-    u64::try_from(now.saturating_sub(then)).unwrap_or(0)
-}
-
-/// A number that may rise and fall.
-fn gauge(name: &'static str, help: &'static str, value: u64) -> Metric {
-    Metric {
+    let Gauge { name, help } = gauge;
+    let Some(value) = value else {
+        return Ok(());
+    };
+    let metric = Metric {
         name,
         kind: "gauge",
         help,
         value,
-    }
+    };
+    add(alloc, text, metric)
+}
+
+/// How many seconds ago a time was, if it is known; 0 for one to come.
+fn age_of(now: i64, then: Option<i64>) -> Option<u64> {
+    let ago = now.saturating_sub(then?);
+    Some(u64::try_from(ago).unwrap_or(0))
 }
 
 /// Adds the lines of a number.
 fn add(alloc: Global, text: &mut String, metric: Metric) -> Result<(), AllocError> {
     let (name, kind, help, value) = (metric.name, metric.kind, metric.help, metric.value);
-    text.push_str(format!(in alloc; "# HELP {name} {help}\n")?.as_str())?;
-    text.push_str(format!(in alloc; "# TYPE {name} {kind}\n{name} {value}\n")?.as_str())
+    let lines = format!(in alloc; "# HELP {name} {help}\n# TYPE {name} {kind}\n{name} {value}\n")?;
+    text.push_str(lines.as_str())
 }

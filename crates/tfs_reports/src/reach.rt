@@ -10,14 +10,16 @@ use crate::report::Report;
 use serde_json::{Value, json};
 use std::alloc::{AllocError, Global};
 use tfs_calls::{Impact, Kind, Query, Refusal, Text, Texts};
+use tfs_records::Discard;
 use tfs_rules::Name;
 use tfs_state::Doc;
+use tfs_table::Table;
 use tfs_versions::picture;
 
 const COLUMNS: &[&str] = &["instance"];
 
 /// How an answer is told.
-#[derive(Clone, Copy, Debug, PartialEq, Eq)]
+#[derive(Clone, Copy)]
 pub enum Form {
     /// As a table.
     Table,
@@ -38,13 +40,12 @@ pub fn print_impact(
     form: Form,
 ) -> Result<(), End> {
     let name = name_of(rt.alloc(), name)?;
-    let answer = answer_of(rt, folder, &name, &query)?;
-    tell(rt, &answer, form)
+    let newest = newest_journal(rt, folder)?;
+    tell(rt, &answer_in(&newest.table, &name, &query)?, form)
 }
 
-/// The answer over the newest journal of a folder.
-fn answer_of(rt: &HostRuntime, folder: &str, name: &Name, query: &Query) -> Result<Impact, End> {
-    let table = newest_journal(rt, folder)?.table;
+/// The answer over a table.
+fn answer_in(table: &Table<Discard>, name: &Name, query: &Query) -> Result<Impact, End> {
     if table.number(name).is_none() {
         return Err(End::at(Place::Name, Fault::NoName));
     }
@@ -89,15 +90,12 @@ fn tell(rt: &HostRuntime, answer: &Impact, form: Form) -> Result<(), End> {
     let doc = answer.version.doc();
     let chosen = answer.chosen.as_slice();
     match form {
-        Form::Table | Form::Json => {
-            report_of(rt.alloc(), doc, chosen, form == Form::Json)?.print(rt)
-        }
+        Form::Table => report_of(rt.alloc(), doc, chosen, false)?.print(rt),
+        Form::Json => report_of(rt.alloc(), doc, chosen, true)?.print(rt),
         Form::Picture => {
             let all = all_numbers_of(rt.alloc(), doc)?;
-            write(
-                rt,
-                picture(rt.alloc(), doc, all.as_slice(), chosen)?.as_slice(),
-            )
+            let text = picture(rt.alloc(), doc, all.as_slice(), chosen)?;
+            write(rt, text.as_slice())
         }
         Form::AnswerPicture => write(rt, picture(rt.alloc(), doc, chosen, chosen)?.as_slice()),
     }
@@ -119,8 +117,7 @@ fn row_of(alloc: Global, doc: &Doc, number: usize) -> Result<Value, AllocError>
     requires { number < length doc.now.instances }
 {
     let address = doc.address(number);
-    let own = Value::String(format!(in alloc; "{address}")?);
-    json!(in alloc; {"instance": own})
+    json!(in alloc; {"instance": format!(in alloc; "{address}")?})
 }
 
 /// The numbers of all instances.

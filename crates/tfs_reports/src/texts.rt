@@ -10,19 +10,12 @@ use serde_json::Value;
 use std::alloc::{AllocError, Global};
 use tfs_lock::Id;
 
-/// A text as JSON.
-pub(crate) fn text(alloc: Global, text: &str) -> Result<Value, AllocError>
-    ensures { IfOk result (λ value. view value ≡ string text.now) }
-{
-    Ok(Value::String(String::from_str(alloc, text)?))
-}
-
 /// An identifier as JSON; null for none.
 pub(crate) fn id_text(alloc: Global, id: &Option<Id>) -> Result<Value, AllocError>
     ensures { IfOk result (λ value. view value ≡ text_or_null id.now) }
 {
     match id {
-        Some(id) => text(alloc, id.text()),
+        Some(id) => Value::try_from_str(alloc, id.text()),
         None => Ok(Value::Null),
     }
 }
@@ -32,7 +25,7 @@ pub(crate) fn member(alloc: Global, members: &Value, name: &str) -> Result<Value
     ensures { IfOk result (λ value. view value ≡ text_or_null (text_at name.now (view members.now))) }
 {
     match members.get(name).and_then(Value::as_str) {
-        Some(found) => text(alloc, found),
+        Some(found) => Value::try_from_str(alloc, found),
         None => Ok(Value::Null),
     }
 }

@@ -6,7 +6,7 @@ use tfs_table::OpenFault;
 use tfs_terms::{Finish, Unturned};
 
 /// Why a turn isn't made, or a term doesn't begin.
-#[derive(Clone, Copy, Debug, PartialEq, Eq)]
+#[derive(Clone, Copy)]
 pub(crate) enum TurnFault {
     /// A request for memory was refused.
     NoMemory,

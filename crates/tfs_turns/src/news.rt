@@ -5,7 +5,7 @@ use std::io::{self, Write};
 use tfs_files::Fault;
 
 /// A turn that was made: the number and the position of the new journal, its names, and the lengths of the old one and of the new one.
-#[derive(Clone, Copy, Debug)]
+#[derive(Clone, Copy)]
 pub(crate) struct Turned {
     pub(crate) number: u64,
     pub(crate) position: u64,
@@ -15,7 +15,7 @@ pub(crate) struct Turned {
 }
 
 /// What is to be told.
-#[derive(Clone, Copy, Debug)]
+#[derive(Clone, Copy)]
 pub(crate) enum News {
     /// The first term begins.
     First,

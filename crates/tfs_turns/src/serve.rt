@@ -19,7 +19,7 @@ use tfs_table::Table;
 use tfs_terms::serve_terms;
 
 /// How much the journal of a term may grow, in bytes and in entries, before the server goes on in a shorter one.
-#[derive(Clone, Copy, Debug)]
+#[derive(Clone, Copy)]
 pub struct Bounds {
     pub bytes: u64,
     pub entries: u64,

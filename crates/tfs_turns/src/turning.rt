@@ -151,16 +151,26 @@ fn gates_of<'t, R: AllocGlobal + Wait>(
     let underway = Arc::new(alloc, Underway::new(alloc, number)?)?;
     let mut gates = Vec::with_capacity(alloc, number)?;
     for made in 0..number {
-        gates.push(Watching {
-            rt: turning.rt,
-            watch: turning.watch,
-            durable: durable.clone()?,
-            least: turning.least,
-            serves_reads: turning.plan.serves_reads,
-            underway: underway.clone()?,
-            worker: made,
-            read: None,
-        })?;
+        gates.push(gate_of(turning, durable.clone()?, &underway, made)?)?;
     }
     Ok(gates)
+}
+
+/// The gate of a worker.
+fn gate_of<'t, R: AllocGlobal + Wait>(
+    turning: &Turning<'t, R>,
+    durable: Arc<Durable<FileDevice>>,
+    underway: &Arc<Underway>,
+    worker: usize,
+) -> Result<Watching<'t, R>, AllocError> {
+    Ok(Watching {
+        rt: turning.rt,
+        watch: turning.watch,
+        durable,
+        least: turning.least,
+        serves_reads: turning.plan.serves_reads,
+        underway: underway.clone()?,
+        worker,
+        read: None,
+    })
 }

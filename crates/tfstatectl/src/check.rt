@@ -20,7 +20,7 @@ pub(crate) fn run(rt: &HostRuntime, folder: &str) -> ExitCode {
 /// Checks a folder.
 fn checked(rt: &HostRuntime, folder: &str) -> Result<(), End> {
     let numbers = numbers_here(rt, folder)?;
-    let files = files_of(rt, folder, numbers.as_slice(), None)?;
+    let files = files_of(rt, folder, numbers.as_slice())?;
     if tell_files(rt, files.as_slice()).is_err() {
         return Err(End::at(Place::Command, Fault::Write));
     }

@@ -7,7 +7,7 @@ use tfs_files::{
     End, Fault, Place, PositionFile, below, end_by, keep_newest, least_position, locked,
     name_parts, numbers_here, originals, put_away, raised, refuse_served, write_parts,
 };
-use tfs_folder::{Chosen, choose};
+use tfs_folder::{Chosen, FolderFile, choose};
 
 /// A folder of copies: its lock, which is kept as long as the file is open, its journals, and the file of the least position.
 #[derive(Drop)]
@@ -18,7 +18,7 @@ struct Copies {
 }
 
 /// The newest journal that is copied, and its position.
-#[derive(Clone, Copy, Debug)]
+#[derive(Clone, Copy)]
 struct Newest {
     number: u64,
     position: u64,
@@ -34,27 +34,68 @@ impl Newest {
     }
 }
 
+/// What was copied: the numbers of the parts, and the newest journal.
+#[derive(Drop)]
+struct Copied {
+    parts: Vec<u64>,
+    newest: Newest,
+}
+
 /// Copies, and prints up to where. Gives the program's status.
 pub(crate) fn run(rt: &HostRuntime, asked: &Copying<'_>) -> ExitCode {
-    let copies = match copies_in(rt, asked) {
-        Ok(copies) => copies,
-        Err(end) => return end_by(rt, asked.name_at(end.place()), end),
-    };
-    let files = match originals(rt, asked.from, copies.here.as_slice()) {
-        Ok(files) => files,
-        Err(end) => return end_by(rt, asked.from, end),
-    };
-    let parts = match write_parts(rt, asked.to, copies.here.as_slice(), files.as_slice()) {
-        Ok(parts) => parts,
-        Err(end) => return end_by(rt, asked.to, end),
-    };
+    match copies_in(rt, asked) {
+        Ok(copies) => copy_to(rt, asked, copies),
+        Err(end) => end_by(rt, asked.name_at(end.place()), end),
+    }
+}
+
+/// Copies into a folder of copies, and prints up to where. Gives the program's status.
+fn copy_to(rt: &HostRuntime, asked: &Copying<'_>, copies: Copies) -> ExitCode {
     let least = least_position(0, &copies.least);
-    let newest = match choose(rt.alloc(), files, least) {
-        Ok(chosen) => Newest::of(&chosen),
-        Err(unchosen) => return end_by(rt, asked.from, End::unchosen(unchosen, least)),
+    match copy_files(rt, asked, copies.here.as_slice(), least) {
+        Ok(copied) => name_copied(rt, asked, copies, copied),
+        Err(status) => status,
+    }
+}
+
+/// Writes the journals that are to be copied, and chooses up to which one. The journals of the copies have these numbers.
+fn copy_files(
+    rt: &HostRuntime,
+    asked: &Copying<'_>,
+    here: &[u64],
+    least: u64,
+) -> Result<Copied, ExitCode> {
+    let files = match originals(rt, asked.from, here) {
+        Ok(files) => files,
+        Err(end) => return Err(end_by(rt, asked.from, end)),
     };
-    match keep(rt, asked, copies, parts.as_slice(), newest) {
-        Ok(()) => tell(rt, newest),
+    let parts = match write_parts(rt, asked.to, here, files.as_slice()) {
+        Ok(parts) => parts,
+        Err(end) => return Err(end_by(rt, asked.to, end)),
+    };
+    match chosen_in(rt, files, least) {
+        Ok(newest) => Ok(Copied { parts, newest }),
+        Err(end) => Err(end_by(rt, asked.from, end)),
+    }
+}
+
+/// The newest journal of these files, whose position is at least this one.
+fn chosen_in(rt: &HostRuntime, files: Vec<FolderFile>, least: u64) -> Result<Newest, End> {
+    match choose(rt.alloc(), files, least) {
+        Ok(chosen) => Ok(Newest::of(&chosen)),
+        Err(unchosen) => Err(End::unchosen(unchosen, least)),
+    }
+}
+
+/// Has what was copied count, and prints up to where. Gives the program's status.
+fn name_copied(rt: &HostRuntime, asked: &Copying<'_>, copies: Copies, copied: Copied) -> ExitCode {
+    let Copies {
+        lock: _lock,
+        here: _,
+        least,
+    } = copies;
+    match keep(rt, asked, least, &copied) {
+        Ok(()) => tell(rt, copied.newest),
         Err(end) => end_by(rt, asked.name_at(end.place()), end),
     }
 }
@@ -73,20 +114,20 @@ fn copies_in(rt: &HostRuntime, asked: &Copying<'_>) -> Result<Copies, End> {
 fn keep(
     rt: &HostRuntime,
     asked: &Copying<'_>,
-    copies: Copies,
-    parts: &[u64],
-    newest: Newest,
+    least: Option<PositionFile>,
+    copied: &Copied,
 ) -> Result<(), End> {
-    let Copies {
-        lock: _lock,
-        here: _,
-        least,
-    } = copies;
-    name_parts(rt, asked.to, parts, newest.number)?;
+    name_parts(rt, asked.to, copied.parts.as_slice(), copied.newest.number)?;
+    tidy(rt, asked, copied.newest.number)?;
+    let _least = raised(rt, least, copied.newest.position)?;
+    Ok(())
+}
+
+/// Puts the journals before that of a number away.
+fn tidy(rt: &HostRuntime, asked: &Copying<'_>, number: u64) -> Result<(), End> {
     let here = numbers_here(rt, asked.to)?;
-    put_away(rt, asked.to, below(here.as_slice(), newest.number))?;
+    put_away(rt, asked.to, below(here.as_slice(), number))?;
     let _ = keep_newest(rt, asked.to, asked.keep);
-    let _least = raised(rt, least, newest.position)?;
     Ok(())
 }
 

@@ -23,21 +23,32 @@ pub(crate) fn run<R: AllocGlobal + Threads + Wait + Clock + Sync>(
         least,
         table,
     } = ready;
-    let Ok(listener) = limit_waits(listener) else {
-        return end_by(
+    match limit_waits(listener) {
+        Ok(listener) => {
+            let begun = Begun {
+                listener,
+                least,
+                table,
+            };
+            let left = serve_folder(rt, host, &plan_of(asked), begun);
+            end_of(host, asked.start.folder, left.fault, left.accepting)
+        }
+        Err(_) => end_by(
             host,
             asked.listen,
             End::at(Place::Address, Fault::CannotBind),
-        );
-    };
-    let begun = Begun {
-        listener,
-        least,
-        table,
-    };
-    let folder = asked.start.folder;
-    let left = serve_folder(rt, host, &plan_of(asked), begun);
-    match (left.fault, left.accepting) {
+        ),
+    }
+}
+
+/// Ends a run by what has ended its terms.
+fn end_of(
+    host: &HostRuntime,
+    folder: &str,
+    fault: Fault,
+    accepting: Option<AcceptFault>,
+) -> ExitCode {
+    match (fault, accepting) {
         (Fault::AcceptFault, Some(fault)) => end_by_accepting(host, folder, fault),
         (fault, _) => end_by(host, folder, End::at(Place::Folder, fault)),
     }
