@@ -11,28 +11,19 @@ use std::{fs, io};
 use tfs_files::{journal_path, numbers_in};
 use tfs_versions::Measures;
 
-/// A number with its name, its kind and what it means.
+/// A number: its name, and what it means.
 #[derive(Clone, Copy)]
 struct Metric {
     name: &'static str,
-    kind: &'static str,
-    help: &'static str,
-    value: u64,
-}
-
-/// A number that may rise and fall: its name, and what it means.
-#[derive(Clone, Copy)]
-struct Gauge {
-    name: &'static str,
     help: &'static str,
 }
 
-const LOCK_AGE: Gauge = Gauge {
+const LOCK_AGE: Metric = Metric {
     name: "tfstated_oldest_lock_age_seconds",
     help: "For how long the oldest lock has been held, by its holder's clock.",
 };
 
-const COPY_AGE: Gauge = Gauge {
+const COPY_AGE: Metric = Metric {
     name: "tfstated_newest_copy_age_seconds",
     help: "For how long the newest journal of the copies has been as it is.",
 };
@@ -61,8 +52,8 @@ fn tell(rt: &HostRuntime, measures: &Measures, copied: Option<i64>) -> Result<()
     add_numbers(rt.alloc(), &mut text, measures)?;
     if let Some(now) = seconds_now(rt) {
         let held_for = age_of(now, measures.oldest_lock);
-        add_gauge(rt.alloc(), &mut text, LOCK_AGE, held_for)?;
-        add_gauge(rt.alloc(), &mut text, COPY_AGE, age_of(now, copied))?;
+        add_age(rt.alloc(), &mut text, LOCK_AGE, held_for)?;
+        add_age(rt.alloc(), &mut text, COPY_AGE, age_of(now, copied))?;
     }
     write(rt, text.as_bytes())
 }
@@ -122,9 +113,7 @@ fn modified_at(rt: &HostRuntime, path: &str) -> io::Result<SystemTime> {
 fn add_numbers(alloc: Global, text: &mut String, of: &Measures) -> Result<(), AllocError> {
     let changes = Metric {
         name: "tfstated_changes_total",
-        kind: "counter",
         help: "Changes of all workspaces over all journals: the position.",
-        value: of.position,
     };
     let gauges = [
         (
@@ -145,31 +134,24 @@ fn add_numbers(alloc: Global, text: &mut String, of: &Measures) -> Result<(), Al
         ),
         ("tfstated_locks", "Locks that are held.", of.locks),
     ];
-    add(alloc, text, changes)?;
+    add(alloc, text, changes, "counter", of.position)?;
     for (name, help, value) in gauges {
-        add_gauge(alloc, text, Gauge { name, help }, Some(value as u64))?;
+        add(alloc, text, Metric { name, help }, "gauge", value as u64)?;
     }
     Ok(())
 }
 
-/// Adds a number that may rise and fall, if it is known.
-fn add_gauge(
+/// Adds an age, if it is known.
+fn add_age(
     alloc: Global,
     text: &mut String,
-    gauge: Gauge,
-    value: Option<u64>,
+    metric: Metric,
+    age: Option<u64>,
 ) -> Result<(), AllocError> {
-    let Gauge { name, help } = gauge;
-    let Some(value) = value else {
-        return Ok(());
-    };
-    let metric = Metric {
-        name,
-        kind: "gauge",
-        help,
-        value,
-    };
-    add(alloc, text, metric)
+    match age {
+        Some(age) => add(alloc, text, metric, "gauge", age),
+        None => Ok(()),
+    }
 }
 
 /// How many seconds ago a time was, if it is known; 0 for one to come.
@@ -178,9 +160,15 @@ fn age_of(now: i64, then: Option<i64>) -> Option<u64> {
     Some(u64::try_from(ago).unwrap_or(0))
 }
 
-/// Adds the lines of a number.
-fn add(alloc: Global, text: &mut String, metric: Metric) -> Result<(), AllocError> {
-    let (name, kind, help, value) = (metric.name, metric.kind, metric.help, metric.value);
+/// Adds the lines of a number of a kind.
+fn add(
+    alloc: Global,
+    text: &mut String,
+    metric: Metric,
+    kind: &str,
+    value: u64,
+) -> Result<(), AllocError> {
+    let (name, help) = (metric.name, metric.help);
     let lines = format!(in alloc; "# HELP {name} {help}\n# TYPE {name} {kind}\n{name} {value}\n")?;
     text.push_str(lines.as_str())
 }

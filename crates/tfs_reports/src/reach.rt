@@ -10,10 +10,8 @@ use crate::report::Report;
 use serde_json::{Value, json};
 use std::alloc::{AllocError, Global};
 use tfs_calls::{Impact, Kind, Query, Refusal, Text, Texts};
-use tfs_records::Discard;
 use tfs_rules::Name;
 use tfs_state::Doc;
-use tfs_table::Table;
 use tfs_versions::picture;
 
 const COLUMNS: &[&str] = &["instance"];
@@ -40,12 +38,13 @@ pub fn print_impact(
     form: Form,
 ) -> Result<(), End> {
     let name = name_of(rt.alloc(), name)?;
-    let newest = newest_journal(rt, folder)?;
-    tell(rt, &answer_in(&newest.table, &name, &query)?, form)
+    let answer = answer_of(rt, folder, &name, &query)?;
+    tell(rt, &answer, form)
 }
 
-/// The answer over a table.
-fn answer_in(table: &Table<Discard>, name: &Name, query: &Query) -> Result<Impact, End> {
+/// The answer over the newest journal of a folder.
+fn answer_of(rt: &HostRuntime, folder: &str, name: &Name, query: &Query) -> Result<Impact, End> {
+    let table = newest_journal(rt, folder)?.table;
     if table.number(name).is_none() {
         return Err(End::at(Place::Name, Fault::NoName));
     }
@@ -57,21 +56,18 @@ fn answer_in(table: &Table<Discard>, name: &Name, query: &Query) -> Result<Impac
 
 /// The query for what some texts name: `any` or `all` of them.
 pub fn query_of(alloc: Global, is_all: bool, addresses: &[&str]) -> Result<Query, End> {
-    let mut texts = Vec::with_capacity(alloc, addresses.len())?;
-    for address in addresses {
-        push_text(alloc, &mut texts, address)?;
-    }
     let kind = if is_all { Kind::All } else { Kind::Any };
-    Ok(Query {
-        kind,
-        texts: Texts::new(texts),
-    })
+    let texts = Texts::new(texts_of(alloc, addresses)?);
+    Ok(Query { kind, texts })
 }
 
-/// Adds a text.
-fn push_text(alloc: Global, texts: &mut Vec<Text>, address: &str) -> Result<(), AllocError> {
-    texts.push(Text::new(String::from_str(alloc, address)?))?;
-    Ok(())
+/// The texts that name instances.
+fn texts_of(alloc: Global, addresses: &[&str]) -> Result<Vec<Text>, AllocError> {
+    let mut texts = Vec::with_capacity(alloc, addresses.len())?;
+    for address in addresses {
+        texts.push(Text::new(String::from_str(alloc, address)?))?;
+    }
+    Ok(texts)
 }
 
 /// Why a query isn't answered.

@@ -49,12 +49,12 @@ impl Report {
 
     /// Prints the report.
     pub(crate) fn print(self, rt: &HostRuntime) -> Result<(), End> {
-        let mut text = self.text;
-        if self.is_json {
-            text.push_str("]\n")?;
-            return write(rt, text.as_bytes());
+        let mut report = self;
+        if report.is_json {
+            report.text.push_str("]\n")?;
+            return write(rt, report.text.as_bytes());
         }
-        let table = table_text(rt.alloc(), text.as_str(), self.widths.as_slice())?;
+        let table = table_text(rt.alloc(), report.text.as_str(), report.widths.as_slice())?;
         write(rt, table.as_bytes())
     }
 }
@@ -122,11 +122,17 @@ fn push_line(
     widths: &[usize],
 ) -> Result<(), AllocError> {
     let mut line = String::new(alloc);
-    for (own, width) in cells.split('\t').zip(widths.iter()) {
-        push_cell(&mut line, own, *width)?;
-    }
+    push_cells(&mut line, cells, widths)?;
     table.push_str(line.as_str().trim_end_matches(' '))?;
     table.push('\n')
+}
+
+/// Adds cells, each up to its column's width.
+fn push_cells(line: &mut String, cells: &str, widths: &[usize]) -> Result<(), AllocError> {
+    for (own, width) in cells.split('\t').zip(widths.iter()) {
+        push_cell(line, own, *width)?;
+    }
+    Ok(())
 }
 
 /// Adds a cell, blanks up to its column's width, and two more.
