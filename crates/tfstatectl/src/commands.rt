@@ -89,12 +89,16 @@ static COMMANDS: [Form; 9] = [
 /// The program's command.
 pub(crate) fn program<'a>(alloc: Global) -> Result<Command<'a>, AllocError> {
     let commands = commands(alloc, &COMMANDS)?;
+    top(alloc).subcommands(commands)
+}
+
+/// The program's command without those below it.
+fn top<'a>(alloc: Global) -> Command<'a> {
     Command::new(alloc, "tfstatectl")
         .about("Runs a server for Terraform's state on a folder of journals")
         .version(VERSION)
         .after_help(STATUSES)
         .subcommand_required(true)
-        .subcommands(commands)
 }
 
 /// The commands below it.
@@ -108,8 +112,10 @@ fn commands<'a>(alloc: Global, forms: &[Form]) -> Result<Vec<Command<'a>>, Alloc
 
 /// A command.
 fn command<'a>(alloc: Global, form: &Form) -> Result<Command<'a>, AllocError> {
-    let command = Command::new(alloc, form.name).about(form.about);
-    command.args(arguments(alloc, form.arguments)?)
+    let arguments = arguments(alloc, form.arguments)?;
+    Command::new(alloc, form.name)
+        .about(form.about)
+        .args(arguments)
 }
 
 /// The arguments of a command.

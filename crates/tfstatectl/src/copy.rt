@@ -104,10 +104,15 @@ fn name_copied(rt: &HostRuntime, asked: &Copying<'_>, copies: Copies, copied: Co
 fn copies_in(rt: &HostRuntime, asked: &Copying<'_>) -> Result<Copies, End> {
     let _ = fs::create_dir_all(rt, asked.to);
     let lock = locked(rt, asked.to)?;
-    refuse_served(rt, asked.to)?;
-    let here = numbers_here(rt, asked.to)?;
+    let here = unserved(rt, asked.to)?;
     let least = PositionFile::named(rt, asked.least_file, here.is_empty())?;
     Ok(Copies { lock, here, least })
+}
+
+/// The numbers of the journals of a folder, which wasn't served.
+fn unserved(rt: &HostRuntime, folder: &str) -> Result<Vec<u64>, End> {
+    refuse_served(rt, folder)?;
+    numbers_here(rt, folder)
 }
 
 /// Gives the parts their names, up to that of the newest one, puts the journals before it away, and raises the least position.

@@ -49,11 +49,23 @@ fn run_command<R: AllocGlobal + Threads + Wait + Clock + Sync>(
     matches: &ArgMatches<'_>,
 ) -> ExitCode {
     match matches.subcommand() {
-        Some(("serve", given)) => run_server(rt, host, &Serving::of(given)),
-        Some(("copy", given)) => copy::run(host, &Copying::of(given)),
-        Some(("check", given)) => check::run(host, folder_of(given)),
-        Some((command, given)) => reading::run(host, command, given),
+        Some((command, given)) => run_named(rt, host, command, given),
         None => end_by(host, "", End::at(Place::Command, Fault::Arguments)),
+    }
+}
+
+/// Runs the command of a name.
+fn run_named<R: AllocGlobal + Threads + Wait + Clock + Sync>(
+    rt: &R,
+    host: &HostRuntime,
+    command: &str,
+    given: &ArgMatches<'_>,
+) -> ExitCode {
+    match command {
+        "serve" => run_server(rt, host, &Serving::of(given)),
+        "copy" => copy::run(host, &Copying::of(given)),
+        "check" => check::run(host, folder_of(given)),
+        _ => reading::run(host, command, given),
     }
 }
 

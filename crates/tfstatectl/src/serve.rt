@@ -30,8 +30,7 @@ pub(crate) fn run<R: AllocGlobal + Threads + Wait + Clock + Sync>(
                 least,
                 table,
             };
-            let left = serve_folder(rt, host, &plan_of(asked), begun);
-            end_of(host, asked.start.folder, left.fault, left.accepting)
+            serve_begun(rt, host, asked, begun)
         }
         Err(_) => end_by(
             host,
@@ -39,6 +38,17 @@ pub(crate) fn run<R: AllocGlobal + Threads + Wait + Clock + Sync>(
             End::at(Place::Address, Fault::CannotBind),
         ),
     }
+}
+
+/// Serves what a start has made, until it ends by a fault. Gives the program's status.
+fn serve_begun<R: AllocGlobal + Threads + Wait + Clock + Sync>(
+    rt: &R,
+    host: &HostRuntime,
+    asked: &Serving<'_>,
+    begun: Begun,
+) -> ExitCode {
+    let left = serve_folder(rt, host, &plan_of(asked), begun);
+    end_of(host, asked.start.folder, left.fault, left.accepting)
 }
 
 /// Ends a run by what has ended its terms.

@@ -49,11 +49,20 @@ fn begun(
     begins: bool,
 ) -> Result<(Option<PositionFile>, Table<JournalSink>), End> {
     let least = PositionFile::named(rt, asked.least_file, begins)?;
-    let start = Start {
-        least: least_position(asked.start.least, &least),
-        ..asked.start
-    };
-    let table = started(rt, &start)?;
+    let table = started_from(rt, asked, least_position(asked.start.least, &least))?;
     let least = raised(rt, least, table.position())?;
     Ok((least, table))
+}
+
+/// The table over the folder's next journal, which starts from this position at least.
+fn started_from(
+    rt: &HostRuntime,
+    asked: &Serving<'_>,
+    least: u64,
+) -> Result<Table<JournalSink>, End> {
+    let start = Start {
+        least,
+        ..asked.start
+    };
+    started(rt, &start)
 }

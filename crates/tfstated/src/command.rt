@@ -2,7 +2,7 @@
 
 ghost use Rattle.std.specs.Prelude.{◌≡◌, ◌≤◌, IfSome};
 
-use std::env::{self, Args};
+use std::env;
 use std::rt::Env;
 
 const USAGE: &str =
@@ -41,50 +41,33 @@ pub(crate) fn read(rt: &(impl AllocGlobal + Env)) -> Option<Command> {
         return None;
     };
     let word = words.nth(1)?;
-    let command = command_of(word.as_str(), &mut words)?;
-    match words.next() {
-        Some(_) => None,
-        None => Some(command),
+    let first = words.next();
+    let second = words.next();
+    let third = words.next();
+    let fourth = words.next();
+    if words.next().is_some() {
+        return None;
     }
-}
-
-/// The command of a word and of the words behind it, as many as it takes.
-fn command_of(word: &str, words: &mut Args) -> Option<Command> {
-    match word {
-        "stdio" => Some(Command::Stdio),
-        "check" => Some(Command::Check(words.next()?)),
-        "rebase" => rebase_with(words),
-        "serve" => serve_with(words),
+    match (word.as_str(), first, second, third, fourth) {
+        ("stdio", None, None, None, None) => Some(Command::Stdio),
+        ("check", Some(file), None, None, None) => Some(Command::Check(file)),
+        ("rebase", Some(old), Some(new), None, None) => Some(Command::Rebase(old, new)),
+        ("serve", Some(address), Some(number), Some(new), old) => {
+            serve_with(address, number.as_str(), new, old)
+        }
         _ => None,
     }
 }
 
-/// The command `rebase` with the files of two words.
-fn rebase_with(words: &mut Args) -> Option<Command> {
-    let old = words.next()?;
-    let new = words.next()?;
-    Some(Command::Rebase(old, new))
-}
-
-/// The command `serve` with three words or four; none where the second one is no number of workers.
-fn serve_with(words: &mut Args) -> Option<Command> {
-    let address = words.next()?;
-    let workers = next_workers(words)?;
-    let new = words.next()?;
+/// The command `serve` with these arguments; none where the number is none of workers.
+fn serve_with(address: String, number: &str, new: String, old: Option<String>) -> Option<Command> {
+    let workers = workers_in(number)?;
     Some(Command::Serve(Serving {
         address,
         workers,
         new,
-        old: words.next(),
+        old,
     }))
-}
-
-/// The number of workers of the next word.
-fn next_workers(words: &mut Args) -> Option<usize>
-    ensures { IfSome result (λ workers. (1 ≤ workers) × (workers ≤ 16)) }
-{
-    let word = words.next()?;
-    workers_in(word.as_str())
 }
 
 /// The number of workers that a text tells: decimal, without leading zeros or a sign, from 1 to 16.
