@@ -3,124 +3,68 @@
 ghost use Rattle.std.specs.Prelude.{◌≡◌};
 ghost use Rattle.tfs_files.specs.Status.{status_of};
 
-use std::fmt::{self, Display, Formatter};
 use std::io;
 use std::process::ExitCode;
 use tfs_folder::Unchosen;
 use thiserror::Error;
 
 /// Why a command ended before its work was done.
-#[derive(Clone, Copy, Debug, Error)]
+#[derive(Clone, Copy, Debug, PartialEq, Eq, Error)]
 pub enum Fault {
+    #[error("these are no arguments: tfstatectl --help lists them")]
     Arguments,
+    #[error("OutOfMemory: memory was refused. Give it more")]
     OutOfMemory,
+    #[error("SmallStack: a thread's stack has {0} bytes, and a request may need 524288. Raise the limit (ulimit -s)")]
     SmallStack(u64),
+    #[error("NoFolder: it isn't there. Mount it, or begin one with --first")]
     NoFolder,
+    #[error("NotAllowed: it may not be read or written. Give this user the right to")]
     NotAllowed,
+    #[error("Locked: another start, server or copy holds its lock. Stop that one, or wait for it")]
     Locked,
+    #[error("CannotRead: it could not be read. Look at its disk, and try again")]
     CannotRead,
+    #[error("CannotWrite: it could not be written. Make room on its disk, and try again")]
     CannotWrite,
+    #[error("NoJournal: it has none. If it never had one, begin it with --first")]
     NoJournal,
+    #[error("NotFirst: the folder has or had a journal, and doesn't begin anew. Leave --first out, or restore it from a copy")]
     NotFirst,
+    #[error("Damaged: it goes wrong at byte {0}. Restore it from a copy")]
     Damaged(usize),
+    #[error("Unlawful: the rules don't accept its record {0}. Restore it from a copy")]
     Unlawful(u64),
+    #[error("TornBase: it ends inside its header or its base, and no start that failed has left it so. Restore it from a copy")]
     TornBase,
+    #[error("Parted: it doesn't go on from the end of the journal before it. Move away the one that isn't to count")]
     Parted,
+    #[error("TooFar: its position or its number is too high to go on from. Push its states to a new folder")]
     TooFar,
+    #[error("NotAtLeast: its position is {0}, and the least one is {1}. Mount or restore the folder that has the later changes")]
     NotAtLeast(u64, u64),
+    #[error("NoPosition: it has no position in decimal. Write the least one into it, or 0")]
     NoPosition,
+    #[error("NotPast: it is no journal of the folder before the newest one. Name one that is")]
     NotPast,
+    #[error("TwoOfName: the folder's old/ has a journal of this name, too. Move one of them away")]
     TwoOfName,
+    #[error("NotBeginning: it isn't the beginning of a journal of that folder. Copy into a new folder")]
     NotBeginning,
+    #[error("Served: a server has run on it, and it may have changes of its own. Copy into a new folder")]
     Served,
+    #[error("Write: the output could not be written. Look at what reads it")]
     Write,
+    #[error("NoPlace: no place was there for a worker to read at. Take fewer --workers")]
     NoPlace,
+    #[error("CannotBind: it can't be listened at. Look who listens there, and whether it is an address of this machine")]
     CannotBind,
+    #[error("JournalFault: its journal can't be written any more. Look at its disk, and start again")]
     JournalFault,
+    #[error("SyncFault: its journal can't be synced any more. Look at its disk, and start again")]
     SyncFault,
+    #[error("AcceptFault: the listener gives no connections any more. Start again")]
     AcceptFault,
-}
-
-impl Fault {
-    /// What is told of a fault without numbers; nothing of the others.
-    fn text(self) -> &'static str {
-        match self {
-            Fault::Arguments => "these are no arguments: tfstatectl --help lists them",
-            Fault::OutOfMemory => "OutOfMemory: memory was refused. Give it more",
-            Fault::NoFolder => "NoFolder: it isn't there. Mount it, or begin one with --first",
-            Fault::NotAllowed =>
-                "NotAllowed: it may not be read or written. Give this user the right to",
-            Fault::Locked =>
-                "Locked: another start, server or copy holds its lock. Stop that one, or wait for it",
-            Fault::CannotRead =>
-                "CannotRead: it could not be read. Look at its disk, and try again",
-            Fault::CannotWrite =>
-                "CannotWrite: it could not be written. Make room on its disk, and try again",
-            Fault::Write => "Write: the output could not be written. Look at what reads it",
-            Fault::NoPlace =>
-                "NoPlace: no place was there for a worker to read at. Take fewer --workers",
-            Fault::CannotBind =>
-                "CannotBind: it can't be listened at. Look who listens there, and whether it is an address of this machine",
-            Fault::JournalFault =>
-                "JournalFault: its journal can't be written any more. Look at its disk, and start again",
-            Fault::SyncFault =>
-                "SyncFault: its journal can't be synced any more. Look at its disk, and start again",
-            Fault::AcceptFault =>
-                "AcceptFault: the listener gives no connections any more. Start again",
-            _ => self.journals_text(),
-        }
-    }
-
-    /// The same of a fault of what a folder has.
-    fn journals_text(self) -> &'static str {
-        match self {
-            Fault::NoJournal =>
-                "NoJournal: it has none. If it never had one, begin it with --first",
-            Fault::NotFirst =>
-                "NotFirst: the folder has or had a journal, and doesn't begin anew. Leave --first out, or restore it from a copy",
-            Fault::TornBase =>
-                "TornBase: it ends inside its header or its base, and no start that failed has left it so. Restore it from a copy",
-            Fault::Parted =>
-                "Parted: it doesn't go on from the end of the journal before it. Move away the one that isn't to count",
-            Fault::TooFar =>
-                "TooFar: its position or its number is too high to go on from. Push its states to a new folder",
-            Fault::NoPosition =>
-                "NoPosition: it has no position in decimal. Write the least one into it, or 0",
-            Fault::NotPast =>
-                "NotPast: it is no journal of the folder before the newest one. Name one that is",
-            Fault::TwoOfName =>
-                "TwoOfName: the folder's old/ has a journal of this name, too. Move one of them away",
-            Fault::NotBeginning =>
-                "NotBeginning: it isn't the beginning of a journal of that folder. Copy into a new folder",
-            Fault::Served =>
-                "Served: a server has run on it, and it may have changes of its own. Copy into a new folder",
-            _ => "",
-        }
-    }
-}
-
-impl Display for Fault {
-    fn fmt<W: fmt::Write>(&self, f: &mut Formatter<W>) -> fmt::Result {
-        match *self {
-            Fault::SmallStack(bytes) => write!(
-                f,
-                "SmallStack: a thread's stack has {bytes} bytes, and a request may need 524288. Raise the limit (ulimit -s)"
-            ),
-            Fault::Damaged(at) => write!(
-                f,
-                "Damaged: it goes wrong at byte {at}. Restore it from a copy"
-            ),
-            Fault::Unlawful(number) => write!(
-                f,
-                "Unlawful: the rules don't accept its record {number}. Restore it from a copy"
-            ),
-            Fault::NotAtLeast(position, least) => write!(
-                f,
-                "NotAtLeast: its position is {position}, and the least one is {least}. Mount or restore the folder that has the later changes"
-            ),
-            _ => f.write_str(self.text()),
-        }
-    }
 }
 
 /// The status of a fault.
@@ -169,7 +113,7 @@ fn fault_of(why: tfs_folder::Fault, least: u64) -> Fault {
 }
 
 /// What a fault is about.
-#[derive(Clone, Copy)]
+#[derive(Clone, Copy, Debug, PartialEq, Eq)]
 pub enum Place {
     /// The command itself.
     Command,
@@ -190,7 +134,7 @@ pub enum Place {
 }
 
 /// The end of a command by a fault.
-#[derive(Clone, Copy)]
+#[derive(Clone, Copy, Debug, PartialEq, Eq)]
 pub struct End {
     place: Place,
     fault: Fault,
