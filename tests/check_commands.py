@@ -62,6 +62,7 @@ def rebase(data):
 def check_records_and_their_end_are_listed():
     changed = TEXT[:20] + bytes([TEXT[20] ^ 1]) + TEXT[21:]
     later = record_text(3, b"a", push_content(b"", S2))
+    pushed = SECOND + base_text(0, []) + PUSH + later
     table = [
         (TEXT, ["1 push a", "2 lock a", "whole"], 0), (TEXT[:90], ["1 push a", "torn 71"], 3), (changed, ["damaged 5"], 4),
         (b"", ["torn 0"], 3), (b"TFJ", ["torn 0"], 3), (FIRST, ["whole"], 0), (b"TFJ3\n", ["damaged 0"], 4),
@@ -72,6 +73,10 @@ def check_records_and_their_end_are_listed():
         ((FIRST + later + PUSH)[:-1], ["1 push a", "torn 71"], 3), (FIRST + PUSH + later, ["1 push a", "2 push a", "whole"], 0),
         (FIRST + LOCK + PUSH_BY_B + DELETE, ["1 lock a", "2 push a", "3 delete a", "unlawful 3"], 5),
         (FIRST + PUSH_BY_B, ["1 push a", "unlawful 1"], 5), (REBASED + b"\3", ["base 2 1", "torn 92"], 3), (b"TFK", ["damaged 0"], 4),
+        (SECOND + base_text(2, [(b"a", B, b""), (b"b", b"", S1)]) + record_text(3, b"b", push_content(b"", S2)) + UNLOCK,
+         ["base 2 2", "1 push b", "2 unlock a", "whole"], 0),
+        (pushed[:31], ["base 0 0", "whole"], 0), (pushed[:81], ["base 0 0", "torn 31"], 3), (pushed[:97], ["base 0 0", "1 push a", "whole"], 0),
+        (pushed[:147], ["base 0 0", "1 push a", "torn 97"], 3), (pushed, ["base 0 0", "1 push a", "2 push a", "whole"], 0),
     ]
     for data, lines, status in table:
         expect(check(data), (told(*lines), status, b""), data)

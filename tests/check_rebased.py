@@ -154,5 +154,21 @@ def check_the_highest_position_of_a_base():
     expect(run("rebase", server.new, fresh()), (b"", 1, b"tfstated: TooFar\n"))
 
 
+def check_what_is_as_long_as_it_may_be_is_taken_opened_and_rebased():
+    name, by = b"n" * 64, b"i" * 256
+    lock = b'{"ID":"%s","Who":"%s"}' % (by, b"w" * 65_262)
+    text = b'{"version":4,"serial":1,"lineage":"L1","more":"%s"}' % (b"m" * 1_100_000)
+    expect(len(lock), 65_536)
+    server, target = Server(), f"/state/{name.decode()}"
+    for method, query, body in [("LOCK", "", lock), ("POST", f"?ID={by.decode()}", text), ("UNLOCK", "", lock), ("LOCK", "", lock)]:
+        expect(server.ask(method, target + query, body), DONE, method)
+    held, push, free = record_text(1, name, lock), record_text(3, name, push_content(by, text)), record_text(2, name, by)
+    old = SECOND + base_text(0, []) + held + push + free + held
+    expect(server.kill() == old, True, "the journal of four changes")
+    new = rebase(old, "4 1")
+    expect(Path(new).read_bytes() == SECOND + base_text(4, [(name, lock, text)]), True, "the rebased journal")
+    expect(listed(new), (["base 4 1", "whole"], 0))
+
+
 if __name__ == "__main__":
     sys.exit(run_checks(checks_in(globals())))

@@ -62,6 +62,7 @@ def check_all_requests_from_one_on_that_are_refused_end_in_one_line():
 JOURNALS = {
     "104": FIRST, "changed": FIRST[:20] + bytes([FIRST[20] ^ 1]) + FIRST[21:], "137": b"TFJ1\n" + record_text(3, b"a", push_content(b"", S2)) + PUSH,
     "130": b"TFJ2\n" + base_text(0, []) + FIRST[5:], "92": b"TFJ2\n" + base_text(2, [(b"a", B, S1)]),
+    "163": b"TFJ2\n" + base_text(0, []) + PUSH + record_text(3, b"a", push_content(b"", S2)),
 }
 OPENINGS = """
 104 104: made at 2, 130 bytes
@@ -78,11 +79,16 @@ changed 104: Damaged(5), 0 bytes
 92 92: made at 2, 92 bytes
 92 5: TornBase, 0 bytes
 92 50: TornBase, 0 bytes
-92 91: TornBase, 0 bytes"""
+92 91: TornBase, 0 bytes
+163 31: made at 0, 31 bytes
+163 81: made at 0, 31 bytes
+163 97: made at 1, 97 bytes
+163 147: made at 1, 97 bytes
+163 163: made at 2, 163 bytes"""
 
 
 def check_journals_of_both_formats_are_opened():
-    expect([len(text) for text in JOURNALS.values()], [104, 104, 137, 130, 92])
+    expect([len(text) for text in JOURNALS.values()], [104, 104, 137, 130, 92, 163])
     for row in OPENINGS.split("\n")[1:]:
         given, wanted = row.split(": ")
         length, count = given.split()

@@ -1,5 +1,6 @@
 //! Conversations over a table, whose reader or writer does what no file or socket does at will.
 
+use crate::readers::Pieces;
 use crate::texts::{DONE, PUSH_AND_READ, REPLIES, S1, reply_of, request_of};
 use std::alloc::Global;
 use std::io;
@@ -7,44 +8,6 @@ use std::process::Abort;
 use tfs_conversation::{Ended, Reads, ServeFault, Watched, converse_over_table};
 use tfs_records::Discard;
 use tfs_table::Table;
-
-/// Gives its bytes in reads of at most so many, and then tells its end, or fails. It counts the reads, and keeps whether it told its end.
-#[derive(Drop)]
-struct Pieces<'i> {
-    rest: &'i [u8],
-    most: usize,
-    fails: bool,
-    calls: u64,
-    told_end: bool,
-}
-
-impl<'i> Pieces<'i> {
-    /// Nothing was read of these bytes.
-    fn new(rest: &'i [u8], most: usize, fails: bool) -> Pieces<'i> {
-        Pieces {
-            rest,
-            most,
-            fails,
-            calls: 0,
-            told_end: false,
-        }
-    }
-}
-
-impl<'i> io::Read for Pieces<'i> {
-    fn read(&mut self, buf: &mut [u8]) -> io::Result<usize> {
-        self.calls = self.calls.saturating_add(1);
-        if self.fails && self.rest.is_empty() {
-            return Err(io::Error::from(io::ErrorKind::ConnectionReset));
-        }
-        let count = self.most.min(buf.len()).min(self.rest.len());
-        let (piece, rest) = self.rest.split_at(count);
-        buf[..count].copy_from_slice(piece);
-        self.rest = rest;
-        self.told_end = count == 0;
-        Ok(count)
-    }
-}
 
 /// Wants these bytes. It takes at most so many a call, as long as it has room, and then none without an error. It counts the writes, and
 /// keeps whether it was given other bytes.

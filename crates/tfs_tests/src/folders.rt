@@ -3,7 +3,7 @@
 
 use crate::journals::{front_of, journal_bytes};
 use crate::lines::{Judge, expect_lines, expect_text, expect_that, expect_words, number_in, split};
-use crate::pieces::Pieces;
+use crate::readers::Pieces;
 use std::alloc::{AllocError, Global};
 use std::process::Abort;
 use tfs_folder::{
@@ -66,11 +66,7 @@ fn readers_of<'f>(
     let mut readers = Vec::new(rt.alloc());
     for file in files {
         if let Some(number) = number_of(file.name()) {
-            let reader = Pieces {
-                rest: file.bytes(),
-                most,
-                fails: number == failing,
-            };
+            let reader = Pieces::new(file.bytes(), most, number == failing);
             let reader = JournalReader { number, reader };
             readers.push(reader).ok().expect(rt, "memory");
         }

@@ -72,10 +72,18 @@ fn chosen_of(rt: &(impl Alloc<A = Global> + Abort), numbers: &[usize]) -> Chosen
     Chosen::new(Vec::from_slice(rt.alloc(), numbers).expect(rt, "memory"))
 }
 
+/// The first of three instances reaches the last one, which reaches none.
+fn is_chain(rt: &impl Abort, version: &Version) {
+    assert!(rt; version.doc().len() == 3);
+    assert!(rt; version.reaches(0, 2) && !version.reaches(2, 0));
+}
+
 #[test]
 fn a_number_of_no_instance_is_left_out(rt: HostRuntime) {
+    let version = version_of(&rt, CHAIN);
+    is_chain(&rt, &version);
     let reply = Reply::Impact(Impact {
-        version: version_of(&rt, CHAIN),
+        version,
         chosen: chosen_of(&rt, &[2, 3, 0]),
         position: 18_446_744_073_709_551_615,
     });

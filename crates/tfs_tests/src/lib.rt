@@ -1,9 +1,7 @@
-//! Tests of the crates below the programs, through what they offer: planes, journals, tables and folders, whose cases stand as lines of
+//! Tests of the crates below the programs, through what they offer: planes, journals and folders, whose cases stand as lines of
 //! a text where they are many; requests, replies, conversations and shared tables. What is wanted is written by hand.
 #![tactic(auto)]
 
-#[cfg(test)]
-mod ample;
 #[cfg(test)]
 mod closed;
 #[cfg(test)]
@@ -25,17 +23,17 @@ mod helpers;
 #[cfg(test)]
 mod http;
 #[cfg(test)]
+mod idle;
+#[cfg(test)]
 mod journals;
 #[cfg(test)]
-mod limits;
-#[cfg(test)]
 mod lines;
-#[cfg(test)]
-mod opened;
 #[cfg(test)]
 mod pieces;
 #[cfg(test)]
 mod planes;
+#[cfg(test)]
+mod readers;
 #[cfg(test)]
 mod refusals;
 #[cfg(test)]
@@ -47,11 +45,11 @@ mod shared;
 #[cfg(test)]
 mod sinks;
 #[cfg(test)]
+mod stopped;
+#[cfg(test)]
 mod surface;
 #[cfg(test)]
 mod syncs;
-#[cfg(test)]
-mod tables;
 #[cfg(test)]
 mod texts;
 #[cfg(test)]

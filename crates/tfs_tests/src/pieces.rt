@@ -4,8 +4,8 @@ ghost use Rattle.std.specs.Prelude.{◌≡◌, [], false};
 
 use crate::journals::{journal_bytes, push_base, push_read, push_records};
 use crate::lines::{expect_at, expect_that, expect_words};
+use crate::readers::Pieces;
 use std::alloc::{AllocError, Global};
-use std::io;
 use std::process::Abort;
 use tfs_journal::{End, decode};
 use tfs_records::MemorySink;
@@ -13,34 +13,9 @@ use tfs_replay::rebase_from;
 use tfs_stream::{Buffer, Watched, read_front, read_more};
 use tfs_table::{OpenFault, Table};
 
-/// Gives its bytes in reads of at most so many, and then fails, or ends.
-#[derive(Drop)]
-pub(crate) struct Pieces<'b> {
-    pub(crate) rest: &'b [u8],
-    pub(crate) most: usize,
-    pub(crate) fails: bool,
-}
-
-impl<'b> io::Read for Pieces<'b> {
-    fn read(&mut self, buf: &mut [u8]) -> io::Result<usize> {
-        if self.fails && self.rest.is_empty() {
-            return Err(io::Error::from(io::ErrorKind::ConnectionReset));
-        }
-        let count = self.most.min(buf.len()).min(self.rest.len());
-        let (piece, rest) = self.rest.split_at(count);
-        buf[..count].copy_from_slice(piece);
-        self.rest = rest;
-        Ok(count)
-    }
-}
-
 /// A source of these pieces.
 fn source_of(bytes: &[u8], most: usize, fails: bool) -> Watched<Pieces<'_>> {
-    Watched::new(Pieces {
-        rest: bytes,
-        most,
-        fails,
-    })
+    Watched::new(Pieces::new(bytes, most, fails))
 }
 
 /// Adds what bytes read as to a text: the format, the base and the records. Gives their end.

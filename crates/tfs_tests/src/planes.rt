@@ -62,7 +62,7 @@ fn expect_members(rt: &(impl Alloc<A = Global> + Abort), row: &Row, wanted: &[us
 #[test]
 fn a_row_is_a_set_of_numbers(rt: HostRuntime) {
     let mut row = row_of(rt.alloc(), 65, &[64]).expect(&rt, "memory");
-    assert!(rt; row.size() == 65);
+    assert!(rt; row.size() == 65 && row.get(64));
     expect_members(&rt, &row, &[64]);
     row.union_with(&row_of(rt.alloc(), 65, &[64, 0]).expect(&rt, "memory"));
     expect_members(&rt, &row, &[0, 64]);
@@ -120,6 +120,16 @@ fn plane_of(alloc: Global, size: usize, pairs: &[(usize, usize)]) -> Result<Plan
         relate(&mut plane, *i, *j);
     }
     Ok(plane)
+}
+
+#[test]
+fn a_closed_plane_has_the_walks(rt: HostRuntime) {
+    let mut plane = plane_of(rt.alloc(), 3, &[(0, 1), (1, 2)]).expect(&rt, "memory");
+    plane.close();
+    assert!(rt; plane.get(0, 2) && !plane.get(2, 0));
+    let mut row = Row::new(rt.alloc(), 3).expect(&rt, "memory");
+    plane.row_into(0, &mut row);
+    expect_members(&rt, &row, &[1, 2]);
 }
 
 #[test]

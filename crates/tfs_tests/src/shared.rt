@@ -3,8 +3,8 @@
 ghost use Rattle.std.specs.Prelude.{◌≡◌, ◌≤◌, [], IfSome};
 
 use crate::drafts::{name_of, push_of};
+use crate::idle::worked;
 use crate::sessions::{accepted_by, refuses, turns};
-use crate::surface::sessions::worked;
 use crate::waiting::ask_meanwhile;
 use crate::workers::meet;
 use std::alloc::Global;
@@ -30,7 +30,7 @@ pub(crate) enum Scene<'f> {
     Refuses,
     /// The first session's change waits in the sink until the second one was answered.
     Waits(&'f AtomicU64),
-    /// Each session makes each call once, and works for nobody, alone and as a worker of this listener.
+    /// Each session is asked through a desk, and works for nobody, alone and as a worker of this listener.
     Works(&'f TcpListener),
     /// Each session works over one connection of this listener, and waits for the request of the other one.
     Meets(&'f TcpListener),
