@@ -141,6 +141,18 @@ def check_each_byte_of_the_journal_may_be_the_last():
     expect(run("serve", "127.0.0.1:0", "1", fresh(), preexec_fn=limited(30)), (b"", 1, b"tfstated: SinkFault\n"))
 
 
+def check_a_journal_is_opened_where_its_file_holds_all_of_it():
+    record = record_text(1, b"a", b'{"ID":"B"}')
+    old = fresh(b"TFJ1\n" + record_text(3, b"a", push_content(b"", S1)) + record)
+    expect((len(Path(old).read_bytes()), len(JOURNAL + record)), (104, 130))
+    for size in (0, 50, 100, 129):
+        ran = run("serve", "127.0.0.1:0", "1", fresh(), old, preexec_fn=limited(size))
+        expect(ran, (b"", 1, b"tfstated: SinkFault\n"), f"{size} bytes")
+    server = Server(workers=1, old=old, preexec_fn=limited(130))
+    expect(server.ask("GET", "/state/a"), (200, S1))
+    expect(server.kill(), JOURNAL + record, "the new journal has the text of format 2")
+
+
 def check_a_stopped_table_reads_and_takes_no_change():
     server = Server(workers=1, preexec_fn=limited(147))
     fault, stopped = (500, b'{"error":"JournalFault"}'), (503, b'{"error":"JournalStopped"}')

@@ -69,6 +69,7 @@ def check_old_journals_are_gone_on_with_or_refused():
     expect(first.ask("POST", "/state/a", S1), (200, b""))
     expect(first.ask("LOCK", "/state/a", B), (200, b""))
     whole = first.kill()
+    expect((len(whole), [entry[:2] for entry in entries_of(whole)]), (130, [("push", "a"), ("lock", "a")]))
     address = f"{LOOPBACK}:{free_port()}"
     changed = whole[:40] + bytes([whole[40] ^ 1]) + whole[41:]
     expect(run("serve", address, "1", fresh(), fresh(changed)), fault("Damaged", 4))

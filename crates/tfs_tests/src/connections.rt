@@ -3,24 +3,20 @@
 use std::alloc::Global;
 use std::io;
 use std::io::Write;
-use std::net::{Net, SocketAddr, TcpListener, TcpStream};
+use std::net::{Net, TcpListener, TcpStream};
 use std::process::Abort;
 
 /// A connection to a listener, on which requests were sent.
 pub(crate) fn asking<R: Abort + Net<Stream = TcpStream>>(
     rt: &R,
-    address: SocketAddr,
+    listener: &TcpListener,
     requests: &str,
 ) -> TcpStream {
+    let address = listener.local_addr().ok().expect(rt, "an address");
     let stream = TcpStream::connect(rt, address);
     let mut stream = stream.ok().expect(rt, "a connection");
-    send(rt, &mut stream, requests);
-    stream
-}
-
-/// Sends requests on a connection.
-fn send(rt: &impl Abort, stream: &mut TcpStream, requests: &str) {
     assert!(rt; stream.write_all(requests.as_bytes()).is_ok());
+    stream
 }
 
 /// These replies come on a connection, and then its end.
@@ -35,9 +31,4 @@ pub(crate) fn listener_of<R: Abort + Net<Stream = TcpStream, Listener = TcpListe
 ) -> TcpListener {
     let listener = TcpListener::bind(rt, "127.0.0.1:0");
     listener.ok().expect(rt, "a listener")
-}
-
-/// The address of a listener.
-pub(crate) fn address_of(rt: &impl Abort, listener: &TcpListener) -> SocketAddr {
-    listener.local_addr().ok().expect(rt, "an address")
 }

@@ -1,11 +1,13 @@
 //! Conversations over a table, whose reader or writer does what no file or socket does at will.
 
+use crate::drafts::name_of;
 use crate::readers::Pieces;
-use crate::texts::{DONE, PUSH_AND_READ, REPLIES, S1, reply_of, request_of};
+use crate::texts::{DONE, PUSH_AND_READ, REPLIES, S1};
 use std::alloc::Global;
 use std::io;
 use std::process::Abort;
-use tfs_conversation::{Ended, Reads, ServeFault, Watched, converse_over_table};
+use tfs_calls::{Call, Refusal, Reply};
+use tfs_conversation::{Desk, Ended, Reads, ServeFault, TableDesk, Watched, converse_over_table};
 use tfs_records::Discard;
 use tfs_table::Table;
 
@@ -80,13 +82,11 @@ fn calls_of(
     let mut writer = Watched::new(Taking::new(replies.as_bytes(), usize::MAX, usize::MAX));
     let (ended, reads, _) = talk(rt, &mut reader, &mut writer);
     assert!(rt; ended == Ok(end) && writer.inner.has_all(), "{most}");
-    is_read(rt, &reader.inner, reads);
+    assert!(rt;
+        reads == reader.inner.calls && reader.inner.told_end,
+        "{most}"
+    );
     (reads, writer.inner.calls)
-}
-
-/// A reader has told its end, after so many reads.
-fn is_read(rt: &impl Abort, reader: &Pieces<'_>, reads: u64) {
-    assert!(rt; reads == reader.calls && reader.told_end, "{}", reader.most);
 }
 
 /// The push and the read, which come in reads of at most so many bytes, take so many reads, and each reply one write.
@@ -138,40 +138,26 @@ fn a_writer_that_takes_nothing_more_has_a_front_of_the_replies(rt: HostRuntime) 
     }
 }
 
-/// S1 and spaces, 200,000 bytes together.
-fn long_state(rt: &(impl Alloc<A = Global> + Abort)) -> String {
-    let blanks = " ".repeat(rt.alloc(), 199_959).expect(rt, "memory");
-    format!(in rt.alloc(); "{S1}{blanks}").expect(rt, "memory")
-}
-
-/// A push of a state to `a`, and a read of `a`.
-fn push_and_read(rt: &(impl Alloc<A = Global> + Abort), state: &str) -> String {
-    let mut input = request_of(rt, "POST", "/state/a", state);
-    let read = "GET /state/a HTTP/1.1\r\nHost: h\r\n\r\n";
-    input.push_str(read).expect(rt, "memory");
-    input
-}
-
-/// The replies to them.
-fn replies_to(rt: &(impl Alloc<A = Global> + Abort), state: &str) -> String {
-    let reply = reply_of(rt, state);
-    format!(in rt.alloc(); "{DONE}{reply}").expect(rt, "memory")
-}
-
 #[test]
 fn a_long_state_is_written_in_pieces(rt: HostRuntime) {
-    is_in_pieces(&rt, long_state(&rt).as_str());
+    let blanks = " ".repeat(rt.alloc(), 199_959).expect(&rt, "memory");
+    is_in_pieces(&rt, blanks.as_str());
 }
 
-/// The replies to the push and the read of a state are taken in pieces of 1,000 bytes.
-fn is_in_pieces(rt: &(impl Alloc<A = Global> + Abort), state: &str) {
-    let input = push_and_read(rt, state);
-    let replies = replies_to(rt, state);
+/// The replies to the push and the read of S1 with spaces, 200,000 bytes together, are taken in pieces of 1,000 bytes.
+fn is_in_pieces(rt: &(impl Alloc<A = Global> + Abort), blanks: &str) {
+    let input = format!(in rt.alloc();
+        "POST /state/a HTTP/1.1\r\nHost: h\r\nContent-Length: 200000\r\n\r\n{S1}{blanks}\
+GET /state/a HTTP/1.1\r\nHost: h\r\n\r\n"
+    );
+    let replies = format!(in rt.alloc();
+        "{DONE}HTTP/1.1 200 OK\r\nContent-Type: application/json\r\nContent-Length: 200000\r\n\r\n{S1}{blanks}"
+    );
     is_taken(
         rt,
-        input.as_str(),
+        input.expect(rt, "memory").as_str(),
         (1_000, usize::MAX),
-        replies.as_bytes(),
+        replies.expect(rt, "memory").as_bytes(),
         Ok(Ended::Clean),
     );
 }
@@ -204,4 +190,15 @@ fn a_reader_that_fails_behind_a_message_leaves_its_reply(rt: HostRuntime) {
         };
         leaves(&rt, (count, 1), written);
     }
+}
+
+#[test]
+fn a_desk_over_a_table_answers(rt: HostRuntime) {
+    let mut table = Table::new(rt.alloc(), Discard).ok().expect(&rt, "a table");
+    let mut desk = TableDesk {
+        alloc: rt.alloc(),
+        table: &mut table,
+    };
+    let reply = desk.answer(Call::Read(name_of(&rt)));
+    assert!(rt; matches!(reply, Reply::Refused(Refusal::NoState)));
 }

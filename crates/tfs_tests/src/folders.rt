@@ -94,15 +94,6 @@ fn no_choice_words(alloc: Global, why: NoChoice) -> Result<String, AllocError> {
     }
 }
 
-/// Compares the choice of whole files with a line's.
-fn expect_choice(rt: &(impl Alloc<A = Global> + Abort), words: &str, least: u64, wanted: &str) {
-    expect_words(
-        rt,
-        choice_of(rt.alloc(), files_of(rt, words), least),
-        wanted,
-    );
-}
-
 /// The number of no file.
 const NONE: u64 = u64::MAX;
 
@@ -113,7 +104,11 @@ impl Judge for Choices {
     fn judge(rt: &(impl Alloc<A = Global> + Abort), given: &str, wanted: &str) {
         let (least, words) = split(given);
         let least = number_in(rt, least);
-        expect_choice(rt, words, least, wanted);
+        expect_words(
+            rt,
+            choice_of(rt.alloc(), files_of(rt, words), least),
+            wanted,
+        );
         let most = given.len().wrapping_add(3).wrapping_add(wanted.len()) % 97 + 1;
         let files = files_of(rt, words);
         let readers = readers_of(rt, files.as_slice(), most, NONE);
@@ -206,16 +201,12 @@ const OF_ONE_BASE: &str = "1:104:104
 1:104:104 2:92:50
 1:104:104 2:92:92";
 
-/// Compares the bytes of the sink of what goes on from each folder's choice.
-fn expect_one_base(rt: &(impl Alloc<A = Global> + Abort), wanted: &[u8]) {
-    for words in OF_ONE_BASE.lines() {
-        expect_going_on(rt, words, wanted);
-    }
-}
-
 #[test]
 fn the_next_journal_has_the_base_of_the_chosen_one(rt: HostRuntime) {
-    expect_one_base(&rt, journal_bytes(&rt, "92").as_slice());
+    let wanted = journal_bytes(&rt, "92");
+    for words in OF_ONE_BASE.lines() {
+        expect_going_on(&rt, words, wanted.as_slice());
+    }
     assert!(rt; going_on(&rt, "1:104:104", 0).err() == Some(OpenFault::SinkFault));
 }
 

@@ -9,16 +9,11 @@ use tfs_http::{Routes, call_of, write_reply};
 use tfs_index::Version;
 use tfs_state::{Doc, MAX_STATE_BYTES};
 
-/// A read of this target.
-fn read_of(rt: &(impl Alloc<A = Global> + Abort), target: &[u8]) -> Request {
-    let body = Vec::new(rt.alloc());
-    let request = Request::new(rt.alloc(), b"GET", target, body);
-    request.ok().expect(rt, "memory")
-}
-
 /// A read of this target has no route.
 fn has_no_route(rt: &(impl Alloc<A = Global> + Abort), routes: &Routes, target: &[u8]) {
-    let refusal = call_of(rt.alloc(), routes, read_of(rt, target)).err();
+    let request = Request::new(rt.alloc(), b"GET", target, Vec::new(rt.alloc()));
+    let request = request.ok().expect(rt, "memory");
+    let refusal = call_of(rt.alloc(), routes, request).err();
     assert!(rt; matches!(refusal, Some(Refusal::NoRoute)));
 }
 
@@ -54,22 +49,12 @@ const CHAIN: &str = "{\"version\":4,\"serial\":2,\"lineage\":\"L\",\"resources\"
 
 /// The version of a state.
 fn version_of(rt: &(impl Alloc<A = Global> + Abort), text: &str) -> Arc<Version> {
-    let version = Version::build(rt.alloc(), doc_of(rt, text));
-    let version = version.ok().expect(rt, "memory");
-    Arc::new(rt.alloc(), version).ok().expect(rt, "memory")
-}
-
-/// The document of a state.
-fn doc_of(rt: &(impl Alloc<A = Global> + Abort), text: &str) -> Arc<Doc> {
     assert!(rt; text.len() <= MAX_STATE_BYTES);
     let bytes = text.as_bytes().to_vec(rt.alloc()).expect(rt, "memory");
     let doc = Doc::read(rt.alloc(), bytes).ok().expect(rt, "a state");
-    Arc::new(rt.alloc(), doc).ok().expect(rt, "memory")
-}
-
-/// The instances of these numbers.
-fn chosen_of(rt: &(impl Alloc<A = Global> + Abort), numbers: &[usize]) -> Chosen {
-    Chosen::new(Vec::from_slice(rt.alloc(), numbers).expect(rt, "memory"))
+    let doc = Arc::new(rt.alloc(), doc).ok().expect(rt, "memory");
+    let version = Version::build(rt.alloc(), doc).ok().expect(rt, "memory");
+    Arc::new(rt.alloc(), version).ok().expect(rt, "memory")
 }
 
 /// The first of three instances reaches the last one, which reaches none.
@@ -82,9 +67,10 @@ fn is_chain(rt: &impl Abort, version: &Version) {
 fn a_number_of_no_instance_is_left_out(rt: HostRuntime) {
     let version = version_of(&rt, CHAIN);
     is_chain(&rt, &version);
+    let chosen = Vec::from_slice(rt.alloc(), &[2, 3, 0]).expect(&rt, "memory");
     let reply = Reply::Impact(Impact {
         version,
-        chosen: chosen_of(&rt, &[2, 3, 0]),
+        chosen: Chosen::new(chosen),
         position: 18_446_744_073_709_551_615,
     });
     let text = "HTTP/1.1 200 OK\r\nConnection: close\r\nContent-Type: application/json\r\n\

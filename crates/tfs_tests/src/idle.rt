@@ -25,17 +25,21 @@ fn sessions_whose_gates_admit_nobody_end_their_work(rt: HostRuntime) {
     assert!(rt; played(&rt, new_table(&rt), 1, scene) == 0);
 }
 
-/// A call through a desk behind a gate.
-fn asks<J: Naming, K: Sink, R: Wait + Abort + Alloc<A = Global>>(
+/// The reply to a read through a desk behind a gate.
+fn asked<J: Naming, K: Sink, R: Wait + Abort + Alloc<A = Global>>(
     rt: &R,
     service: &Service<'_, J, K, R>,
     session: &mut Session<J>,
-) {
+) -> Reply {
     let mut gated = Gated {
         desk: SessionDesk { service, session },
         gate: &mut Shut,
     };
-    let reply = gated.answer(Call::Read(name_of(rt)));
+    gated.answer(Call::Read(name_of(rt)))
+}
+
+/// A reply is the refusal that there is no state.
+fn is_no_state(rt: &impl Abort, reply: Reply) {
     assert!(rt; matches!(reply, Reply::Refused(Refusal::NoState)));
 }
 
@@ -58,7 +62,7 @@ fn works<J: Naming, K: Sink, R: Wait + Clock + Abort + Alloc<A = Global>>(
         muted: &never,
         load: &load,
     };
-    asks(rt, &service, session);
+    is_no_state(rt, asked(rt, &service, session));
     assert!(rt; work(&service, listener, &mut Shut, session) == Ok(()));
 }
 

@@ -12,14 +12,9 @@ pub(crate) trait Judge {
 /// Judges each line of a table.
 pub(crate) fn expect_lines<J: Judge>(rt: &(impl Alloc<A = Global> + Abort), lines: &str) {
     for line in lines.lines() {
-        let (given, wanted) = parts_of(rt, line);
+        let (given, wanted) = line.split_once(" = ").expect(rt, "a line has two parts");
         J::judge(rt, given, wanted);
     }
-}
-
-/// What a line gives, and what is wanted of it.
-pub(crate) fn parts_of<'t>(rt: &impl Abort, line: &'t str) -> (&'t str, &'t str) {
-    line.split_once(" = ").expect(rt, "a line has two parts")
 }
 
 /// A word, and what follows it behind a space.

@@ -6,7 +6,7 @@ use std::io;
 #[derive(Drop)]
 pub(crate) struct Pieces<'i> {
     rest: &'i [u8],
-    pub(crate) most: usize,
+    most: usize,
     fails: bool,
     pub(crate) calls: u64,
     pub(crate) told_end: bool,

@@ -1,6 +1,6 @@
 //! What sessions of a shared table are answered. No call is refused: no copy is behind or has lost its version.
 
-use crate::drafts::{chain_of, circle, lock_of, name_of, push_of, query_of};
+use crate::drafts::{chain_of, circle, name_of, push_of, query_of};
 use std::alloc::Global;
 use std::process::Abort;
 use std::sync::Wait;
@@ -16,16 +16,6 @@ fn push<J: Naming, K: Sink, R: Wait + Abort + Alloc<A = Global>>(
     serial: u64,
 ) -> Option<u64> {
     let draft = push_of(rt, serial);
-    session.submit(rt, shared, name_of(rt), draft).ok()
-}
-
-/// The position of a lock by `B`, where it is accepted.
-pub(crate) fn lock<J: Naming, K: Sink, R: Wait + Abort + Alloc<A = Global>>(
-    rt: &R,
-    shared: &Shared<J, K>,
-    session: &mut Session<J>,
-) -> Option<u64> {
-    let draft = lock_of(rt);
     session.submit(rt, shared, name_of(rt), draft).ok()
 }
 
@@ -70,26 +60,17 @@ pub(crate) fn ask<J: Naming, K: Sink, R: Abort + Alloc<A = Global>>(
     (answer.position, answer.version.doc().serial())
 }
 
-/// Each call once: a push of the state that is there, a read and a query.
-fn call_once<J: Naming, K: Sink, R: Wait + Abort + Alloc<A = Global>>(
-    rt: &R,
-    shared: &Shared<J, K>,
-    session: &mut Session<J>,
-) {
-    assert!(rt; push(rt, shared, session, 1).is_some());
-    assert!(rt; read(rt, shared, session) == 1);
-    let (position, serial) = ask(rt, shared, session, Kind::Any);
-    assert!(rt; position == session.seen() && serial == 1);
-}
-
-/// Each session makes each call once, one session after another.
+/// Each session makes each call once, one session after another: a push of the state that is there, a read and a query.
 pub(crate) fn turns<J: Naming, K: Sink, R: Wait + Abort + Alloc<A = Global>>(
     rt: &R,
     shared: &Shared<J, K>,
     sessions: &mut [Session<J>],
 ) {
     for session in sessions {
-        call_once(rt, shared, session);
+        assert!(rt; push(rt, shared, session, 1).is_some());
+        assert!(rt; read(rt, shared, session) == 1);
+        let (position, serial) = ask(rt, shared, session, Kind::Any);
+        assert!(rt; position == session.seen() && serial == 1);
     }
 }
 

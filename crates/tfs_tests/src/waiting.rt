@@ -1,6 +1,7 @@
 //! What a session is answered while another one's change is inside the sink.
 
-use crate::sessions::{ask, lock, read, read_published};
+use crate::drafts::{lock_of, name_of};
+use crate::sessions::{ask, read, read_published};
 use crate::shared::{Scene, played, table_of};
 use std::alloc::Global;
 use std::process::Abort;
@@ -101,7 +102,8 @@ fn change<J: Naming, K: Sink, R: Wait + Abort + Alloc<A = Global>>(
     shared: &Shared<J, K>,
     session: &mut Session<J>,
 ) {
-    assert!(rt; lock(rt, shared, session) == Some(2));
+    let locked = session.submit(rt, shared, name_of(rt), lock_of(rt));
+    assert!(rt; locked.ok() == Some(2));
 }
 
 /// The second session's query and its read of a copy, which are answered while the sink waits; then it lets that go on. A read sees the

@@ -1,6 +1,6 @@
 //! Workers of a shared table, over connections on the loopback.
 
-use crate::connections::{address_of, asking, is_answered, listener_of};
+use crate::connections::{asking, is_answered, listener_of};
 use crate::shared::{Scene, played, table_of};
 use std::alloc::Global;
 use std::net::TcpListener;
@@ -72,8 +72,8 @@ impl<'m, R: Clock> Gate for Meeting<'m, R> {
 #[test]
 fn two_workers_hold_their_requests_at_once(rt: HostRuntime) -> Result<(), Fail> {
     let listener = listener_of(&rt);
-    let one = asking(&rt, address_of(&rt, &listener), REQUEST);
-    let other = asking(&rt, address_of(&rt, &listener), REQUEST);
+    let one = asking(&rt, &listener, REQUEST);
+    let other = asking(&rt, &listener, REQUEST);
     let scene = Scene::Meets(&listener);
     assert!(rt; played(&rt, table_of(&rt, Discard, 2), 2, scene) == 1);
     is_answered(&rt, one, REPLY);
