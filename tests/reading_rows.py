@@ -173,6 +173,7 @@ false
 # One resource each, with one instance, and its line.
 MODULES = r'''[{"mode":"data","type":"t","name":"n","instances":[{}]}] => data.t.n of data.t.n:
 [{"module":null,"mode":"data","type":"t","name":"n","instances":[{}]}] => data.t.n of data.t.n:
+[{"mode":"data","type":"t","name":"n","instances":[{"index_key":0,"deposed":"ab12"}]}] => data.t.n[0] (deposed ab12) of data.t.n:
 [{"module":"","mode":"managed","type":"t","name":"n","instances":[{}]}] => t.n of t.n:
 [{"module":"module.m[\"p.q]\"]","mode":"managed","type":"t","name":"n","instances":[{}]}] => module.m["p.q]"].t.n of module.m.t.n:
 [{"module":"module.m[7]","mode":"data","type":"t","name":"n","instances":[{}]}] => module.m[7].data.t.n of module.m.data.t.n:
