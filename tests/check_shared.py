@@ -142,7 +142,7 @@ def check_a_shared_table_asks_for_memory_hardly_more_often_than_one_alone():
     for count in (1, 300, 4096):
         state = chain(count)
         for more, request in ((0, ("GET", "/state/a", b"")), (0, QUERY), (MORE_OF_A_PUSH, ("POST", "/state/a", state))):
-            shared, alone = (once - twice for once, twice in zip(requests_of(state, request, 20), requests_of(state, request, 10)))
+            shared, alone = (of_twenty - of_ten for of_twenty, of_ten in zip(requests_of(state, request, 20), requests_of(state, request, 10)))
             expect(shared - alone <= 10 * more + MORE_IN_ALL, True, f"{request[:2]} of {count}: {shared} and {alone} requests of ten")
 
 
