@@ -2,9 +2,8 @@
 or made twice over.
 
 A contract can't tell a refused request for memory, or a read that failed, from one that was never made. So each place that makes such a
-fault stands in tests/fault_places.txt with what it passes on, and any other place is listed here. Room is asked for by a length or by a
-constant with a name: a number that is written there, or the highest of its type, could be one that no machine has. `set_len`,
-`File::create(` and `try_clone` stand nowhere in src/, since no contract says what they do to a file."""
+fault stands in tests/fault_places.txt with what it passes on, and any other place is listed here. tests/room_requests.py looks at the
+requests themselves. `set_len`, `File::create(` and `try_clone` stand nowhere in src/, since no contract says what they do to a file."""
 import re
 
 from repository import TOP
@@ -15,7 +14,7 @@ FAULT = re.compile(
     r"\b(?!ErrorKind)\w+::(?:Source|OutOfMemory|NoMemory|SinkFault|SyncFault|NoCopy|NoPlace|JournalFault|JournalStopped|AcceptFault|Lost|Unplaced)\b"
     rf"|{BEFORE}(?:AllocError|SinkFault|SyncFault|AcceptFault|LentFault|OutOfMemory|NoMemory|NoCopy|NoPlace|JournalFault|JournalStopped)\b"
 )
-CALLS = re.compile(r"\bset_len\b|\bFile::create\(|\btry_clone\b|\b(?:with_capacity|reserve|reserve_exact|resize)\(.*(?:<<|\b\d\d|\b\d_|\b[iu]\w+::MAX\b)")
+CALLS = re.compile(r"\bset_len\b|\bFile::create\(|\btry_clone\b")
 FUNCTION = re.compile(r"^\s*(?:pub(?:\([a-z]+\))? )?(?:const )?(?:unsafe )?fn (\w+)")
 LEFT_OUT = ("tfs_tests", "tfs_bench", "tfs_probe")
 
@@ -67,7 +66,7 @@ def listed_places():
 
 
 def wrong_calls():
-    """Calls in src/ that empty a file or make one twice over, or ask for room for a number without a name."""
+    """Calls in src/ that empty a file or make one twice over."""
     for path in sources():
         for function, line in code_lines(path.read_text(encoding="utf-8")):
             if CALLS.search(line):

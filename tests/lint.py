@@ -1,5 +1,5 @@
 """Reads all Python and shell files of the repository for faults, without running them, and looks where the library's code makes faults
-of memory and of sinks. The last line is `N passed, M failed`, of three: Python, shell, and those places."""
+of memory and of sinks and requests room. The last line is `N passed, M failed`, of four: Python, shell, those places, and those requests."""
 import importlib.util
 import os
 import shutil
@@ -10,6 +10,7 @@ from pathlib import Path
 
 from fault_places import unlisted
 from repository import TOP
+from room_requests import wrong_requests
 
 MADE = {".git", "out", "__pycache__"}
 
@@ -75,9 +76,15 @@ def makes_listed_faults():
     return not wrong
 
 
+def asks_for_plain_room():
+    wrong = list(wrong_requests())
+    print("lint: requests for room, by tests/room_requests.py", *wrong, sep="\n", flush=True)
+    return not wrong
+
+
 def main():
     found = files()
-    results = [is_good_python(found[".py"]), is_good_shell(found[".sh"]), makes_listed_faults()]
+    results = [is_good_python(found[".py"]), is_good_shell(found[".sh"]), makes_listed_faults(), asks_for_plain_room()]
     print(f"{results.count(True)} passed, {results.count(False)} failed", flush=True)
     return 0 if all(results) else 1
 

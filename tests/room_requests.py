@@ -1,0 +1,104 @@
+"""Requests for room in src/ that no machine may grant. A contract can't tell a refused request from one that asks for too much, so a body
+that gives up for one length would pass. The room of a request is one length, one constant or one name, or a sum of these. In its
+function nothing is multiplied or shifted, and no length is compared with a number. Its constants are at most 32 MiB."""
+import re
+
+from fault_places import code_lines, sources
+from repository import TOP
+
+MOST = 1 << 25
+REQUEST = re.compile(r"\b(?:with_capacity|try_reserve|try_reserve_exact|reserve|reserve_exact|resize|repeat)\(|\bvec!\[in ")
+TERM = re.compile(r"1|[A-Za-z_]\w*(?:(?:\.|::)\w+)*(?:\(\w*\))?(?:\.len\(\))?")
+CONSTANT = re.compile(r"\bconst ([A-Z][A-Z0-9_]*): \w+ = ([^;{}]+);")
+NAMES = re.compile(r"\b[A-Z][A-Z0-9_]+\b(?!\.len\(\))")
+PRODUCT = re.compile(r"[\w.)\]]+ (?:\*|<<) \S+|\b\w*(?:mul|pow|shl)\w*\(")
+LENGTH = r"(?:\.len\(\)|\b(?:len|length|count|size)\b)"
+NUMBER = r"(?:\d[\d_]*|[A-Z][A-Z0-9_]+)\b"
+COMPARED = re.compile(rf"{LENGTH} (?:==|!=|<=?|>=?|%) {NUMBER}|\b{NUMBER} (?:==|!=|<=?|>=?) [^&|]*{LENGTH}|\bmatch [^{{]*{LENGTH} \{{|\bmatches!\([^,]*{LENGTH},")
+
+
+def inner(text, start):
+    """What stands in the brackets that are opened before a place, and its parts between commas or semicolons."""
+    depth, parts, last = 1, [], start
+    for place in range(start, len(text)):
+        letter = text[place]
+        depth += (letter in "([{") - (letter in ")]}")
+        if depth == 0 or (depth == 1 and letter in ",;"):
+            parts.append(text[last:place].strip())
+            last = place + 1
+        if depth == 0:
+            break
+    return parts
+
+
+def rooms(body):
+    """The room of each request in the text of a function."""
+    for found in REQUEST.finditer(body):
+        parts = inner(body, found.end())
+        if found.group().startswith("vec!") or found.group().startswith("with_capacity"):
+            yield parts[-1] if parts[-1] else parts[-2]
+        else:
+            yield parts[0]
+
+
+def constants():
+    """The values of the constants of all crates, by name; of one name the highest counts."""
+    texts = {}
+    for path in sources():
+        for name, text in CONSTANT.findall(path.read_text(encoding="utf-8")):
+            texts.setdefault(name, []).append(text)
+    values = {}
+    for _ in range(4):
+        for name, all_texts in texts.items():
+            known = [value_of(text, values) for text in all_texts]
+            values[name] = None if None in known else max(known)
+    return values
+
+
+def value_of(text, values):
+    """The value of an expression of numbers and constants, or none."""
+    plain = re.sub(r"\b(?:\w+::)*([A-Z][A-Z0-9_]+)\b", lambda found: str(values.get(found.group(1))), text)
+    if not re.fullmatch(r"[\d_ +*()<\-]+", plain):
+        return None
+    return eval(plain, {"__builtins__": {}})  # pylint: disable=eval-used
+
+
+def is_plain(room):
+    """Whether a room is a sum of single lengths, constants and names; the highest number of a type is none."""
+    return "::MAX" not in room and all(TERM.fullmatch(term) for term in re.sub(r"\.saturating_add\((\w+)\)", r" + \1", room).split(" + "))
+
+
+def functions(path):
+    """The text of each function of a file, without comments and contracts."""
+    bodies = {}
+    for function, line in code_lines(path.read_text(encoding="utf-8")):
+        bodies.setdefault(function, []).append(line)
+    return {function: " ".join(lines) for function, lines in bodies.items() if function}
+
+
+def wrong_rooms(body, values):
+    """What is wrong with the requests of a function."""
+    found = list(rooms(body))
+    for room in found:
+        if not is_plain(room):
+            yield f"room for `{room}`, which is no sum of lengths, constants and names"
+        for name in NAMES.findall(room):
+            if values.get(name) is None or values[name] > MOST:
+                yield f"room for `{room}`, which is over 32 MiB or unknown"
+    if found and PRODUCT.search(body):
+        yield f"a product beside a request for room: `{PRODUCT.search(body).group()}`"
+    if found and COMPARED.search(body):
+        yield f"a length that is compared with a number beside a request for room: `{COMPARED.search(body).group()}`"
+
+
+def wrong_requests():
+    """The requests that are wrong, a line each."""
+    values = constants()
+    for path in sources():
+        for function, body in functions(path).items():
+            for wrong in wrong_rooms(body, values):
+                yield f"{path.relative_to(TOP)}: {function}: {wrong}"
+
+
+if __name__ == "__main__":
+    print(*wrong_requests(), sep="\n")
