@@ -1,13 +1,14 @@
 //! From bytes to the tree of what is kept.
 
 ghost use Rattle.std.specs.Prelude.{◌≡◌, ◌<◌, length, Some, None, Err, IfOk, IfErr, OnOk, MatchBool};
+ghost use Rattle.std.specs.Str.{IsUtf8};
 ghost use Rattle.serde_json.specs.Read.{converted};
 ghost use Rattle.json.specs.Json.{value, items, members};
 ghost use Rattle.json.specs.Value.{value_view, items_view, members_view};
 ghost use Rattle.tfs_json.specs.Kept.{is_wanted, kept, kept_items, kept_members, SpellsKept, kept_text};
 ghost use Rattle.tfs_json.specs.Taken.{PutsLast, PassesOver};
 ghost use Rattle.tfs_json.specs.Json.{json_value};
-ghost use Rattle.tfs_json.specs.declared.fault.JsonFault.TheVariants.{NotJson};
+ghost use Rattle.tfs_json.specs.declared.fault.JsonFault.TheVariants.{NotJson, NoMemory};
 
 use crate::fault::JsonFault;
 use crate::growing::push;
@@ -20,8 +21,8 @@ use std::alloc::Allocator;
 /// How deep lists and objects may nest.
 const MAX_DEPTH: usize = 127;
 
-/// What is kept of the value that the bytes spell. They spell none where the fault is `NotJson`; where it is `NoMemory` that
-/// isn't known.
+/// What is kept of the value that the bytes spell. They spell none if the fault is `NotJson`; if it is `NoMemory` that isn't known. Bytes
+/// that aren't UTF-8 are `NotJson`: no memory is requested for them.
 pub fn read_kept<'t, A: Allocator + Copy, S: Allocator>(
     alloc: A,
     bytes: &'t [u8],
@@ -29,6 +30,7 @@ pub fn read_kept<'t, A: Allocator + Copy, S: Allocator>(
 ) -> Result<Value<'t, A>, JsonFault>
     ensures ok { IfOk result (λ tree. SpellsKept bytes.now (value_view tree)) }
     ensures err { IfErr result (λ fault. fault ≡ NotJson → json_value bytes.now ≡ None) }
+    ensures memory { IfErr result (λ fault. fault ≡ NoMemory → IsUtf8 bytes.now) }
 {
     match simdutf8::compat::from_utf8(bytes) {
         Ok(text) => read_text(alloc, text, scratch),
