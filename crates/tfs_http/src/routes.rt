@@ -249,10 +249,7 @@ fn read_name(alloc: Global, part: &str) -> Result<Name, Refusal>
     ensures ok { IfOk result (λ name. name ≡ part.now) }
     ensures err { IfErr result (λ refusal. refusal ≡ OutOfMemory) }
 {
-    let Ok(text) = String::from_str(alloc, part) else {
-        return Err(Refusal::OutOfMemory);
-    };
-    match Name::read(text) {
+    match Name::read(String::from_str(alloc, part)?) {
         Some(name) => Ok(name),
         None => unreachable!(),
     }
