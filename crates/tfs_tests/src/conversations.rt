@@ -58,9 +58,9 @@ impl<'w> io::Write for Taking<'w> {
 }
 
 /// How a conversation over a new table ends, how many reads it makes, and how many entries the table has then.
-fn talk(
+fn talk<S: io::Read>(
     rt: &(impl Alloc<A = Global> + Abort),
-    reader: &mut Watched<Pieces<'_>>,
+    reader: &mut Watched<S>,
     writer: &mut Watched<Taking<'_>>,
 ) -> (Result<Ended, ServeFault>, u64, usize) {
     let mut table = Table::new(rt.alloc(), Discard).ok().expect(rt, "a table");
@@ -190,6 +190,35 @@ fn a_reader_that_fails_behind_a_message_leaves_its_reply(rt: HostRuntime) {
         };
         leaves(&rt, (count, 1), written);
     }
+}
+
+/// Gives one byte a read, without end: first its own.
+#[derive(Drop)]
+struct Endless<'i>(&'i [u8]);
+
+impl<'i> io::Read for Endless<'i> {
+    fn read(&mut self, buf: &mut [u8]) -> io::Result<usize> {
+        let (Some((byte, rest)), Some(place)) = (self.0.split_first(), buf.first_mut()) else {
+            return Ok(0);
+        };
+        *place = *byte;
+        self.0 = if rest.is_empty() {
+            b"x".as_slice()
+        } else {
+            rest
+        };
+        Ok(1)
+    }
+}
+
+#[test]
+fn a_body_whose_bytes_come_alone_ends_with_the_reads(rt: HostRuntime) {
+    let head = b"POST /state/a HTTP/1.1\r\nHost: h\r\nContent-Length: 16777216\r\n\r\n";
+    let mut reader = Watched::new(Endless(head));
+    let mut writer = Watched::new(Taking::new(b"", usize::MAX, usize::MAX));
+    let ended = talk(&rt, &mut reader, &mut writer);
+    assert!(rt; ended == (Err(ServeFault::TooManyReads), 1_048_576, 0));
+    assert!(rt; writer.inner.has_all() && writer.inner.calls == 0);
 }
 
 #[test]

@@ -50,7 +50,7 @@ pub(crate) fn circle(rt: &(impl Alloc<A = Global> + Abort)) -> Draft {
 }
 
 /// The push of a state.
-fn push_of_text(rt: &(impl Alloc<A = Global> + Abort), text: &str) -> Draft {
+pub(crate) fn push_of_text(rt: &(impl Alloc<A = Global> + Abort), text: &str) -> Draft {
     let bytes = text.as_bytes().to_vec(rt.alloc()).ok().expect(rt, "bytes");
     assert!(rt; bytes.len() <= MAX_STATE_BYTES);
     let draft = Draft::read(rt.alloc(), Raw::Push(None, Bytes::new(bytes)));

@@ -9,9 +9,13 @@ mod connections;
 #[cfg(test)]
 mod conversations;
 #[cfg(test)]
+mod crowd;
+#[cfg(test)]
 mod digests;
 #[cfg(test)]
 mod drafts;
+#[cfg(test)]
+mod faulty;
 #[cfg(test)]
 mod files;
 #[cfg(test)]
@@ -28,6 +32,8 @@ mod idle;
 mod journals;
 #[cfg(test)]
 mod lines;
+#[cfg(test)]
+mod orders;
 #[cfg(test)]
 mod pieces;
 #[cfg(test)]
@@ -50,6 +56,8 @@ mod stopped;
 mod surface;
 #[cfg(test)]
 mod syncs;
+#[cfg(test)]
+mod syncs_in_order;
 #[cfg(test)]
 mod texts;
 #[cfg(test)]

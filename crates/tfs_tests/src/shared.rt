@@ -2,6 +2,7 @@
 
 ghost use Rattle.std.specs.Prelude.{◌≡◌, ◌≤◌, [], IfSome};
 
+use crate::crowd::{follow_one, push_all, unlock_all};
 use crate::drafts::{name_of, push_of};
 use crate::idle::worked;
 use crate::sessions::{accepted_by, refuses, turns};
@@ -30,6 +31,12 @@ pub(crate) enum Scene<'f> {
     Refuses,
     /// The first session's change waits in the sink until the second one was answered.
     Waits(&'f AtomicU64),
+    /// Each session makes 100 forced unlocks.
+    Unlocks,
+    /// Each session pushes 100 serials.
+    Pushes,
+    /// The first session pushes while the second one asks.
+    Follows,
     /// Each session is asked through a desk, and works for nobody, alone and as a worker of this listener.
     Works(&'f TcpListener),
     /// Each session works over one connection of this listener, and waits for the request of the other one.
@@ -159,6 +166,9 @@ fn act<
     match scene {
         Scene::Turns => turns(rt, shared, sessions),
         Scene::Waits(flag) => ask_meanwhile(rt, shared, sessions, flag),
+        Scene::Unlocks => unlock_all(rt, shared, sessions),
+        Scene::Pushes => push_all(rt, shared, sessions),
+        Scene::Follows => follow_one(rt, shared, sessions),
         _ => match sessions {
             [first, second] => refuses(rt, shared, first, second),
             _ => panic!(rt; "two sessions"),
