@@ -1,4 +1,4 @@
-"""Requests for room in src/ that no machine may grant. A contract can't tell a refused request from one that asks for too much, so a body
+"""Requests for room in src/ that no machine may grant. A contract can't distinguish a refused request from one that asks for too much, so a body
 that gives up for one length would pass. The room of a request is one length, one constant or one name, or a sum of these. In its
 function nothing is multiplied or shifted, and no length is compared with a number. Its constants are at most 32 MiB."""
 import re
@@ -18,7 +18,7 @@ COMPARED = re.compile(rf"{LENGTH} (?:==|!=|<=?|>=?|%) {NUMBER}|\b{NUMBER} (?:==|
 
 
 def inner(text, start):
-    """What stands in the brackets that are opened before a place, and its parts between commas or semicolons."""
+    """The text of the brackets that are opened before a place, and its parts between commas or semicolons."""
     depth, parts, last = 1, [], start
     for place in range(start, len(text)):
         letter = text[place]

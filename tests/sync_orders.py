@@ -33,7 +33,7 @@ def begins(model):
 
 
 def told(model, outcome, mark, last):
-    """What comes of a thread's steps once a sync has ended, if it waits."""
+    """The steps of a thread that waits, once a sync has ended."""
     if model.has_failed:
         return {WAITS: REFUSED, LATE: EITHER}.get(outcome, outcome)
     if outcome == LATE or (outcome == WAITS and mark <= model.durable):
