@@ -29,7 +29,7 @@ def refusers():
 
 def check_each_wrong_body_is_refused_by_what_is_there():
     found, known = rows(), refusers()
-    expect(len(found) > 30, True, "rows")
+    expect(len(found) >= 20, True, "rows")
     expect([body for body, words in found if not words], [], "rows that name nothing")
     expect([(body, word) for body, words in found for word in words if word not in known], [], "names of nothing")
 
