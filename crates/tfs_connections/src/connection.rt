@@ -6,21 +6,12 @@ ghost use Rattle.std.specs.Io.KnownBytes.{ReadConsumes, WriteAppends};
 ghost use Rattle.std.specs.IoError.{error_kind};
 ghost use Rattle.tfs_connections.specs.Waiting.{is_passing};
 
-use crate::limits::{LOOK_MILLISECONDS, MAX_LOOKS};
+use crate::limits::MAX_LOOKS;
 use crate::timing::Timing;
 use std::io;
 use std::io::{ErrorKind, Read, Write};
-use std::net::TcpStream;
-use std::time::{Clock, Duration};
+use std::time::Clock;
 use tfs_conversation::{LentFault, Outlet, Source};
-
-/// Has reads and writes of a connection look up now and then, and what is written go out at once.
-pub fn limit(stream: &TcpStream) -> io::Result<()> {
-    let look = Duration::from_millis(LOOK_MILLISECONDS);
-    stream.set_read_timeout(Some(look))?;
-    stream.set_write_timeout(Some(look))?;
-    stream.set_nodelay(true)
-}
 
 /// The reading end of a connection, which tells what its stream tells. It fails where that fails, where the client takes too long, and
 /// where the conversation is to end.

@@ -2,16 +2,19 @@
 #![tactic(auto)]
 
 mod accepting;
+mod any_listener;
 mod connection;
 mod limits;
 mod load;
 mod timing;
+mod transport;
 
 pub use accepting::{
     AcceptError, AcceptFault, Listener, Listening, PAUSE_MILLISECONDS, Remedy, let_wait,
     limit_waits, remedy_of, taken,
 };
-pub use connection::{Incoming, Outgoing, limit};
+pub use any_listener::{AnyListener, AnyStream, LentListener, bind_local};
+pub use connection::{Incoming, Outgoing};
 pub use limits::{
     LOOK_MILLISECONDS, MAX_CROWDED_IDLE_MILLISECONDS, MAX_ENDING_SECONDS, MAX_IDLE_SECONDS,
     MAX_REPLY_SECONDS, MAX_REQUEST_SECONDS, MAX_WAIT_SECONDS, MAX_WAITING, REPLY_BYTES_A_SECOND,
@@ -19,3 +22,4 @@ pub use limits::{
 };
 pub use load::Load;
 pub use timing::Timing;
+pub use transport::{Connection, LentConnection};

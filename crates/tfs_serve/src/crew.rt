@@ -13,10 +13,11 @@ use crate::member::{Member, work_until};
 use crate::run::{Run, Served};
 use crate::runtime::Runtime;
 use std::alloc::{AllocError, Global};
-use std::net::{OpenListener, TcpStream};
+use std::net::OpenListener;
 use std::sync::Wait;
 use std::thread::Threads;
 use std::time::Clock;
+use tfs_connections::{AnyStream, Connection, LentListener};
 use tfs_records::Sink;
 use tfs_shared::{Naming, Session, Shared};
 use tfs_table::Table;
@@ -56,10 +57,11 @@ impl<J: Naming, G: Gate + Drop> Room<J, G> {
 /// the table alone.
 pub(crate) fn attend<
     J: Naming + Send + Sync,
-    L: OpenListener<Stream = TcpStream> + Sync + Drop,
+    L: OpenListener<Stream = S> + Sync + Drop,
     K: Sink + Send + Drop,
     G: Gate + Send + Drop,
     R: Threads + Wait + Clock + Sync,
+    S: Connection + Send + Drop,
 >(
     runtime: &Runtime<'_, R>,
     shared: Shared<J, K>,
@@ -91,7 +93,7 @@ pub(crate) fn attend<
         served,
     } = room;
     let members = filled(members, gates, sessions);
-    let members = worked(runtime, &listener, members, &shared);
+    let members = worked(runtime, &LentListener::of(&listener), members, &shared);
     let (sessions, served) = parted(members, room, served);
     match gathered(runtime.rt, shared, sessions) {
         Ok(table) => Ok(Run {
@@ -133,7 +135,7 @@ fn filled<J: Naming, G: Gate + Drop>(
 /// The members, once each has worked.
 fn worked<
     J: Naming + Send + Sync,
-    L: OpenListener<Stream = TcpStream> + Sync,
+    L: OpenListener<Stream = AnyStream> + Sync,
     K: Sink + Send,
     G: Gate + Send + Drop,
     R: Threads + Wait + Clock + Sync,

@@ -6,14 +6,14 @@ ghost use Rattle.tfs_serve.specs.Working.{HasWorked, end_of_work};
 
 use crate::gate::Gate;
 use crate::runtime::Runtime;
-use crate::serving::work;
+use crate::serving::work_over;
 use crate::session_desk::Service;
-use std::net::{OpenListener, TcpStream};
+use std::net::OpenListener;
 use std::sync::{Mutex, Wait};
 use std::thread;
 use std::thread::Threads;
 use std::time::Clock;
-use tfs_connections::{AcceptFault, Load};
+use tfs_connections::{AcceptFault, AnyStream, Load};
 use tfs_records::Sink;
 use tfs_shared::{Naming, Session, Shared};
 
@@ -27,7 +27,7 @@ pub(crate) struct Member<J: Naming, G: Gate> {
 
 impl<J: Naming, G: Gate> Member<J, G> {
     /// Works until the gate admits no more, or the listener fails.
-    fn run<L: OpenListener<Stream = TcpStream>, K: Sink, R: Wait + Clock>(
+    fn run<L: OpenListener<Stream = AnyStream>, K: Sink, R: Wait + Clock>(
         &mut self,
         service: &Service<'_, J, K, R>,
         listener: &L,
@@ -36,7 +36,7 @@ impl<J: Naming, G: Gate> Member<J, G> {
         ensures worked { HasWorked J.opening (G.told self.old.gate) (G.told self.new.gate) self.old.session self.new.session
             (end_of_work (is_some self.new.fault)) }
     {
-        match work(service, listener, &mut self.gate, &mut self.session) {
+        match work_over(service, listener, &mut self.gate, &mut self.session) {
             Ok(()) => self.fault = None,
             Err(fault) => self.fault = Some(fault),
         }
@@ -46,7 +46,7 @@ impl<J: Naming, G: Gate> Member<J, G> {
 /// Has each member work, at the same time where the system makes the threads, until its gate has said no or its listener gives it no
 /// connection.
 pub(crate) fn work_until<
-    L: OpenListener<Stream = TcpStream> + Sync,
+    L: OpenListener<Stream = AnyStream> + Sync,
     J: Naming + Send + Sync,
     K: Sink + Send,
     G: Gate + Send,

@@ -21,7 +21,7 @@ use std::sync::atomic::AtomicBool;
 use std::sync::ledger::Blank;
 use std::thread::Threads;
 use std::time::Clock;
-use tfs_connections::AcceptFault;
+use tfs_connections::{AcceptFault, Connection};
 use tfs_records::Sink;
 use tfs_shared::{Cause, Naming, Opened, Session, Shared, share};
 use tfs_table::Table;
@@ -131,14 +131,15 @@ pub fn serve<
     serve_until(&runtime, table, gates, listen)
 }
 
-/// The same where conversations can be asked to end.
+/// The same over a listener of any transport, where conversations can be asked to end.
 pub fn serve_until<
-    L: OpenListener<Stream = TcpStream> + Sync + Drop,
+    L: OpenListener<Stream = S> + Sync + Drop,
     K: Sink + Send + Drop,
     G: Gate + Send + Drop,
     E,
     F: FnOnce() -> Result<L, E> + Drop,
     R: Threads + Wait + Clock + Sync,
+    S: Connection + Send + Drop,
 >(
     runtime: &Runtime<'_, R>,
     table: Table<K>,
@@ -161,18 +162,19 @@ pub fn serve_until<
     let opened = Opened::new();
     let asked = Asked { gates, listen };
     let blanks = Blanks { blank, opened };
-    serve_named::<Brand, L, K, G, E, F, R>(runtime, table, asked, blanks)
+    serve_named::<Brand, L, K, G, E, F, R, S>(runtime, table, asked, blanks)
 }
 
 /// A run over the history and the ledger that `J` names.
 fn serve_named<
     J: Naming + Send + Sync,
-    L: OpenListener<Stream = TcpStream> + Sync + Drop,
+    L: OpenListener<Stream = S> + Sync + Drop,
     K: Sink + Send + Drop,
     G: Gate + Send + Drop,
     E,
     F: FnOnce() -> Result<L, E> + Drop,
     R: Threads + Wait + Clock + Sync,
+    S: Connection + Send + Drop,
 >(
     runtime: &Runtime<'_, R>,
     table: Table<K>,
@@ -208,12 +210,13 @@ fn serve_named<
 /// A run of a table that is shared, by sessions that have made no calls.
 fn serve_shared<
     J: Naming + Send + Sync,
-    L: OpenListener<Stream = TcpStream> + Sync + Drop,
+    L: OpenListener<Stream = S> + Sync + Drop,
     K: Sink + Send + Drop,
     G: Gate + Send + Drop,
     E,
     F: FnOnce() -> Result<L, E> + Drop,
     R: Threads + Wait + Clock + Sync,
+    S: Connection + Send + Drop,
 >(
     runtime: &Runtime<'_, R>,
     shared: Shared<J, K>,

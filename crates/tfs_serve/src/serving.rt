@@ -13,7 +13,9 @@ use json::Scratch;
 use std::net::{OpenListener, TcpStream};
 use std::sync::Wait;
 use std::time::Clock;
-use tfs_connections::{AcceptFault, Incoming, Listening, Outgoing, Timing, limit, taken};
+use tfs_connections::{
+    AcceptFault, Connection, Incoming, LentConnection, Listening, Outgoing, Timing, taken,
+};
 use tfs_conversation::{Outlet, Reads, Source, converse};
 use tfs_records::Sink;
 use tfs_shared::{Naming, Session};
@@ -23,8 +25,32 @@ use tfs_shared::{Naming, Session};
 /// Where conversations are to end, a wait for a connection ends too, and the gate is asked again.
 /// Afterwards the session has seen all that it had seen before; what became of it came of the calls that it answered, and the gate has
 /// heard of all of these.
-#[tactic(auto, using(crate::proofs::Later::later_itself, crate::proofs::Later::later_then))]
 pub fn work<L: OpenListener<Stream = TcpStream>, J: Naming, K: Sink, G: Gate, R: Wait + Clock>(
+    service: &Service<'_, J, K, R>,
+    listener: &L,
+    gate: &mut G,
+    session: &mut Session<J>,
+) -> Result<(), AcceptFault>
+    ensures closed { OnOk result (IsClosed (G.told gate.new)) }
+    ensures ends { IfErr result (λ fault. IsFinal (error_of fault)) }
+    ensures admitted { OnErr result (IsAdmitted (G.told gate.new)) }
+    ensures later { IsLater session.old session.new }
+    ensures worked { OnOk result (HasWorked J.opening (G.told gate.old) (G.told gate.new) session.old session.new (asked false ∷ [])) }
+    ensures broken { OnErr result (HasWorked J.opening (G.told gate.old) (G.told gate.new) session.old session.new []) }
+{
+    work_over(service, listener, gate, session)
+}
+
+/// The same over a listener of any transport.
+#[tactic(auto, using(crate::proofs::Later::later_itself, crate::proofs::Later::later_then))]
+pub(crate) fn work_over<
+    L: OpenListener<Stream = S>,
+    J: Naming,
+    K: Sink,
+    G: Gate,
+    R: Wait + Clock,
+    S: Connection + Drop,
+>(
     service: &Service<'_, J, K, R>,
     listener: &L,
     gate: &mut G,
@@ -52,9 +78,9 @@ pub fn work<L: OpenListener<Stream = TcpStream>, J: Naming, K: Sink, G: Gate, R:
 }
 
 /// Has a conversation on a connection, if there is one, with states read over the room of a scratch.
-fn serve<J: Naming, K: Sink, G: Gate, R: Wait + Clock>(
+fn serve<S: Connection + Drop, J: Naming, K: Sink, G: Gate, R: Wait + Clock>(
     service: &Service<'_, J, K, R>,
-    stream: Option<TcpStream>,
+    stream: Option<S>,
     gate: &mut G,
     session: &mut Session<J>,
     scratch: &mut Scratch,
@@ -65,7 +91,7 @@ fn serve<J: Naming, K: Sink, G: Gate, R: Wait + Clock>(
     let Some(stream) = stream else {
         return;
     };
-    if limit(&stream).is_err() {
+    if stream.limit().is_err() {
         return;
     }
     let timing = Timing::new(service.rt, service.ended, service.muted, service.load);
@@ -79,9 +105,9 @@ fn serve<J: Naming, K: Sink, G: Gate, R: Wait + Clock>(
 }
 
 /// Has a conversation over the desk on a connection, whose time begins.
-fn serve_in_time<J: Naming, K: Sink, G: Gate, R: Wait, C: Clock>(
+fn serve_in_time<S: Connection, J: Naming, K: Sink, G: Gate, R: Wait, C: Clock>(
     timing: &Timing<'_, '_, C>,
-    stream: &TcpStream,
+    stream: &S,
     desk: &mut Gated<'_, LentDesk<'_, '_, '_, J, K, R>, G>,
 )
     ensures loan { desk.new.desk.session.ghost_name ≡ desk.old.desk.session.ghost_name }
@@ -89,8 +115,8 @@ fn serve_in_time<J: Naming, K: Sink, G: Gate, R: Wait, C: Clock>(
     ensures later { IsLater desk.old.desk.session.now desk.new.desk.session.now }
     ensures answered { HasAnswered J.opening (G.told desk.old.gate.now) (G.told desk.new.gate.now) desk.old.desk.session.now desk.new.desk.session.now }
 {
-    let mut reader = Incoming::new(timing, stream);
-    let mut writer = Outgoing::new(timing, stream);
+    let mut reader = Incoming::new(timing, LentConnection::of(stream));
+    let mut writer = Outgoing::new(timing, LentConnection::of(stream));
     converse_once(&mut reader, &mut writer, desk);
 }
 

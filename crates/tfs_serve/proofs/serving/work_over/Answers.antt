@@ -1,7 +1,7 @@
 -- A connection that was admitted: the session goes on, and has answered calls on one connection more, or none was taken.
 use Rattle.tfs_serve.proofs.Later.{later_then}
 use Rattle.tfs_serve.proofs.Working.{worked_on, worked_without}
-use Rattle.tfs_serve.proofs.serving.work.Goals as goal
+use Rattle.tfs_serve.proofs.serving.work_over.Goals as goal
 
 pub loop-preserved : goal.loop-preserved
 loop-preserved g c = (

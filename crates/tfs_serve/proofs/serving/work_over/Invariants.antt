@@ -2,7 +2,7 @@
 use Rattle.std.proofs.Common.{[]}
 use Rattle.tfs_serve.specs.Session.{IsLater}
 use Rattle.tfs_serve.specs.Working.{HasWorked}
-use Rattle.tfs_serve.proofs.serving.work.Given as goal
+use Rattle.tfs_serve.proofs.serving.work_over.Given as goal
 
 abbrev pub invariant-loop : goal.invariant-loop
 invariant-loop g l =
