@@ -1,1 +1,2 @@
+pub mod Retention
 pub mod Status

@@ -11,14 +11,16 @@ use thiserror::Error;
 /// Why a command ended before its work was done.
 #[derive(Clone, Copy, Debug, PartialEq, Eq, Error)]
 pub enum Fault {
-    #[error("these are no arguments: tfstatectl --help lists them")]
+    #[error("invalid arguments: tfstatectl --help lists them")]
     Arguments,
     #[error("OutOfMemory: memory was refused. Give it more")]
     OutOfMemory,
     #[error("SmallStack: a thread's stack has {0} bytes, and a request may need 524288. Raise the limit (ulimit -s)")]
     SmallStack(u64),
-    #[error("NoFolder: it isn't there. Mount it, or begin one with --first")]
+    #[error("NoFolder: it doesn't exist. Mount it, or create a new folder with tfstatectl init")]
     NoFolder,
+    #[error("NotFolder: it is a file, or its path leads through a file. Give the folder that has the journals")]
+    NotFolder,
     #[error("NotAllowed: it may not be read or written. Give this user the right to")]
     NotAllowed,
     #[error("Locked: another start, server or copy holds its lock. Stop that one, or wait for it")]
@@ -27,9 +29,9 @@ pub enum Fault {
     CannotRead,
     #[error("CannotWrite: it could not be written. Make room on its disk, and try again")]
     CannotWrite,
-    #[error("NoJournal: it has none. If it never had one, begin it with --first")]
+    #[error("NoJournal: the folder has no journal. Mount the volume, or create a new folder with tfstatectl init")]
     NoJournal,
-    #[error("NotFirst: the folder has or had a journal, and doesn't begin anew. Leave --first out, or restore it from a copy")]
+    #[error("NotFirst: the folder has or had a journal. Serve it without --first, or restore it from a copy")]
     NotFirst,
     #[error("Damaged: it goes wrong at byte {0}. Restore it from a copy")]
     Damaged(usize),
@@ -57,12 +59,24 @@ pub enum Fault {
     Write,
     #[error("NoPlace: no place was there for a worker to read at. Take fewer --workers")]
     NoPlace,
-    #[error("CannotBind: it can't be listened at. Look who listens there, and whether it is an address of this machine")]
+    #[error("CannotBind: it can't be listened at. Look who listens there, and whether this machine has that address, or the folder of that socket")]
     CannotBind,
+    #[error("NotSocket: a file of another kind has this path. Move it away, or choose another path")]
+    NotSocket,
+    #[error("SocketPath: the path of a socket has 1 to 107 bytes. Choose another one")]
+    SocketPath,
     #[error("JournalFault: its journal can't be written any more. Look at its disk, and start again")]
     JournalFault,
     #[error("SyncFault: its journal can't be synced any more. Look at its disk, and start again")]
     SyncFault,
+    #[error("OldAhead: it has changes that the folder's newest journal lacks. Stop what wrote it, and move away the one that isn't to count")]
+    OldAhead,
+    #[error("OtherIdentity: it is of another folder, by the file identity. Bring back the folder's own, and copy into a new folder. For a journal that is meant to count, remove all lines but the first of that file")]
+    OtherIdentity,
+    #[error("BadIdentity: it isn't 32 hexadecimal digits and lines of journals. Restore it from a copy, or remove it")]
+    BadIdentity,
+    #[error("Replaced: the folder, its journal or its lock file isn't the one any more that this server opened. Stop what moved it, look which journal has the last position, and start again")]
+    Replaced,
     #[error("AcceptFault: the listener gives no connections any more. Start again")]
     AcceptFault,
 }
@@ -79,22 +93,26 @@ pub fn status_of(fault: Fault) -> u8
         | Fault::NoPlace
         | Fault::CannotBind
         | Fault::SyncFault
-        | Fault::AcceptFault => 1,
-        Fault::Arguments | Fault::NotPast => 2,
-        Fault::TornBase => 3,
-        Fault::Damaged(_) => 4,
-        Fault::Unlawful(_) => 5,
+        | Fault::AcceptFault => 20,
+        Fault::Arguments | Fault::NotPast | Fault::NotSocket | Fault::SocketPath => 21,
+        Fault::TornBase => 22,
+        Fault::Damaged(_) => 23,
+        Fault::Unlawful(_) => 24,
         Fault::NoJournal
         | Fault::NotFirst
         | Fault::Parted
         | Fault::TooFar
         | Fault::TwoOfName
         | Fault::NotBeginning
-        | Fault::Served => 6,
-        Fault::NotAtLeast(_, _) | Fault::NoPosition => 7,
-        Fault::NoFolder | Fault::NotAllowed => 8,
-        Fault::OutOfMemory | Fault::SmallStack(_) => 9,
-        Fault::JournalFault => 10,
+        | Fault::Served
+        | Fault::Replaced
+        | Fault::OldAhead
+        | Fault::OtherIdentity
+        | Fault::BadIdentity => 25,
+        Fault::NotAtLeast(_, _) | Fault::NoPosition => 26,
+        Fault::NoFolder | Fault::NotFolder | Fault::NotAllowed => 27,
+        Fault::OutOfMemory | Fault::SmallStack(_) => 28,
+        Fault::JournalFault => 29,
     }
 }
 
@@ -123,6 +141,12 @@ pub enum Place {
     Old,
     /// The folder's journal of a number.
     Journal(u64),
+    /// The journal of a number in the folder's `old/`.
+    OldJournal(u64),
+    /// The folder's file `identity`.
+    Identity,
+    /// The file `identity` of the folder that is copied.
+    OriginalIdentity,
     /// The file that a folder is to begin with.
     First,
     /// The journal to be passed over.
@@ -165,13 +189,22 @@ impl End {
         End::at(Place::First, self.fault)
     }
 
+    /// The same end, about the file `identity` of the folder that is copied.
+    pub fn of_original(self) -> End {
+        End::at(Place::OriginalIdentity, self.fault)
+    }
+
     /// The end because a file can't be had, by what the system told, or by this fault.
     pub fn by_system(place: Place, fault: Fault, error: &io::Error) -> End {
         let fault = match error.kind() {
             io::ErrorKind::OutOfMemory => Fault::OutOfMemory,
             io::ErrorKind::PermissionDenied => Fault::NotAllowed,
-            io::ErrorKind::NotFound | io::ErrorKind::NotADirectory => match place {
+            io::ErrorKind::NotFound => match place {
                 Place::Folder => Fault::NoFolder,
+                _ => fault,
+            },
+            io::ErrorKind::NotADirectory => match place {
+                Place::Folder => Fault::NotFolder,
                 _ => fault,
             },
             _ => fault,
@@ -190,6 +223,12 @@ pub fn end_by(rt: &impl Eprint, name: &str, end: End) -> ExitCode {
             eprintln!(rt; "tfstatectl: {name}: {fault}")
         }
         Place::Old => eprintln!(rt; "tfstatectl: {name}/old: {fault}"),
+        Place::Identity | Place::OriginalIdentity => eprintln!(rt;
+            "tfstatectl: {name}/identity: {fault}"
+        ),
+        Place::OldJournal(number) => eprintln!(rt;
+            "tfstatectl: {name}/old/journal-{number:010}.tfj: {fault}"
+        ),
         Place::Journal(number) => eprintln!(rt;
             "tfstatectl: {name}/journal-{number:010}.tfj: {fault}"
         ),

@@ -1,23 +1,36 @@
 //! The files of folders of journals: the lock, the next journal of a start, copies, and how commands end by faults.
 #![tactic(auto)]
 
+mod ahead;
 mod copies;
 mod fault;
+mod first;
 mod folder;
+mod guard;
+mod identity;
 mod late;
+mod marks;
 mod next;
+mod old;
+mod own;
 mod past;
 mod position_file;
+mod retention;
 mod stack;
 mod start;
 
-pub use copies::{below, name_parts, originals, write_parts};
+pub use copies::{Gap, Originals, below, name_parts, old_file, read_originals, write_parts};
 pub use fault::{End, Fault, Place, end_by, status_of};
+pub use first::{FIRST_NUMBER, make_first};
 pub use folder::{
-    files_of, journal_path, locked, numbers_here, numbers_in, old_numbers, refuse_served,
-    sync_names,
+    files_of, journal_path, numbers_here, numbers_in, old_numbers, refuse_served, sync_names,
 };
-pub use next::{JournalSink, keep_newest, part_path, put_away, remove_part, sink_of, sync_part};
+pub use guard::{FolderLock, ServedJournal, lock_folder};
+pub use marks::MOST_MARKED;
+pub use next::{JournalSink, part_path, put_away, remove_part, sink_of, sync_part};
+pub use old::remove_expired;
+pub use own::{mark_copies, mark_grown, mark_part, refuse_other_copies, refuse_other_original};
 pub use position_file::{PositionFile, least_position, raised};
+pub use retention::{Limits, OldFile, Retention, expired};
 pub use stack::{LEAST_STACK, refuse_small_stack};
 pub use start::{Start, started};

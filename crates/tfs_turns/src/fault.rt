@@ -18,6 +18,8 @@ pub(crate) enum TurnFault {
     CannotWrite,
     /// The next journal has its name, but that may not be durable.
     Unsynced,
+    /// The folder, its journal or its lock file was replaced.
+    Replaced,
 }
 
 /// The fault of the program.
@@ -27,6 +29,7 @@ pub(crate) fn fault_of(fault: TurnFault) -> Fault {
         TurnFault::Write => Fault::Write,
         TurnFault::TooFar => Fault::TooFar,
         TurnFault::CannotWrite | TurnFault::Unsynced => Fault::CannotWrite,
+        TurnFault::Replaced => Fault::Replaced,
     }
 }
 

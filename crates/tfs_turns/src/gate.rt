@@ -5,12 +5,13 @@ use crate::underway::{Underway, number_of};
 use crate::watch::Watch;
 use std::sync::{Arc, Mutex, MutexGuard, Wait};
 use tfs_durable::{Durable, FileDevice};
-use tfs_files::PositionFile;
+use tfs_files::{PositionFile, ServedJournal};
 use tfs_serve::Gate;
 use tfs_table::{Call, Refusal, Reply};
 
 /// A gate that takes every connection until conversations are to end. Before a reply is written, all is durable that was written to the journal
-/// by then; once that can't be had, nothing more is written to anybody. A read of a state tells of its name alone, and waits only while a
+/// by then; once that can't be had, nothing more is written to anybody. Before an accepted change is acknowledged, the folder, its journal and its
+/// lock file are compared with the opened ones. A read of a state tells of its name alone, and waits only while a
 /// worker changes that name: the change before is durable once its worker is done. It raises the least position with each change that is
 /// accepted: once the change is durable, and without a sync; where the file can't be written, it lags behind.
 #[derive(Drop)]
@@ -18,6 +19,7 @@ pub(crate) struct Watching<'g, R: AllocGlobal + Wait> {
     pub(crate) rt: &'g R,
     pub(crate) watch: &'g Watch<'g>,
     pub(crate) durable: Arc<Durable<FileDevice>>,
+    pub(crate) journal: Arc<ServedJournal>,
     pub(crate) least: &'g Mutex<Option<PositionFile>>,
     pub(crate) serves_reads: bool,
     pub(crate) underway: Arc<Underway>,
@@ -51,7 +53,7 @@ impl<'g, R: AllocGlobal + Wait> Gate for Watching<'g, R> {
     ghost told = { λ gate. None };
 
     fn admit(&mut self) -> bool {
-        self.watch.look();
+        self.watch.look_between(&self.journal);
         !self.watch.is_ended()
     }
 
@@ -73,6 +75,9 @@ impl<'g, R: AllocGlobal + Wait> Gate for Watching<'g, R> {
         self.underway.end(self.worker);
         match reply {
             Reply::Done(position) => {
+                if !self.watch.holds(&self.journal) {
+                    return;
+                }
                 self.raise(*position);
                 self.watch.grow(*position, count);
             }
@@ -81,6 +86,6 @@ impl<'g, R: AllocGlobal + Wait> Gate for Watching<'g, R> {
             }
             Reply::State(_) | Reply::Impact(_) | Reply::Refused(_) => {}
         }
-        self.watch.look();
+        self.watch.look_between(&self.journal);
     }
 }

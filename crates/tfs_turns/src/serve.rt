@@ -8,13 +8,14 @@ use crate::news::News;
 use crate::turning::Turning;
 use crate::watch::Watch;
 use std::cell::Cell;
-use std::net::TcpListener;
 use std::snapshot::Snapshot;
-use std::sync::{Mutex, Wait};
+use std::sync::{Arc, Mutex, Wait};
 use std::thread::Threads;
 use std::time::Clock;
-use tfs_files::{Fault, JournalSink, PositionFile, numbers_here};
-use tfs_serve::AcceptFault;
+use tfs_files::{
+    Fault, FolderLock, JournalSink, PositionFile, Retention, ServedJournal, numbers_here,
+};
+use tfs_serve::{AcceptFault, AnyListener};
 use tfs_table::Table;
 use tfs_terms::serve_terms;
 
@@ -32,8 +33,8 @@ pub struct Plan<'p> {
     pub folder: &'p str,
     /// The address that the listener has, as it is told.
     pub address: &'p str,
-    /// How many of the newest files stay in `old/`.
-    pub keep: u64,
+    /// Which files of `old/` stay.
+    pub keep: Retention,
     /// When a term is to end.
     pub bounds: Bounds,
     /// The number of workers.
@@ -47,7 +48,7 @@ pub struct Plan<'p> {
 /// What a start has made: the listener, whose waits look up, the file of the least position, and the table over the newest journal.
 #[derive(Drop)]
 pub struct Begun {
-    pub listener: TcpListener,
+    pub listener: AnyListener,
     pub least: Option<PositionFile>,
     pub table: Table<JournalSink>,
 }
@@ -65,6 +66,7 @@ pub struct Left {
 pub fn serve_folder<R: AllocGlobal + Threads + Wait + Clock + Sync>(
     rt: &R,
     host: &HostRuntime,
+    lock: &FolderLock,
     plan: &Plan<'_>,
     begun: Begun,
 ) -> Left
@@ -75,7 +77,7 @@ pub fn serve_folder<R: AllocGlobal + Threads + Wait + Clock + Sync>(
         least,
         table,
     } = begun;
-    let Some(number) = newest(host, plan.folder) else {
+    let Some((number, journal)) = newest(host, plan.folder) else {
         return Left {
             table,
             fault: Fault::CannotRead,
@@ -83,13 +85,14 @@ pub fn serve_folder<R: AllocGlobal + Threads + Wait + Clock + Sync>(
         };
     };
     let least = Mutex::new(least);
-    let watch = Watch::new(host, plan);
+    let watch = Watch::new(host, lock, plan);
     watch.open(number, table.base().position());
     let mut turning = Turning {
         rt,
         host,
         plan,
         watch: &watch,
+        journal,
         least: &least,
         listener: &listener,
         news: Cell::new(News::First),
@@ -97,7 +100,9 @@ pub fn serve_folder<R: AllocGlobal + Threads + Wait + Clock + Sync>(
         accepting: Cell::new(None),
     };
     let (table, finish) = serve_terms(rt, rt.alloc(), table, &mut turning);
-    let fault = if watch.is_muted() {
+    let fault = if lock.is_lost() {
+        Fault::Replaced
+    } else if watch.is_muted() {
         Fault::SyncFault
     } else {
         end_of(finish, table.stopped())
@@ -110,10 +115,10 @@ pub fn serve_folder<R: AllocGlobal + Threads + Wait + Clock + Sync>(
     }
 }
 
-/// The number of a folder's newest journal.
-fn newest(host: &HostRuntime, folder: &str) -> Option<u64> {
-    match numbers_here(host, folder) {
-        Ok(numbers) => numbers.as_slice().last().copied(),
-        Err(_) => None,
-    }
+/// A folder's newest journal, with its number.
+fn newest(host: &HostRuntime, folder: &str) -> Option<(u64, Arc<ServedJournal>)> {
+    let numbers = numbers_here(host, folder).ok()?;
+    let number = numbers.as_slice().last().copied()?;
+    let journal = ServedJournal::named(host, folder, number).ok()?;
+    Some((number, Arc::new(host.alloc(), journal).ok()?))
 }

@@ -6,19 +6,18 @@ use crate::fault::{TurnFault, fault_of, fault_of_opening};
 use crate::gate::Watching;
 use crate::listening::Listening;
 use crate::news::{News, Turned};
-use crate::placing::{length_of, place, remove, sink_of};
+use crate::placing::{journal_of, length_of, place, remove, sink_of};
 use crate::serve::Plan;
 use crate::underway::Underway;
 use crate::watch::Watch;
 use std::alloc::AllocError;
 use std::cell::Cell;
-use std::net::TcpListener;
 use std::snapshot::Snapshot;
 use std::sync::atomic::AtomicBool;
 use std::sync::{Arc, Mutex, Wait};
 use tfs_durable::{Durable, FileDevice};
-use tfs_files::{JournalSink, PositionFile};
-use tfs_serve::{AcceptFault, Served, first_fault};
+use tfs_files::{JournalSink, PositionFile, ServedJournal};
+use tfs_serve::{AcceptFault, AnyListener, AnyStream, Served, first_fault};
 use tfs_table::Table;
 use tfs_terms::{Terms, Unturned};
 
@@ -29,8 +28,9 @@ pub(crate) struct Turning<'t, R: AllocGlobal + Wait> {
     pub(crate) host: &'t HostRuntime,
     pub(crate) plan: &'t Plan<'t>,
     pub(crate) watch: &'t Watch<'t>,
+    pub(crate) journal: Arc<ServedJournal>,
     pub(crate) least: &'t Mutex<Option<PositionFile>>,
-    pub(crate) listener: &'t TcpListener,
+    pub(crate) listener: &'t AnyListener,
     pub(crate) news: Cell<News>,
     pub(crate) placed: Snapshot<Table<JournalSink>>,
     pub(crate) accepting: Cell<Option<AcceptFault>>,
@@ -58,6 +58,8 @@ impl<'t, R: AllocGlobal + Wait + Sync> Terms for Turning<'t, R> {
 
     type Sink = JournalSink;
 
+    type Stream = AnyStream;
+
     type Listener = Listening<'t>;
 
     type Fault = TurnFault;
@@ -74,12 +76,16 @@ impl<'t, R: AllocGlobal + Wait + Sync> Terms for Turning<'t, R> {
     fn listen(&self) -> Result<Listening<'t>, TurnFault> {
         let waited = self.watch.go_on();
         let news = self.news.replace(News::Nothing);
-        match news.tell(self.host, self.plan, waited) {
-            Ok(()) => Ok(Listening {
+        if news.tell(self.host, self.plan, waited).is_err() {
+            return Err(TurnFault::Write);
+        }
+        match self.journal.clone() {
+            Ok(journal) => Ok(Listening {
                 listener: self.listener,
                 watch: self.watch,
+                journal,
             }),
-            Err(_) => Err(TurnFault::Write),
+            Err(_) => Err(TurnFault::NoMemory),
         }
     }
 
@@ -99,17 +105,25 @@ impl<'t, R: AllocGlobal + Wait + Sync> Terms for Turning<'t, R> {
     }
 
     fn sink(&self) -> Result<JournalSink, TurnFault> {
+        if !self.watch.holds(&self.journal) {
+            return Err(TurnFault::Replaced);
+        }
         sink_of(self.host, self.plan.folder, self.next_number())
     }
 
     fn turn(&mut self, next: &Table<JournalSink>) -> Result<(), TurnFault> {
         let (folder, number) = (self.plan.folder, self.next_number());
+        let journal = journal_of(self.host, folder, number)?;
+        if !self.watch.holds(&self.journal) {
+            return Err(TurnFault::Replaced);
+        }
         let before = length_of(self.host, folder, self.watch.number()).unwrap_or(0);
         match place(self.host, folder, number) {
             Ok(()) => {}
             Err(fault) => return Err(fault),
         }
         self.placed = Snapshot::of(next);
+        self.journal = journal;
         self.watch.open(number, next.position());
         let (position, names) = (next.position(), next.names());
         let after = self.watch.bytes();
@@ -126,7 +140,7 @@ impl<'t, R: AllocGlobal + Wait + Sync> Terms for Turning<'t, R> {
     fn goes_on_after(&self, why: &Unturned<TurnFault>) -> bool {
         match why {
             Unturned::Stopped => true,
-            Unturned::Failed(TurnFault::Unsynced) => false,
+            Unturned::Failed(TurnFault::Unsynced | TurnFault::Replaced) => false,
             Unturned::Failed(fault) => {
                 self.stay(*fault);
                 true
@@ -167,6 +181,7 @@ fn gate_of<'t, R: AllocGlobal + Wait>(
         rt: turning.rt,
         watch: turning.watch,
         durable,
+        journal: turning.journal.clone()?,
         least: turning.least,
         serves_reads: turning.plan.serves_reads,
         underway: underway.clone()?,

@@ -1,0 +1,22 @@
+//! The first journal of a new folder.
+
+use crate::fault::End;
+use crate::folder::numbers_of;
+use crate::next::{Next, make, mark_served};
+use crate::start::{chosen_first, refuse_second};
+
+/// The number of a folder's first journal.
+pub const FIRST_NUMBER: u64 = 1;
+
+/// Makes the first, empty journal of a locked folder that never had one, durably.
+pub fn make_first(rt: &HostRuntime, folder: &str) -> Result<(), End> {
+    let numbers = numbers_of(rt, folder)?;
+    refuse_second(rt, folder, &numbers)?;
+    let first = Next {
+        number: FIRST_NUMBER,
+        chosen: &chosen_first(rt, "", 0)?,
+        may_replace: false,
+    };
+    make(rt, folder, &first)?;
+    mark_served(rt, folder)
+}

@@ -1,0 +1,168 @@
+//! What a server or a copy has opened in its folder, which stays locked, and whether it is still there.
+
+use crate::fault::{End, Fault, Place};
+use crate::folder::journal_path;
+use crate::next::part_path;
+use std::fs::{self, File, Metadata, OpenOptions, TryLockError};
+use std::io;
+use std::os::unix::fs::MetadataExt;
+use std::sync::atomic::{AtomicBool, Ordering};
+
+/// Which file of the system one is, and how many names it has.
+#[derive(Clone, Copy, PartialEq, Eq)]
+struct FileId {
+    device: u64,
+    inode: u64,
+    links: u64,
+}
+
+impl FileId {
+    /// The file of this metadata.
+    fn of(metadata: &Metadata) -> FileId {
+        FileId {
+            device: metadata.dev(),
+            inode: metadata.ino(),
+            links: metadata.nlink(),
+        }
+    }
+
+    /// The directory of this metadata, whose links change with the directories in it.
+    fn of_directory(metadata: &Metadata) -> FileId {
+        FileId {
+            links: 0,
+            ..FileId::of(metadata)
+        }
+    }
+
+    /// Returns true if this file is at a path.
+    fn is_file_at(self, rt: &HostRuntime, path: &str) -> bool {
+        match fs::metadata(rt, path) {
+            Ok(metadata) => FileId::of(&metadata) == self,
+            Err(_) => false,
+        }
+    }
+
+    /// Returns true if this directory is at a path.
+    fn is_directory_at(self, rt: &HostRuntime, path: &str) -> bool {
+        match fs::metadata(rt, path) {
+            Ok(metadata) => FileId::of_directory(&metadata) == self,
+            Err(_) => false,
+        }
+    }
+}
+
+/// A locked folder: the folder itself and its file `lock`, which are locked as long as they are open.
+#[derive(Drop)]
+pub struct FolderLock {
+    folder: String,
+    folder_id: FileId,
+    lock: String,
+    lock_id: FileId,
+    is_lost: AtomicBool,
+    _files: (File, File),
+}
+
+impl FolderLock {
+    /// Locks a folder: first the folder itself, so that nothing is made in one that is locked.
+    fn take(rt: &HostRuntime, folder: &str) -> Result<FolderLock, End> {
+        let directory = lock_opened(File::open(rt, folder), Place::Folder)?;
+        let file = lock_opened(lock_file(rt, folder), Place::Folder)?;
+        match FolderLock::of(rt, folder, directory, file) {
+            Ok(lock) => Ok(lock),
+            Err(error) => Err(End::by_system(Place::Folder, Fault::CannotRead, &error)),
+        }
+    }
+
+    /// The lock of a folder by these locked files.
+    fn of(rt: &HostRuntime, folder: &str, directory: File, file: File) -> io::Result<FolderLock> {
+        Ok(FolderLock {
+            folder: String::from_str(rt.alloc(), folder)?,
+            folder_id: FileId::of_directory(&directory.metadata()?),
+            lock: lock_path(rt, folder)?,
+            lock_id: FileId::of(&file.metadata()?),
+            is_lost: AtomicBool::new(false),
+            _files: (directory, file),
+        })
+    }
+
+    /// Returns true if the folder, its lock file and the journal that is served are still the opened ones.
+    pub fn holds(&self, rt: &HostRuntime, journal: &ServedJournal) -> bool {
+        let holds = self.folder_id.is_directory_at(rt, self.folder.as_str())
+            && self.lock_id.is_file_at(rt, self.lock.as_str())
+            && journal.id.is_file_at(rt, journal.path.as_str());
+        if !holds {
+            self.is_lost.store(true, Ordering::SeqCst);
+        }
+        holds
+    }
+
+    /// Returns true if the folder, its lock file or the journal was once found to be replaced.
+    pub fn is_lost(&self) -> bool {
+        self.is_lost.load(Ordering::SeqCst)
+    }
+}
+
+/// The journal that is served: its path, and which file it is.
+#[derive(Drop)]
+pub struct ServedJournal {
+    path: String,
+    id: FileId,
+}
+
+impl ServedJournal {
+    /// The folder's journal of a number, which has its name.
+    pub fn named(rt: &HostRuntime, folder: &str, number: u64) -> io::Result<ServedJournal> {
+        let path = journal_path(rt, folder, number)?;
+        let id = FileId::of(&fs::metadata(rt, path.as_str())?);
+        Ok(ServedJournal { path, id })
+    }
+
+    /// The folder's journal of a number, which still has its other name.
+    pub fn part(rt: &HostRuntime, folder: &str, number: u64) -> io::Result<ServedJournal> {
+        let part = part_path(rt, folder, number)?;
+        let id = FileId::of(&fs::metadata(rt, part.as_str())?);
+        let path = journal_path(rt, folder, number)?;
+        Ok(ServedJournal { path, id })
+    }
+}
+
+/// Locks a folder, which stays locked until the lock is dropped: for a start, and for the journals that it makes.
+pub fn lock_folder(rt: &HostRuntime, folder: &str) -> Result<FolderLock, End> {
+    FolderLock::take(rt, folder)
+}
+
+/// Locks the folder's journal of a number, from which a start continues, so that no other server writes it.
+pub fn lock_journal(rt: &HostRuntime, folder: &str, number: u64) -> Result<File, End> {
+    let place = Place::Journal(number);
+    match journal_path(rt, folder, number) {
+        Ok(path) => lock_opened(File::open(rt, path.as_str()), place),
+        Err(_) => Err(End::at(place, Fault::OutOfMemory)),
+    }
+}
+
+/// Locks what was opened.
+fn lock_opened(opened: io::Result<File>, place: Place) -> Result<File, End> {
+    let file = match opened {
+        Ok(file) => file,
+        Err(error) => return Err(End::by_system(place, Fault::CannotWrite, &error)),
+    };
+    match file.try_lock() {
+        Ok(()) => Ok(file),
+        Err(TryLockError::WouldBlock) => Err(End::at(place, Fault::Locked)),
+        Err(TryLockError::Error(error)) => Err(End::by_system(place, Fault::CannotWrite, &error)),
+    }
+}
+
+/// The folder's file `lock`.
+fn lock_file(rt: &HostRuntime, folder: &str) -> io::Result<File> {
+    OpenOptions::new()
+        .read(true)
+        .write(true)
+        .create(true)
+        .open(rt, lock_path(rt, folder)?.as_str())
+}
+
+/// The path of the folder's lock file.
+fn lock_path(rt: &HostRuntime, folder: &str) -> io::Result<String> {
+    Ok(format!(in rt.alloc(); "{folder}/lock")?)
+}

@@ -1,0 +1,185 @@
+//! The identity of a folder: a value of its own, and which journals it has.
+
+use crate::fault::{End, Fault, Place};
+use crate::folder::sync_names;
+use crate::marks::{Mark, mark_line, mark_of};
+use std::alloc::{AllocError, Global};
+use std::fs::{self, File, OpenOptions};
+use std::io::{self, Read, Write};
+use std::os::unix::fs::OpenOptionsExt;
+
+/// The digits of a value: 128 bits.
+const DIGITS: usize = 32;
+
+/// What the file `identity` of a folder says: the folder's value, and marks of its journals.
+#[derive(Drop)]
+pub struct Identity {
+    value: String,
+    marks: Vec<Mark>,
+}
+
+impl Identity {
+    /// An identity of a new value, without marks.
+    fn make(rt: &HostRuntime) -> io::Result<Identity> {
+        let mut bytes = [0; DIGITS / 2];
+        File::open(rt, "/dev/urandom")?.read_exact(&mut bytes)?;
+        Ok(Identity {
+            value: hex::encode(rt.alloc(), bytes.as_slice())?,
+            marks: Vec::new(rt.alloc()),
+        })
+    }
+
+    /// An identity of the same value, without marks.
+    pub(crate) fn with_no_marks(&self, alloc: Global) -> Result<Identity, AllocError> {
+        Ok(Identity {
+            value: String::from_str(alloc, self.value.as_str())?,
+            marks: Vec::new(alloc),
+        })
+    }
+
+    /// The folder's value.
+    pub(crate) fn value(&self) -> &str {
+        self.value.as_str()
+    }
+
+    /// The marks of its journals.
+    pub(crate) fn marks(&self) -> &[Mark] {
+        self.marks.as_slice()
+    }
+
+    /// Marks the journal of a number by its first bytes, in place of the mark that it has.
+    pub(crate) fn mark(&mut self, alloc: Global, number: u64, first: &[u8]) -> io::Result<()> {
+        self.marks.retain(|mark| mark.number != number);
+        self.marks.push(Mark::new(alloc, number, first)?)?;
+        Ok(())
+    }
+
+    /// Keeps the marks of these journals alone.
+    pub(crate) fn keep(&mut self, numbers: &[u64]) {
+        self.marks.retain(|mark| numbers.contains(&mark.number));
+    }
+
+    /// Returns true if all marked journals, of which there is one at least, have lower numbers: a journal is marked before it gets its name.
+    pub(crate) fn ends_before(&self, number: u64) -> bool {
+        match self.marks.iter().map(|mark| mark.number).max() {
+            Some(newest) => newest < number,
+            None => false,
+        }
+    }
+
+    /// Whether a journal of this number and these first bytes is the folder's; none if the folder has no mark of that number.
+    pub(crate) fn has(&self, alloc: Global, number: u64, first: &[u8]) -> io::Result<Option<bool>> {
+        for mark in self.marks.as_slice() {
+            if mark.number == number {
+                return Ok(Some(mark.is_of(alloc, first)?));
+            }
+        }
+        Ok(None)
+    }
+
+    /// The text of the file.
+    fn text(&self, alloc: Global) -> io::Result<String> {
+        let mut text = format!(in alloc; "{}\n", self.value)?;
+        for mark in self.marks.as_slice() {
+            text.push_str(mark_line(alloc, mark)?.as_str())?;
+        }
+        Ok(text)
+    }
+
+    /// The identity of a text; none if it is none.
+    fn of_text(alloc: Global, text: &str) -> Result<Option<Identity>, AllocError> {
+        let Some((value, rest)) = text.split_once('\n') else {
+            return Ok(None);
+        };
+        if !is_hex(value) || !(rest.is_empty() || rest.ends_with('\n')) {
+            return Ok(None);
+        }
+        let mut marks = Vec::new(alloc);
+        for line in rest.lines() {
+            match mark_of(alloc, line)? {
+                Some(mark) => marks.push(mark)?,
+                None => return Ok(None),
+            }
+        }
+        Ok(Some(Identity {
+            value: String::from_str(alloc, value)?,
+            marks,
+        }))
+    }
+}
+
+/// Returns true if a text is 32 lowercase hexadecimal digits.
+pub(crate) fn is_hex(text: &str) -> bool {
+    let bytes = text.as_bytes();
+    bytes.len() == DIGITS
+        && bytes
+            .iter()
+            .all(|byte| matches!(byte, b'0'..=b'9' | b'a'..=b'f'))
+}
+
+/// The path of a folder's identity.
+fn identity_path(rt: &HostRuntime, folder: &str) -> Result<String, AllocError> {
+    format!(in rt.alloc(); "{folder}/identity")
+}
+
+/// The identity of a folder, if it has one.
+pub(crate) fn read_identity(rt: &HostRuntime, folder: &str) -> Result<Option<Identity>, End> {
+    match load_identity(rt, folder) {
+        Ok(identity) => Ok(identity),
+        Err(error) => match error.kind() {
+            io::ErrorKind::InvalidData => Err(End::at(Place::Identity, Fault::BadIdentity)),
+            _ => Err(End::by_system(Place::Identity, Fault::CannotRead, &error)),
+        },
+    }
+}
+
+/// The same. Data is invalid that is no identity; a file in place of the folder has none.
+pub(crate) fn load_identity(rt: &HostRuntime, folder: &str) -> io::Result<Option<Identity>> {
+    match fs::read_to_string(rt, identity_path(rt, folder)?.as_str()) {
+        Ok(text) => match Identity::of_text(rt.alloc(), text.as_str())? {
+            Some(identity) => Ok(Some(identity)),
+            None => Err(io::Error::from(io::ErrorKind::InvalidData)),
+        },
+        Err(error) => match error.kind() {
+            io::ErrorKind::NotFound | io::ErrorKind::NotADirectory => Ok(None),
+            _ => Err(error),
+        },
+    }
+}
+
+/// The identity of a folder, or a new one if it has none.
+pub(crate) fn new_identity(rt: &HostRuntime, folder: &str) -> io::Result<Identity> {
+    match load_identity(rt, folder)? {
+        Some(identity) => Ok(identity),
+        None => Identity::make(rt),
+    }
+}
+
+/// Writes the identity of a folder, durably: a kill leaves either the earlier or the new file.
+pub(crate) fn write_identity(
+    rt: &HostRuntime,
+    folder: &str,
+    identity: &Identity,
+) -> io::Result<()> {
+    let text = identity.text(rt.alloc())?;
+    let path = identity_path(rt, folder)?;
+    let part = format!(in rt.alloc(); "{path}.part")?;
+    if let Err(error) = write_new(rt, part.as_str(), text.as_bytes()) {
+        let _ = fs::remove_file(rt, part.as_str());
+        return Err(error);
+    }
+    fs::rename(rt, part.as_str(), path.as_str())?;
+    sync_names(rt, folder)
+}
+
+/// Writes a new file, durably. What was left of it goes.
+fn write_new(rt: &HostRuntime, path: &str, bytes: &[u8]) -> io::Result<()> {
+    let _ = fs::remove_file(rt, path);
+    let mut file = OpenOptions::new()
+        .write(true)
+        .create_new(true)
+        .mode(0o600)
+        .open(rt, path)?;
+    file.write_all(bytes)?;
+    file.sync_all()
+}

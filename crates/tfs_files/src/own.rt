@@ -1,0 +1,202 @@
+//! Which journals are the folder's own: what a start refuses, and what is noted of each that is made.
+
+use crate::fault::{End, Fault, Place};
+use crate::folder::{journal_path, numbers_in, old_numbers, old_path};
+use crate::identity::{Identity, load_identity, new_identity, read_identity, write_identity};
+use crate::marks::{MOST_MARKED, first_bytes};
+use crate::next::part_path;
+use crate::start::Start;
+use std::fs::File;
+use std::io;
+
+/// The number of retired journals whose marks stay.
+const OLD_JOURNALS: usize = 3;
+
+/// Refuses a journal of another folder: the one of a number that is chosen, and open. Completes the folder's identity if it is missing, or has
+/// no marks; a journal that the operator prefers to another one is marked, too.
+pub(crate) fn refuse_other(
+    rt: &HostRuntime,
+    asked: &Start<'_>,
+    chosen: Option<&File>,
+    number: u64,
+) -> Result<(), End> {
+    let known = read_identity(rt, asked.folder)?;
+    let is_own = match (chosen, &known) {
+        (None, Some(_)) => Some(true),
+        (None, None) => None,
+        (Some(_), None) => None,
+        (Some(_), Some(identity)) => is_own(rt, asked.folder, identity, number)?,
+    };
+    let has_marks = known
+        .as_ref()
+        .is_some_and(|identity| !identity.marks().is_empty());
+    match is_own {
+        Some(true) => Ok(()),
+        None if !has_marks || asked.past.is_some() => complete(rt, asked.folder, chosen, number),
+        _ => Err(End::at(Place::Journal(number), Fault::OtherIdentity)),
+    }
+}
+
+/// Whether the journal of a number is the folder's; none if its identity has no marks of it.
+fn is_own(
+    rt: &HostRuntime,
+    folder: &str,
+    identity: &Identity,
+    number: u64,
+) -> Result<Option<bool>, End> {
+    match first_of(rt, folder, number).and_then(|first| identity.has(
+        rt.alloc(),
+        number,
+        first.as_slice(),
+    )) {
+        Ok(is_own) => Ok(is_own),
+        Err(error) => Err(End::by_system(Place::Journal(number), Fault::CannotRead, &error)),
+    }
+}
+
+/// The first bytes of the journal of a number, in the folder or, since a server may have retired it meanwhile, in its `old/`.
+fn first_in(rt: &HostRuntime, folder: &str, number: u64) -> io::Result<Vec<u8>> {
+    match first_of(rt, folder, number) {
+        Ok(first) => Ok(first),
+        Err(error) => match error.kind() {
+            io::ErrorKind::NotFound => first_of(rt, old_path(rt, folder)?.as_str(), number),
+            _ => Err(error),
+        },
+    }
+}
+
+/// The first bytes of the journal of a number.
+fn first_of(rt: &HostRuntime, folder: &str, number: u64) -> io::Result<Vec<u8>> {
+    first_bytes(rt, journal_path(rt, folder, number)?.as_str(), MOST_MARKED)
+}
+
+/// Gives a folder an identity if it has none, and marks the journal of a number in it, if one is open.
+fn complete(rt: &HostRuntime, folder: &str, chosen: Option<&File>, number: u64) -> Result<(), End> {
+    match completed(rt, folder, chosen, number) {
+        Ok(()) => Ok(()),
+        Err(error) => Err(End::by_system(Place::Identity, Fault::CannotWrite, &error)),
+    }
+}
+
+/// The same. Only bytes that are durable are marked.
+fn completed(rt: &HostRuntime, folder: &str, chosen: Option<&File>, number: u64) -> io::Result<()> {
+    let mut identity = new_identity(rt, folder)?;
+    if let Some(file) = chosen {
+        file.sync_all()?;
+        let first = first_of(rt, folder, number)?;
+        identity.mark(rt.alloc(), number, first.as_slice())?;
+    }
+    write_identity(rt, folder, &identity)
+}
+
+/// Marks a part before it gets the name of a journal's number, durably. The marks of the newest journals stay.
+pub fn mark_part(rt: &HostRuntime, folder: &str, part: u64, number: u64) -> io::Result<()> {
+    let mut identity = new_identity(rt, folder)?;
+    identity.keep(newest_of(rt, folder)?.as_slice());
+    let part = part_path(rt, folder, part)?;
+    let first = first_bytes(rt, part.as_str(), MOST_MARKED)?;
+    identity.mark(rt.alloc(), number, first.as_slice())?;
+    write_identity(rt, folder, &identity)
+}
+
+/// Marks the journal of a number, which has its name, by at most so many of its bytes: those that are durable. Nothing is marked of one that isn't
+/// the folder's any more.
+pub fn mark_grown(rt: &HostRuntime, folder: &str, number: u64, durable: usize) -> io::Result<()> {
+    let Some(mut identity) = load_identity(rt, folder)? else {
+        return Ok(());
+    };
+    let path = journal_path(rt, folder, number)?;
+    let first = first_bytes(rt, path.as_str(), durable)?;
+    if identity.has(rt.alloc(), number, first.as_slice())? != Some(true) {
+        return Ok(());
+    }
+    identity.mark(rt.alloc(), number, first.as_slice())?;
+    write_identity(rt, folder, &identity)
+}
+
+/// The numbers of a folder's own journals, and of the newest ones that were put away.
+fn newest_of(rt: &HostRuntime, folder: &str) -> io::Result<Vec<u64>> {
+    let mut numbers = numbers_in(rt, folder)?;
+    let old = old_numbers(rt, folder)?;
+    let fewer = old.len().saturating_sub(OLD_JOURNALS);
+    numbers.extend_from_slice(old.as_slice().get(fewer..).unwrap_or(&[]))?;
+    Ok(numbers)
+}
+
+/// Refuses to copy a folder into one of another identity. A folder without one is of none.
+pub fn refuse_other_copies(rt: &HostRuntime, from: &str, to: &str) -> Result<(), End> {
+    let original = match read_identity(rt, from) {
+        Ok(original) => original,
+        Err(end) => return Err(end.of_original()),
+    };
+    let copy = read_identity(rt, to)?;
+    if are_different(original.as_ref(), copy.as_ref()) {
+        return Err(End::at(Place::Identity, Fault::OtherIdentity));
+    }
+    Ok(())
+}
+
+/// Refuses to copy a journal, of this number, that isn't the copied folder's own by its identity. A folder without marks is taken as it is, and so is a
+/// journal that was retired so long ago that its mark or its file is gone.
+pub fn refuse_other_original(rt: &HostRuntime, from: &str, number: u64) -> Result<(), End> {
+    let Some(identity) = read_identity(rt, from)? else {
+        return Ok(());
+    };
+    let place = Place::Journal(number);
+    if identity.ends_before(number) {
+        return Err(End::at(place, Fault::OtherIdentity));
+    }
+    match first_in(rt, from, number).and_then(|first| identity.has(
+        rt.alloc(),
+        number,
+        first.as_slice(),
+    )) {
+        Ok(Some(false)) => Err(End::at(place, Fault::OtherIdentity)),
+        Ok(_) => Ok(()),
+        Err(error) => match error.kind() {
+            io::ErrorKind::NotFound => Ok(()),
+            _ => Err(End::by_system(place, Fault::CannotRead, &error)),
+        },
+    }
+}
+
+/// Returns true if two folders have different identities.
+fn are_different(one: Option<&Identity>, other: Option<&Identity>) -> bool {
+    match (one, other) {
+        (Some(one), Some(other)) => one.value() != other.value(),
+        _ => false,
+    }
+}
+
+/// Gives a folder of copies the identity of the folder that is copied, if that has one, and marks its journals, and the parts of these numbers that
+/// it lacks, before they get their names.
+pub fn mark_copies(rt: &HostRuntime, from: &str, to: &str, parts: &[u64]) -> Result<(), End> {
+    let known = match read_identity(rt, to)? {
+        Some(identity) => Some(identity),
+        None => read_identity(rt, from)?,
+    };
+    let Some(known) = known else {
+        return Ok(());
+    };
+    match copies_marked(rt, to, &known, parts) {
+        Ok(()) => Ok(()),
+        Err(error) => Err(End::by_system(Place::Identity, Fault::CannotWrite, &error)),
+    }
+}
+
+/// The same, of an identity.
+fn copies_marked(rt: &HostRuntime, to: &str, known: &Identity, parts: &[u64]) -> io::Result<()> {
+    let mut identity = known.with_no_marks(rt.alloc())?;
+    let here = numbers_in(rt, to)?;
+    for number in here.as_slice() {
+        identity.mark(rt.alloc(), *number, first_of(rt, to, *number)?.as_slice())?;
+    }
+    for number in parts {
+        if !here.as_slice().contains(number) {
+            let part = part_path(rt, to, *number)?;
+            let first = first_bytes(rt, part.as_str(), MOST_MARKED)?;
+            identity.mark(rt.alloc(), *number, first.as_slice())?;
+        }
+    }
+    write_identity(rt, to, &identity)
+}
