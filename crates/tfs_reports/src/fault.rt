@@ -22,7 +22,7 @@ pub enum Fault {
     NoName,
     #[error("NoState: the workspace has no state there. `history` tells the positions at which it has one")]
     NoState,
-    #[error("BeforeOldest: the oldest journal that is there begins at position {0}. Look into an older copy of the folder")]
+    #[error("BeforeOldest: versions before position {0} are no longer kept. Look into an older copy of the folder")]
     BeforeOldest(u64),
     #[error("BehindNewest: the newest position is {0}")]
     BehindNewest(u64),
@@ -50,13 +50,13 @@ pub fn status_of(fault: Fault) -> u8
 {
     match fault {
         Fault::Files(fault) => tfs_files::status_of(fault),
-        Fault::Changing => 1,
-        Fault::NoName => 11,
-        Fault::NoState => 12,
-        Fault::BeforeOldest(_) | Fault::BehindNewest(_) | Fault::NotKept => 13,
-        Fault::LineageDiffers => 14,
-        Fault::SerialAtLimit | Fault::TooLong | Fault::Unplaced => 15,
-        Fault::NoAddress | Fault::TooManyAddresses | Fault::UnknownAddress(_) => 16,
+        Fault::Changing => 20,
+        Fault::NoName => 30,
+        Fault::NoState => 31,
+        Fault::BeforeOldest(_) | Fault::BehindNewest(_) | Fault::NotKept => 32,
+        Fault::LineageDiffers => 33,
+        Fault::SerialAtLimit | Fault::TooLong | Fault::Unplaced => 34,
+        Fault::NoAddress | Fault::TooManyAddresses | Fault::UnknownAddress(_) => 35,
     }
 }
 
@@ -104,8 +104,12 @@ impl End {
         let fault = match error.kind() {
             io::ErrorKind::OutOfMemory => tfs_files::Fault::OutOfMemory,
             io::ErrorKind::PermissionDenied => tfs_files::Fault::NotAllowed,
-            io::ErrorKind::NotFound | io::ErrorKind::NotADirectory => match place {
+            io::ErrorKind::NotFound => match place {
                 Place::Folder | Place::Copies => tfs_files::Fault::NoFolder,
+                _ => tfs_files::Fault::CannotRead,
+            },
+            io::ErrorKind::NotADirectory => match place {
+                Place::Folder | Place::Copies => tfs_files::Fault::NotFolder,
                 _ => tfs_files::Fault::CannotRead,
             },
             _ => tfs_files::Fault::CannotRead,

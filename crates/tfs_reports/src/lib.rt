@@ -5,6 +5,7 @@
 mod acts;
 mod fault;
 mod files;
+mod kept;
 mod listing;
 mod measures;
 mod monitor;

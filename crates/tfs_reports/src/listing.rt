@@ -10,6 +10,7 @@ ghost use Rattle.tfs_reports.specs.Rows.{name_row, whole_or_null};
 
 use crate::fault::End;
 use crate::files::newest_journal;
+use crate::kept::{missing_in, tell_missing, with_kept_from};
 use crate::report::Report;
 use crate::texts::member;
 use serde_json::{Value, json};
@@ -30,18 +31,36 @@ const COLUMNS: &[&str] = &[
     "created",
 ];
 
-/// Prints what each name of the newest journal of a folder has.
+/// Prints what each name of the newest journal of a folder has, and from which position on versions are kept, unless that is 0: in each row of
+/// JSON, otherwise on standard error.
 pub fn list(rt: &HostRuntime, folder: &str, json: bool) -> Result<(), End> {
+    let missing = missing_in(rt, folder);
     let newest = newest_journal(rt, folder)?;
-    report_of(rt.alloc(), &newest.table, json)?.print(rt)
+    let from = match missing {
+        Some(missing) => missing.end,
+        None => 0,
+    };
+    report_of(rt.alloc(), &newest.table, json, from)?.print(rt)?;
+    if let Some(missing) = missing {
+        if !json || newest.table.names() == 0 {
+            let _ = tell_missing(rt, folder, missing);
+        }
+    }
+    Ok(())
 }
 
-/// A row for each name, in the order in which they came.
-fn report_of(alloc: Global, table: &Table<Discard>, json: bool) -> Result<Report, AllocError> {
+/// A row for each name, in the order in which they came. Versions are kept from this position on.
+fn report_of(
+    alloc: Global,
+    table: &Table<Discard>,
+    json: bool,
+    from: u64,
+) -> Result<Report, AllocError> {
     let mut report = Report::new(alloc, COLUMNS, json)?;
     for number in 0..table.names() {
         if let Some(name) = table.name(number) {
-            report.add(alloc, &row_of(alloc, table, name)?)?;
+            let row = with_kept_from(alloc, row_of(alloc, table, name)?, from)?;
+            report.add(alloc, &row)?;
         }
     }
     Ok(report)

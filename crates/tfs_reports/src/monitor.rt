@@ -28,13 +28,13 @@ const COPY_AGE: Metric = Metric {
     help: "For how long the newest journal of the copies has been as it is.",
 };
 
-/// Prints the numbers of what is whole of the newest journal of a folder, and how old the newest copy is, where a folder of copies is
-/// given. An age that isn't known is left out.
+/// Prints the numbers of what is whole of the newest journal of a folder, and the age of the newest copy if a folder of copies is given.
+/// Leaves out an age that isn't known: of copies before the first one is made, too.
 pub fn stats(rt: &HostRuntime, folder: &str, copies: Option<&str>) -> Result<(), End> {
     let (measures, fault) = measures_of(rt, folder)?;
     let (copied, copies_fault) = match copies {
         Some(copies) => match copied_at(rt, copies) {
-            Ok(copied) => (Some(copied), None),
+            Ok(copied) => (copied, None),
             Err(end) => (None, Some(end)),
         },
         None => (None, None),
@@ -66,25 +66,27 @@ fn seconds_now(rt: &HostRuntime) -> Option<i64> {
     }
 }
 
-/// When the newest journal of a folder of copies was written, by the times of files, in seconds since 1970.
-fn copied_at(rt: &HostRuntime, copies: &str) -> Result<i64, End> {
+/// When the newest journal of a folder of copies was written, by the times of files, in seconds since 1970; none before the first copy.
+fn copied_at(rt: &HostRuntime, copies: &str) -> Result<Option<i64>, End> {
     for _ in 0..TRIES {
-        let number = newest_copy(rt, copies)?;
+        let Some(number) = newest_copy(rt, copies)? else {
+            return Ok(None);
+        };
         if let Some(time) = written_at(rt, copies, number)? {
-            return Ok(time);
+            return Ok(Some(time));
         }
     }
     Err(End::at(Place::Copies, Fault::Changing))
 }
 
-/// The number of the newest journal of a folder of copies.
-fn newest_copy(rt: &HostRuntime, copies: &str) -> Result<u64, End> {
+/// The number of the newest journal of a folder of copies; none if it has none, or doesn't exist.
+fn newest_copy(rt: &HostRuntime, copies: &str) -> Result<Option<u64>, End> {
     match numbers_in(rt, copies) {
-        Ok(numbers) => match numbers.as_slice().last() {
-            Some(number) => Ok(*number),
-            None => Err(End::of_files(Place::Copies, tfs_files::Fault::NoJournal)),
+        Ok(numbers) => Ok(numbers.as_slice().last().copied()),
+        Err(error) => match error.kind() {
+            io::ErrorKind::NotFound => Ok(None),
+            _ => Err(End::by_system(Place::Copies, &error)),
         },
-        Err(error) => Err(End::by_system(Place::Copies, &error)),
     }
 }
 

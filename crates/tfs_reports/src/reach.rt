@@ -10,6 +10,7 @@ use crate::report::Report;
 use serde_json::{Value, json};
 use std::alloc::{AllocError, Global};
 use tfs_calls::{Impact, Kind, Query, Refusal, Text, Texts};
+use tfs_printed::push_drawn;
 use tfs_rules::Name;
 use tfs_state::Doc;
 use tfs_versions::picture;
@@ -90,11 +91,19 @@ fn tell(rt: &HostRuntime, answer: &Impact, form: Form) -> Result<(), End> {
         Form::Json => report_of(rt.alloc(), doc, chosen, true)?.print(rt),
         Form::Picture => {
             let all = all_numbers_of(rt.alloc(), doc)?;
-            let text = picture(rt.alloc(), doc, all.as_slice(), chosen)?;
-            write(rt, text.as_slice())
+            draw(rt, doc, all.as_slice(), chosen)
         }
-        Form::AnswerPicture => write(rt, picture(rt.alloc(), doc, chosen, chosen)?.as_slice()),
+        Form::AnswerPicture => draw(rt, doc, chosen, chosen),
     }
+}
+
+/// Prints the picture of some instances, in which the chosen ones are filled.
+fn draw(rt: &HostRuntime, doc: &Doc, among: &[usize], chosen: &[usize]) -> Result<(), End> {
+    let bytes = picture(rt.alloc(), doc, among, chosen)?;
+    let text = String::from_utf8_lossy(rt.alloc(), bytes.as_slice())?;
+    let mut drawn = String::with_capacity(rt.alloc(), text.len())?;
+    push_drawn(&mut drawn, text.as_str())?;
+    write(rt, drawn.as_bytes())
 }
 
 /// A row for each instance that was chosen.

@@ -5,6 +5,7 @@ use crate::output::write;
 use crate::texts::cell;
 use serde_json::Value;
 use std::alloc::{AllocError, Global};
+use tfs_printed::push_json;
 
 /// The rows so far: as JSON in one line; or as lines of cells, each with a tab behind it, below the names of the columns.
 #[derive(Drop)]
@@ -64,7 +65,7 @@ fn add_json(alloc: Global, text: &mut String, row: &Value) -> Result<(), AllocEr
     if text.len() > "[".len() {
         text.push(',')?;
     }
-    text.push_str(row.to_string(alloc)?.as_str())
+    push_json(text, row.to_string(alloc)?.as_str())
 }
 
 /// Adds the line of the columns' names, which are the first cells.

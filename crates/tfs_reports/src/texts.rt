@@ -1,14 +1,17 @@
-//! Texts of other people as JSON values and as cells of a table.
+//! Texts from clients as JSON values and as cells of a table.
 
-ghost use Rattle.std.specs.Prelude.{◌≡◌, IfOk};
+ghost use Rattle.std.specs.Prelude.{◌≡◌, IfOk, string_bytes, chars};
+ghost use Rattle.std.specs.List.{flat_map};
 ghost use Rattle.serde_json.specs.Data.{string};
 ghost use Rattle.serde_json.specs.View.{view};
 ghost use Rattle.tfs_json.specs.Json.{text_at};
+ghost use Rattle.tfs_printed.specs.Printed.{printed};
 ghost use Rattle.tfs_reports.specs.Rows.{text_or_null};
 
 use serde_json::Value;
 use std::alloc::{AllocError, Global};
 use tfs_lock::Id;
+use tfs_printed::push_printed;
 
 /// An identifier as JSON; null for none.
 pub(crate) fn id_text(alloc: Global, id: &Option<Id>) -> Result<Value, AllocError>
@@ -30,31 +33,20 @@ pub(crate) fn member(alloc: Global, members: &Value, name: &str) -> Result<Value
     }
 }
 
-/// What stands in a cell: a text whose control characters are escaped, a number, or a dash for nothing.
+/// The text of a cell: a text as a terminal prints it, a number, or a dash for nothing.
 pub(crate) fn cell(alloc: Global, row: &Value, column: &str) -> Result<String, AllocError> {
     match row.get(column) {
-        Some(Value::String(text)) => escaped(alloc, text.as_str()),
+        Some(Value::String(text)) => text_cell(alloc, text.as_str()),
         Some(Value::Number(number)) => format!(in alloc; "{number}"),
         Some(_) | None => String::from_str(alloc, "-"),
     }
 }
 
-/// A text in which each character that a terminal doesn't print is written as its number.
-pub(crate) fn escaped(alloc: Global, text: &str) -> Result<String, AllocError> {
-    let mut out = String::with_capacity(alloc, text.len())?;
-    for c in text.chars() {
-        if is_printed(c) {
-            out.push(c)?;
-        } else {
-            let code = u32::from(c);
-            out.push_str(format!(in alloc; "\\u{{{code:x}}}")?.as_str())?;
-        }
-    }
-    Ok(out)
-}
-
-/// Whether a terminal prints a character in its place: it is no control character, and none that ends a line or turns the direction of a text.
-fn is_printed(c: char) -> bool {
-    !c.is_control()
-        && !matches!(c, '\u{200e}' | '\u{200f}' | '\u{2028}'..='\u{202e}' | '\u{2066}'..='\u{2069}')
+/// A text in a cell.
+fn text_cell(alloc: Global, text: &str) -> Result<String, AllocError>
+    ensures { IfOk result (λ shown. string_bytes shown ≡ flat_map printed (chars text.now)) }
+{
+    let mut shown = String::with_capacity(alloc, text.len())?;
+    push_printed(&mut shown, text)?;
+    Ok(shown)
 }
