@@ -40,6 +40,8 @@ enum Value {
     Perhaps,
     /// One that is given where this option isn't.
     Unless(&'static str),
+    /// One that is given where none of these options is.
+    UnlessAny(ValueParser<'static>, &'static [&'static str]),
 }
 
 /// Any number.
@@ -52,7 +54,14 @@ pub(crate) const JOURNALS: Argument = Argument {
     help: "The folder of the journals",
 };
 
-/// A folder of journals that is read alone.
+/// A new folder of journals.
+pub(crate) const NEW: Argument = Argument {
+    name: "FOLDER",
+    takes: Takes::Word,
+    help: "The new folder, which has no journals and never had any",
+};
+
+/// A folder of journals that is only read.
 pub(crate) const SERVED: Argument = Argument {
     name: "FOLDER",
     takes: Takes::Word,
@@ -126,21 +135,31 @@ pub(crate) const SOME_POSITION: Argument = Argument {
 pub(crate) const COPIES: Argument = Argument {
     name: "copies",
     takes: Takes::Value("FOLDER", Value::Optional(ValueParser::String)),
-    help: "A folder of copies, whose newest journal's age is told",
+    help: "A folder of copies: adds the age of its newest journal, once it has one",
 };
 
-/// How many files are kept of a folder that is served.
+/// How many files of `old/` are kept, in place of the two limits.
 pub(crate) const KEEP: Argument = Argument {
     name: "keep",
-    takes: Takes::Value("NUMBER", Value::Default(NUMBER, "10")),
-    help: "How many of the newest files stay in the folder's old/",
+    takes: Takes::Value(
+        "NUMBER",
+        Value::UnlessAny(NUMBER, &["keep-days", "keep-bytes"]),
+    ),
+    help: "Keeps this number of the newest files in old/, in place of --keep-days and --keep-bytes",
 };
 
-/// How many files are kept of copies.
-pub(crate) const KEEP_COPIES: Argument = Argument {
-    name: "keep",
-    takes: Takes::Value("NUMBER", Value::Default(NUMBER, "10")),
-    help: "How many of the newest files stay in the old/ of the copies",
+/// How old the files of `old/` may become.
+pub(crate) const KEEP_DAYS: Argument = Argument {
+    name: "keep-days",
+    takes: Takes::Value("DAYS", Value::Default(NUMBER, "90")),
+    help: "Removes files of old/ that are older; the newest 10 always stay",
+};
+
+/// How large the files of `old/` may become.
+pub(crate) const KEEP_BYTES: Argument = Argument {
+    name: "keep-bytes",
+    takes: Takes::Value("NUMBER", Value::Default(NUMBER, "10737418240")),
+    help: "Removes the oldest files of old/ while all together have more bytes; the newest 10 always stay (10G; K, M and G are binary)",
 };
 
 /// Where to listen.
@@ -150,7 +169,7 @@ pub(crate) const LISTEN: Argument = Argument {
         "ADDRESS",
         Value::Default(ValueParser::String, "127.0.0.1:8080"),
     ),
-    help: "Where to listen",
+    help: "Where to listen: HOST:PORT, or unix:PATH for a socket that only its user and group may use",
 };
 
 /// The number of workers.
@@ -252,6 +271,9 @@ impl Value {
             Value::Default(parser, value) => Ok(option.value_parser(parser).default_value(value)),
             Value::Perhaps => Ok(option.num_args(0..=1).default_missing_value("")),
             Value::Unless(other) => option.conflicts_with(other),
+            Value::UnlessAny(parser, others) => {
+                option.value_parser(parser).conflicts_with_all(others)
+            }
         }
     }
 }

@@ -3,7 +3,7 @@
 use std::alloc::Global;
 use std::io::{self, Write};
 use std::process::ExitCode;
-use tfs_files::{End, Fault, Place, end_by, files_of, numbers_here};
+use tfs_files::{End, Fault, Place, end_by, files_of, numbers_here, old_file, old_numbers};
 use tfs_folder::{Chosen, FolderFile, choose};
 use tfs_journal::End as JournalEnd;
 use tfs_records::Discard;
@@ -20,6 +20,7 @@ pub(crate) fn run(rt: &HostRuntime, folder: &str) -> ExitCode {
 /// Checks a folder.
 fn checked(rt: &HostRuntime, folder: &str) -> Result<(), End> {
     let numbers = numbers_here(rt, folder)?;
+    tell_old(rt, folder)?;
     let files = files_of(rt, folder, numbers.as_slice())?;
     if tell_files(rt, files.as_slice()).is_err() {
         return Err(End::at(Place::Command, Fault::Write));
@@ -31,6 +32,34 @@ fn checked(rt: &HostRuntime, folder: &str) -> Result<(), End> {
         },
         Err(unchosen) => Err(End::unchosen(unchosen, 0)),
     }
+}
+
+/// Prints a line for each journal of the folder's `old/`, one read after another. One that goes away meanwhile has none.
+fn tell_old(rt: &HostRuntime, folder: &str) -> Result<(), End> {
+    let numbers = match old_numbers(rt, folder) {
+        Ok(numbers) => numbers,
+        Err(error) => return Err(End::by_system(Place::Old, Fault::CannotRead, &error)),
+    };
+    for number in numbers {
+        if let Some(file) = old_file(rt, folder, number)? {
+            tell_old_file(rt, &file)?;
+        }
+    }
+    Ok(())
+}
+
+/// Prints the line of a journal of `old/`.
+fn tell_old_file(rt: &HostRuntime, file: &FolderFile) -> Result<(), End> {
+    match print_old_file(rt, file) {
+        Ok(()) => Ok(()),
+        Err(_) => Err(End::at(Place::Command, Fault::Write)),
+    }
+}
+
+/// Writes the line of a journal of `old/` to standard output.
+fn print_old_file(rt: &HostRuntime, file: &FolderFile) -> io::Result<()> {
+    let line = line_of(rt.alloc(), file)?;
+    println!(rt; "old/{line}")
 }
 
 /// Prints a line for each file.

@@ -9,7 +9,7 @@ use std::alloc::{AllocError, Global};
 use std::env;
 use std::process::ExitCode;
 use std::rt::Env;
-use tfs_files::{End, Fault, Place, Start, end_by};
+use tfs_files::{End, Fault, Limits, Place, Retention, Start, end_by};
 use tfs_turns::Bounds;
 
 /// What `serve` is asked for.
@@ -47,7 +47,13 @@ impl<'a> Serving<'a> {
     /// The name of what a fault is about.
     pub(crate) fn name_at(&self, place: Place) -> &'a str {
         match place {
-            Place::Command | Place::Folder | Place::Old | Place::Journal(_) => self.start.folder,
+            Place::Command
+            | Place::Folder
+            | Place::Old
+            | Place::Journal(_)
+            | Place::OldJournal(_)
+            | Place::Identity
+            | Place::OriginalIdentity => self.start.folder,
             Place::First => self.start.first.unwrap_or(""),
             Place::Past => self.start.past.unwrap_or(""),
             Place::Position => self.least_file.unwrap_or(""),
@@ -71,7 +77,26 @@ fn start_of<'a>(given: &ArgMatches<'a>) -> Start<'a> {
         first: given.get_str("first"),
         past: given.get_str("accept-past"),
         least: given.get_one::<u64>("at-least").unwrap_or(0),
-        keep: given.get_one::<u64>("keep").unwrap_or(10),
+        keep: keep_in(given),
+    }
+}
+
+/// Which files of `old/` stay by the arguments: the newest ones alone where their number is given, else the newest 10 and others within limits.
+fn keep_in(given: &ArgMatches<'_>) -> Retention {
+    if let Some(newest) = given.get_one::<u64>("keep") {
+        return Retention {
+            newest,
+            limits: None,
+        };
+    }
+    let days = given.get_one::<u64>("keep-days").unwrap_or(90);
+    let bytes = given.get_one::<u64>("keep-bytes").unwrap_or(u64::MAX);
+    Retention {
+        newest: 10,
+        limits: Some(Limits {
+            seconds: days.saturating_mul(86_400),
+            bytes,
+        }),
     }
 }
 
@@ -82,8 +107,8 @@ pub(crate) struct Copying<'a> {
     pub(crate) from: &'a str,
     /// The folder of the copies.
     pub(crate) to: &'a str,
-    /// How many of the newest files stay in `old/`.
-    pub(crate) keep: u64,
+    /// Which files of `old/` stay.
+    pub(crate) keep: Retention,
     /// The file of the least position, which is raised.
     pub(crate) least_file: Option<&'a str>,
 }
@@ -94,7 +119,7 @@ impl<'a> Copying<'a> {
         Copying {
             from: given.get_str("FROM").unwrap_or("."),
             to: given.get_str("TO").unwrap_or("."),
-            keep: given.get_one::<u64>("keep").unwrap_or(10),
+            keep: keep_in(given),
             least_file: given.get_str("at-least-file"),
         }
     }
@@ -103,6 +128,7 @@ impl<'a> Copying<'a> {
     pub(crate) fn name_at(&self, place: Place) -> &'a str {
         match place {
             Place::Position => self.least_file.unwrap_or(""),
+            Place::OriginalIdentity => self.from,
             _ => self.to,
         }
     }

@@ -2,8 +2,8 @@
 
 use crate::arguments::{
     ADDRESSES, ANSWER_ONLY, Argument, COMPACT_BYTES, COMPACT_ENTRIES, COPIES, DOT, FIRST, FROM,
-    JOURNALS, JSON, KEEP, KEEP_COPIES, LEAST, LEAST_FILE, LEAST_OF_COPIES, LISTEN, PAST, POSITION,
-    QUERY, SERVE_READS, SERVED, SOME_POSITION, TO, WORKERS, WORKSPACE,
+    JOURNALS, JSON, KEEP, KEEP_BYTES, KEEP_DAYS, LEAST, LEAST_FILE, LEAST_OF_COPIES, LISTEN, NEW,
+    PAST, POSITION, QUERY, SERVE_READS, SERVED, SOME_POSITION, TO, WORKERS, WORKSPACE,
 };
 use clap::{Arg, Command};
 use std::alloc::{AllocError, Global};
@@ -13,9 +13,9 @@ const VERSION: &str = "0.1.0 (rattle-kit-13f logic dac8208d650f15bf)";
 
 /// What the statuses mean.
 const STATUSES: &str =
-    "Status: 0 done; 1 may pass: try again; 2 wrong arguments; 3 torn base; 4 damaged; 5 unlawful; 6 no journal, or two that \
-part; 7 not at least; 8 no folder, or not allowed; 9 out of memory; 10 the journal can't be written: try again; 11 no such workspace; 12 no state; \
-13 no such position; 14 another lineage; 15 no next serial; 16 unknown address. From 3 to 9 a person has to look.";
+    "Status: 0 done; 20 may pass: try again; 21 invalid arguments; 22 torn base; 23 damaged; 24 unlawful; 25 no journal, or diverged \
+journals; 26 not at least; 27 no folder, or permission denied; 28 out of memory; 29 the journal can't be written: try again; 30 no such workspace; \
+31 no state; 32 no such position; 33 another lineage; 34 no next serial; 35 unknown address. From 22 to 28 a person has to look.";
 
 /// A command: its name, what it does, and what it takes.
 #[derive(Clone, Copy)]
@@ -26,7 +26,12 @@ struct Form {
 }
 
 /// The commands, in the order in which the help tells them.
-static COMMANDS: [Form; 9] = [
+static COMMANDS: [Form; 10] = [
+    Form {
+        name: "init",
+        about: "Creates a folder with its first, empty journal",
+        arguments: &[NEW],
+    },
     Form {
         name: "serve",
         about: "Makes the next journal from the newest one of a folder, and serves on it until it is stopped",
@@ -38,6 +43,8 @@ static COMMANDS: [Form; 9] = [
             COMPACT_BYTES,
             COMPACT_ENTRIES,
             KEEP,
+            KEEP_DAYS,
+            KEEP_BYTES,
             FIRST,
             PAST,
             LEAST,
@@ -52,7 +59,7 @@ static COMMANDS: [Form; 9] = [
     Form {
         name: "copy",
         about: "Copies the journals of a folder, so that another folder can be served from them",
-        arguments: &[FROM, TO, KEEP_COPIES, LEAST_OF_COPIES],
+        arguments: &[FROM, TO, KEEP, KEEP_DAYS, KEEP_BYTES, LEAST_OF_COPIES],
     },
     Form {
         name: "list",

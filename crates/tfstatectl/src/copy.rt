@@ -1,18 +1,19 @@
 //! The command `copy`: brings a folder of copies up to the journals of another folder, which may be served meanwhile.
 
 use crate::command::Copying;
-use std::fs::{self, File};
 use std::process::ExitCode;
+use std::{fs, io};
 use tfs_files::{
-    End, Fault, Place, PositionFile, below, end_by, keep_newest, least_position, locked,
-    name_parts, numbers_here, originals, put_away, raised, refuse_served, write_parts,
+    End, Fault, FolderLock, Gap, Originals, Place, PositionFile, below, end_by, least_position,
+    lock_folder, mark_copies, name_parts, numbers_here, put_away, raised, read_originals,
+    refuse_other_copies, refuse_other_original, refuse_served, remove_expired, write_parts,
 };
 use tfs_folder::{Chosen, FolderFile, choose};
 
-/// A folder of copies: its lock, which is kept as long as the file is open, its journals, and the file of the least position.
+/// A folder of copies: its lock, its journals, and the file of the least position.
 #[derive(Drop)]
 struct Copies {
-    lock: File,
+    lock: FolderLock,
     here: Vec<u64>,
     least: Option<PositionFile>,
 }
@@ -34,11 +35,12 @@ impl Newest {
     }
 }
 
-/// What was copied: the numbers of the parts, and the newest journal.
+/// What was copied: the numbers of the parts, the newest journal, and what is missing between the copies and the parts, if a new chain begins.
 #[derive(Drop)]
 struct Copied {
     parts: Vec<u64>,
     newest: Newest,
+    gap: Option<Gap>,
 }
 
 /// Copies, and prints up to where. Gives the program's status.
@@ -65,18 +67,36 @@ fn copy_files(
     here: &[u64],
     least: u64,
 ) -> Result<Copied, ExitCode> {
-    let files = match originals(rt, asked.from, here) {
-        Ok(files) => files,
+    let originals = match read_originals(rt, asked.from, here) {
+        Ok(originals) => originals,
         Err(end) => return Err(end_by(rt, asked.from, end)),
     };
-    let parts = match write_parts(rt, asked.to, here, files.as_slice()) {
+    let gap = originals.gap_before(rt, asked.to, here);
+    let shared = match gap {
+        Some(gap) if gap.goes_back() => here,
+        Some(_) | None => originals.shared(here),
+    };
+    let parts = match write_parts(rt, asked.to, shared, originals.files.as_slice()) {
         Ok(parts) => parts,
         Err(end) => return Err(end_by(rt, asked.to, end)),
     };
-    match chosen_in(rt, files, least) {
-        Ok(newest) => Ok(Copied { parts, newest }),
+    let Originals { files, lowest: _ } = originals;
+    match own_in(rt, asked.from, files, least) {
+        Ok(newest) => Ok(Copied { parts, newest, gap }),
         Err(end) => Err(end_by(rt, asked.from, end)),
     }
+}
+
+/// The newest journal of these files of a folder, which is the folder's own, and whose position is at least this one.
+fn own_in(
+    rt: &HostRuntime,
+    folder: &str,
+    files: Vec<FolderFile>,
+    least: u64,
+) -> Result<Newest, End> {
+    let newest = chosen_in(rt, files, least)?;
+    refuse_other_original(rt, folder, newest.number)?;
+    Ok(newest)
 }
 
 /// The newest journal of these files, whose position is at least this one.
@@ -95,7 +115,12 @@ fn name_copied(rt: &HostRuntime, asked: &Copying<'_>, copies: Copies, copied: Co
         least,
     } = copies;
     match keep(rt, asked, least, &copied) {
-        Ok(()) => tell(rt, copied.newest),
+        Ok(()) => {
+            if let Some(gap) = copied.gap {
+                let _ = tell_gap(rt, asked, gap);
+            }
+            tell(rt, copied.newest)
+        }
         Err(end) => end_by(rt, asked.name_at(end.place()), end),
     }
 }
@@ -103,8 +128,9 @@ fn name_copied(rt: &HostRuntime, asked: &Copying<'_>, copies: Copies, copied: Co
 /// Takes the lock of the folder of copies, which is made where it isn't there. One that was served may have changes of its own.
 fn copies_in(rt: &HostRuntime, asked: &Copying<'_>) -> Result<Copies, End> {
     let _ = fs::create_dir_all(rt, asked.to);
-    let lock = locked(rt, asked.to)?;
+    let lock = lock_folder(rt, asked.to)?;
     let here = unserved(rt, asked.to)?;
+    refuse_other_copies(rt, asked.from, asked.to)?;
     let least = PositionFile::named(rt, asked.least_file, here.is_empty())?;
     Ok(Copies { lock, here, least })
 }
@@ -122,6 +148,7 @@ fn keep(
     least: Option<PositionFile>,
     copied: &Copied,
 ) -> Result<(), End> {
+    mark_copies(rt, asked.from, asked.to, copied.parts.as_slice())?;
     name_parts(rt, asked.to, copied.parts.as_slice(), copied.newest.number)?;
     tidy(rt, asked, copied.newest.number)?;
     let _least = raised(rt, least, copied.newest.position)?;
@@ -132,8 +159,25 @@ fn keep(
 fn tidy(rt: &HostRuntime, asked: &Copying<'_>, number: u64) -> Result<(), End> {
     let here = numbers_here(rt, asked.to)?;
     put_away(rt, asked.to, below(here.as_slice(), number))?;
-    let _ = keep_newest(rt, asked.to, asked.keep);
+    let _ = remove_expired(rt, asked.to, asked.keep);
     Ok(())
+}
+
+/// Reports on standard error that a new chain of copies begins, because the source no longer has what the earlier one needs. Nothing is
+/// reported if the new one begins at the position at which the earlier one ends.
+fn tell_gap(rt: &HostRuntime, asked: &Copying<'_>, gap: Gap) -> io::Result<()> {
+    let (from, to) = (asked.from, asked.to);
+    if gap.is_empty() {
+        return Ok(());
+    }
+    match (gap.end, gap.begin) {
+        (Some(end), Some(begin)) => eprintln!(rt;
+            "tfstatectl: {from}: the source no longer has the journals between position {end} and {begin}: a new chain of copies begins; the earlier one is in {to}/old"
+        ),
+        (_, _) => eprintln!(rt;
+            "tfstatectl: {from}: the source no longer has the journals after the copies: a new chain of copies begins; the earlier one is in {to}/old"
+        ),
+    }
 }
 
 /// Tells up to where it is copied.

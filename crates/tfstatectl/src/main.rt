@@ -1,4 +1,4 @@
-//! The program `tfstatectl`: runs the server on a folder of journals (`serve`), tells what a folder has (`check`,
+//! The program `tfstatectl`: creates a folder of journals (`init`), runs the server on it (`serve`), reports what a folder has (`check`,
 //! `list`, `history`, `show`, `restore`, `impact`, `stats`), and copies it (`copy`).
 #![tactic(auto)]
 
@@ -7,6 +7,8 @@ mod check;
 mod command;
 mod commands;
 mod copy;
+mod init;
+mod listening;
 mod numbers;
 mod reading;
 mod serve;
@@ -18,7 +20,7 @@ use std::process::ExitCode;
 use std::sync::Wait;
 use std::thread::Threads;
 use std::time::Clock;
-use tfs_files::{End, Fault, Place, end_by};
+use tfs_files::{End, Fault, Place, end_by, status_of};
 
 fn main(rt: HostRuntime) -> ExitCode {
     match words_of(&rt) {
@@ -64,6 +66,7 @@ fn run_named<R: AllocGlobal + Threads + Wait + Clock + Sync>(
     match command {
         "serve" => run_server(rt, host, &Serving::of(given)),
         "copy" => copy::run(host, &Copying::of(given)),
+        "init" => init::run(host, folder_of(given)),
         "check" => check::run(host, folder_of(given)),
         _ => reading::run(host, command, given),
     }
@@ -81,10 +84,10 @@ fn run_server<R: AllocGlobal + Threads + Wait + Clock + Sync>(
     }
 }
 
-/// The status of what the arguments' text tells: 2 for a mistake, 0 for help or a version.
+/// The status of the text about the arguments: that of invalid arguments for an error, 0 for help or a version.
 fn end_of_words(error: &Error) -> ExitCode {
     if error.use_stderr() {
-        ExitCode::from(2)
+        ExitCode::from(status_of(Fault::Arguments))
     } else {
         ExitCode::SUCCESS
     }

@@ -3,7 +3,7 @@
 use std::alloc::{AllocError, Global};
 
 /// The options that take such numbers.
-const OPTIONS: [&str; 2] = ["--compact-bytes", "--compact-entries"];
+const OPTIONS: [&str; 3] = ["--compact-bytes", "--compact-entries", "--keep-bytes"];
 
 /// The words of a command line, in which the numbers of these options are written out.
 pub(crate) fn written_out(alloc: Global, words: Vec<String>) -> Result<Vec<String>, AllocError> {

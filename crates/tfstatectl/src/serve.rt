@@ -6,8 +6,8 @@ use std::process::ExitCode;
 use std::sync::Wait;
 use std::thread::Threads;
 use std::time::Clock;
-use tfs_files::{End, Fault, Place, end_by, status_of};
-use tfs_serve::{AcceptFault, limit_waits};
+use tfs_files::{End, Fault, FolderLock, Place, end_by, status_of};
+use tfs_serve::AcceptFault;
 use tfs_turns::{Begun, Left, Plan, serve_folder};
 
 /// Has workers answer connections, until it ends by a fault. Gives the program's status.
@@ -18,36 +18,28 @@ pub(crate) fn run<R: AllocGlobal + Threads + Wait + Clock + Sync>(
     ready: Ready,
 ) -> ExitCode {
     let Ready {
-        lock: _lock,
+        lock,
         listener,
         least,
         table,
     } = ready;
-    match limit_waits(listener) {
-        Ok(listener) => {
-            let begun = Begun {
-                listener,
-                least,
-                table,
-            };
-            serve_begun(rt, host, asked, begun)
-        }
-        Err(_) => end_by(
-            host,
-            asked.listen,
-            End::at(Place::Address, Fault::CannotBind),
-        ),
-    }
+    let begun = Begun {
+        listener,
+        least,
+        table,
+    };
+    serve_begun(rt, host, &lock, asked, begun)
 }
 
 /// Serves what a start has made, until it ends by a fault. Gives the program's status.
 fn serve_begun<R: AllocGlobal + Threads + Wait + Clock + Sync>(
     rt: &R,
     host: &HostRuntime,
+    lock: &FolderLock,
     asked: &Serving<'_>,
     begun: Begun,
 ) -> ExitCode {
-    let left = serve_folder(rt, host, &plan_of(asked), begun);
+    let left = serve_folder(rt, host, lock, &plan_of(asked), begun);
     end_of(host, asked.start.folder, left.fault, left.accepting)
 }
 

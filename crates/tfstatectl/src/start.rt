@@ -1,20 +1,21 @@
 //! The start of a server: the lock, the address, the least position, and the table.
 
 use crate::command::Serving;
-use std::fs::{self, File};
-use std::net::TcpListener;
+use crate::listening::listen;
+use std::fs;
 use tfs_files::{
-    End, Fault, JournalSink, Place, PositionFile, Start, least_position, locked, raised,
-    refuse_small_stack, started,
+    End, Fault, FolderLock, JournalSink, Place, PositionFile, Start, least_position, lock_folder,
+    raised, refuse_small_stack, started,
 };
+use tfs_serve::AnyListener;
 use tfs_table::Table;
 
-/// A folder that is ready to be served: its lock, which is kept as long as the file is open, the listener, the file of the least position,
+/// A folder that is ready to be served: its lock, the listener, the file of the least position,
 /// and the table over its next journal.
 #[derive(Drop)]
 pub(crate) struct Ready {
-    pub(crate) lock: File,
-    pub(crate) listener: TcpListener,
+    pub(crate) lock: FolderLock,
+    pub(crate) listener: AnyListener,
     pub(crate) least: Option<PositionFile>,
     pub(crate) table: Table<JournalSink>,
 }
@@ -29,10 +30,8 @@ pub(crate) fn start(rt: &HostRuntime, asked: &Serving<'_>) -> Result<Ready, End>
     if begins {
         let _ = fs::create_dir_all(rt, asked.start.folder);
     }
-    let lock = locked(rt, asked.start.folder)?;
-    let Ok(listener) = TcpListener::bind(rt, asked.listen) else {
-        return Err(End::at(Place::Address, Fault::CannotBind));
-    };
+    let lock = lock_folder(rt, asked.start.folder)?;
+    let listener = listen(rt, asked.listen)?;
     let (least, table) = begun(rt, asked, begins)?;
     Ok(Ready {
         lock,

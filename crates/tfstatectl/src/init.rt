@@ -1,0 +1,24 @@
+//! The command `init`: creates a folder with its first, empty journal.
+
+use std::fs;
+use std::process::ExitCode;
+use tfs_files::{End, FIRST_NUMBER, Fault, Place, end_by, lock_folder, make_first};
+
+/// Creates a folder with its first journal, and prints the path of that. Returns the program's status.
+pub(crate) fn run(rt: &HostRuntime, folder: &str) -> ExitCode {
+    match create(rt, folder) {
+        Ok(()) => ExitCode::SUCCESS,
+        Err(end) => end_by(rt, folder, end),
+    }
+}
+
+/// Creates a folder with its first journal, under the folder's lock.
+fn create(rt: &HostRuntime, folder: &str) -> Result<(), End> {
+    let _ = fs::create_dir_all(rt, folder);
+    let _lock = lock_folder(rt, folder)?;
+    make_first(rt, folder)?;
+    match println!(rt; "created {folder}/journal-{FIRST_NUMBER:010}.tfj") {
+        Ok(()) => Ok(()),
+        Err(_) => Err(End::at(Place::Command, Fault::Write)),
+    }
+}

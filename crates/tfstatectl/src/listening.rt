@@ -1,0 +1,70 @@
+//! The listener of a server: at an address of the network, or at a unix socket.
+
+use std::net::TcpListener;
+use std::os::unix::fs::FileTypeExt;
+use std::os::unix::net::UnixStream;
+use std::{fs, io};
+use tfs_files::{End, Fault, Place};
+use tfs_serve::{AnyListener, bind_local, limit_waits};
+
+/// The longest path of a socket, in bytes (unix(7) of Linux).
+const MAX_PATH: usize = 107;
+
+/// Listens at an address, or at the socket of `unix:PATH`.
+pub(crate) fn listen(rt: &HostRuntime, place: &str) -> Result<AnyListener, End> {
+    match place.strip_prefix("unix:") {
+        Some(path) => listen_locally(rt, path),
+        None => listen_at(rt, place),
+    }
+}
+
+/// Listens at an address.
+fn listen_at(rt: &HostRuntime, address: &str) -> Result<AnyListener, End> {
+    let bound = match TcpListener::bind(rt, address) {
+        Ok(listener) => limit_waits(listener),
+        Err(error) => Err(error),
+    };
+    match bound {
+        Ok(listener) => Ok(AnyListener::Tcp(listener)),
+        Err(_) => Err(End::at(Place::Address, Fault::CannotBind)),
+    }
+}
+
+/// Makes a unix socket and listens at it. Replaces a socket that a killed server has left.
+fn listen_locally(rt: &HostRuntime, path: &str) -> Result<AnyListener, End> {
+    if path.is_empty() || path.len() > MAX_PATH {
+        return Err(End::at(Place::Address, Fault::SocketPath));
+    }
+    if let Err(fault) = clear(rt, path) {
+        return Err(End::at(Place::Address, fault));
+    }
+    match bind_local(rt, path) {
+        Ok(listener) => Ok(AnyListener::Local(listener)),
+        Err(error) => Err(End::by_system(Place::Address, Fault::CannotBind, &error)),
+    }
+}
+
+/// Removes the socket at a path, unless a server listens at it. Leaves a file of another kind.
+fn clear(rt: &HostRuntime, path: &str) -> Result<(), Fault> {
+    let Ok(found) = fs::symlink_metadata(rt, path) else {
+        return Ok(());
+    };
+    if !found.file_type().is_socket() {
+        return Err(Fault::NotSocket);
+    }
+    if !is_left(rt, path) {
+        return Err(Fault::CannotBind);
+    }
+    match fs::remove_file(rt, path) {
+        Ok(()) => Ok(()),
+        Err(_) => Err(Fault::CannotBind),
+    }
+}
+
+/// Returns true if nobody listens at the socket of a path.
+fn is_left(rt: &HostRuntime, path: &str) -> bool {
+    match UnixStream::connect(rt, path) {
+        Ok(_) => false,
+        Err(error) => error.kind() == io::ErrorKind::ConnectionRefused,
+    }
+}
