@@ -1,12 +1,12 @@
-"""Runs the tests of deploy/: those of its pages and of the package, of nginx, which has to be installed, of each command of its pages, and of
-Terraform, where it is. The last line is `N passed, M failed`."""
+"""Runs the tests of deploy/: those of its pages and of the package, of nginx, which has to be installed, of its users, of each command of its pages, and
+of Terraform, if it is installed. The last line is `N passed, M failed`."""
 import shutil
 import sys
 
 from gate import Screen, run, script
 from repository import TOP
 
-TESTS = ["deploy_pages.py", "deploy_package.py", "deploy_nginx.py", "deploy_page.py"]
+TESTS = ["deploy_pages.py", "deploy_package.py", "deploy_nginx.py", "deploy_users.py", "deploy_page.py"]
 OF_TERRAFORM = ["deploy_terraform.py", "deploy_commands.py", "deploy_impact.py"]
 
 

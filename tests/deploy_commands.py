@@ -6,9 +6,9 @@ import subprocess
 import sys
 
 from checking import SECONDS, STARTED, checks_in, expect, run_checks
-from deploy_nginx import Nginx, PASSWORD, ROOM, make_secrets, quiet, served, site, spread_site
+from deploy_nginx import Nginx, PASSWORD, ROOM, make_secrets, quiet, served, serving, site, spread_site
 from deploy_terraform import Project, RESOURCES, SLOW, ended
-from folder_program import FOLDER_PROGRAM, Serving, run
+from folder_program import FOLDER_PROGRAM, run
 from folders import LOOPBACK, free_port, fresh
 from page_blocks import TERRAFORM, command, commands_of, left_out, take
 from s3_stand_in import BUCKET, s3
@@ -134,12 +134,12 @@ def check_a_state_moves_from_a_backend_with_another_user():
 
 def check_a_name_moves_to_a_server_of_its_own():
     port, name, lock = free_port(), "/state/billing.prod", b'{"ID":"move"}'
-    first, second = servers = [Serving(fresh(n1=b"TFJ1\n")).listens() for _ in range(2)]
-    with Nginx(site(first.port, port), port) as proxy:
+    first, second = servers = [serving() for _ in range(2)]
+    with Nginx(site(first.path, port), port) as proxy:
         project = applied(Project().name_backend(port, "billing.prod"))
         expect(proxy.ask("LOCK", name, lock), (200, b""))
         shell(project, command("terraform state pull >moved.json"))
-    with Nginx(spread_site([server.port for server in servers], port), port):
+    with Nginx(spread_site(servers, port), port):
         shell(project, command("terraform state push moved.json"))
         expect((first.ask("UNLOCK", name, lock)[0], first.ask("DELETE", name)[0]), (200, 200), "at the old server")
         looks_the_same(project)
@@ -151,14 +151,13 @@ def check_a_name_moves_to_a_server_of_its_own():
 
 def holder(project, server, name):
     """Who holds a lock, by the page's command."""
-    asks = take("A run died holding the lock", 0).replace("127.0.0.1:8080/state/prod", f"{LOOPBACK}:{server.port}/state/{name}")
+    asks = take("A run died holding the lock", 0).replace("/run/tfstated/tfstated.sock", str(server.path)).replace("/state/prod", f"/state/{name}")
     return json.loads(shell(project, asks))["ID"]
 
 
 def check_what_a_server_that_is_away_leaves_behind_is_pushed_later():
-    folder, port = fresh(n1=b"TFJ1\n"), free_port()
-    server = Serving(folder).listens()
-    with Nginx(site(server.port, port), port):
+    server, port = serving(), free_port()
+    with Nginx(site(server.path, port), port):
         project = applied(Project().name_backend(port, "one"))
         (project.folder / "main.tf").write_text(SLOW + RESOURCES)
         applying = project.start("apply", "-auto-approve")
@@ -167,7 +166,7 @@ def check_what_a_server_that_is_away_leaves_behind_is_pushed_later():
         project.go()
         good, text = ended(applying)
         expect((good, (project.folder / "errored.tfstate").exists()), (False, True), text)
-        server = Serving(folder, port=server.port).listens()
+        server = serving(server.folder, server.path)
         push = command("terraform state push errored.tfstate")
         expect("already locked" in shell(project, push, status=1), True, "the run's lock is still held")
         shell(project, command("terraform force-unlock ID", ID=holder(project, server, "one")), answers=1)
@@ -189,18 +188,18 @@ def check_a_state_that_was_stored_after_all_can_be_pushed():
 
 def check_states_of_a_second_server_are_pushed_to_the_one_that_counts():
     port, folders = free_port(), [fresh(n1=b"TFJ1\n"), fresh()]
-    first = Serving(folders[0]).listens()
-    with Nginx(site(first.port, port), port):
+    first = serving(folders[0])
+    with Nginx(site(first.path, port), port):
         project = applied(Project().name_backend(port, "one"))
     first.kill()
     shutil.copytree(folders[0], folders[1], dirs_exist_ok=True)
-    first, second = servers = [Serving(folder).listens() for folder in folders]
-    with Nginx(site(second.port, port), port):
+    first, second = servers = [serving(folder) for folder in folders]
+    with Nginx(site(second.path, port), port):
         (project.folder / "main.tf").write_text(RESOURCES.replace('"1"', '"2"'))
         project.do("apply", "-auto-approve")
     shows = command("tfstatectl show FOLDER NAME >FILE", FOLDER=folders[1], NAME="one", FILE="missing.json")
     shell(project, shows.replace("tfstatectl", FOLDER_PROGRAM))
-    with Nginx(site(first.port, port), port):
+    with Nginx(site(first.path, port), port):
         shell(project, command("terraform state push FILE", FILE="missing.json"))
         looks_the_same(project)
     for server in servers:

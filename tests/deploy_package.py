@@ -16,12 +16,12 @@ from repository import TOP
 FOLDER = tempfile.TemporaryDirectory(prefix="tfstated-")
 ROOT = Path(FOLDER.name) / "root"
 UNITS = ["tfstated", "tfstated-copy", "tfstated-standby", "tfstated-stats"]
-WANTED = """usr/bin/tfstatectl usr/bin/tfstated usr/share/man/man8/tfstatectl.8.gz usr/share/man/man1/tfstated.1.gz
+WANTED = """usr/bin/tfstatectl usr/bin/tfstated usr/sbin/tfstated-user usr/share/man/man8/tfstatectl.8.gz usr/share/man/man1/tfstated.1.gz
 usr/lib/systemd/system/tfstated.service usr/lib/systemd/system/tfstated-copy.service usr/lib/systemd/system/tfstated-copy.timer
 usr/lib/systemd/system/tfstated-standby.service usr/lib/systemd/system/tfstated-standby.timer
 usr/lib/systemd/system/tfstated-stats.service usr/lib/systemd/system/tfstated-stats.timer
-usr/share/doc/tfstated/README.md usr/share/doc/tfstated/IMPACT.md usr/share/doc/tfstated/FOLDER.md usr/share/doc/tfstated/VERSIONS.md
-usr/share/doc/tfstated/PERFORMANCE.md usr/share/doc/tfstated/copyright
+usr/share/doc/tfstated/README.md usr/share/doc/tfstated/IMPACT.md usr/share/doc/tfstated/FOLDER.md usr/share/doc/tfstated/SERVING.md
+usr/share/doc/tfstated/COPIES.md usr/share/doc/tfstated/VERSIONS.md usr/share/doc/tfstated/PERFORMANCE.md usr/share/doc/tfstated/copyright
 usr/share/doc/tfstated/SHA256SUMS usr/share/tfstated/nginx.conf usr/share/tfstated/nginx-access.conf
 usr/share/tfstated/postinst usr/share/tfstated/impact_comment.py usr/share/tfstated/impact-gitlab.yml usr/share/tfstated/impact-github.yml"""
 
@@ -46,7 +46,7 @@ def check_both_archives_have_the_same_files():
         expect(tops, {"usr"}, "a folder `lib` would take the place of Debian's link of this name")
         for name, member in members.items():
             expect(archive.extractfile(member).read() == (ROOT / name).read_bytes(), True, name)
-            expect((member.uid, member.mode), (0, 0o755 if "/bin/" in name or name.endswith("/postinst") else 0o644), name)
+            expect((member.uid, member.mode), (0, 0o755 if name.split("/")[1] in ("bin", "sbin") or name.endswith("/postinst") else 0o644), name)
 
 
 def check_each_link_of_the_pages_leads_to_a_file_of_the_package():
@@ -97,7 +97,7 @@ def check_the_manual_has_each_option_and_each_status():
     options = re.findall(r"--([a-z-]+)", told)
     expect(len(options) > 6, True, options)
     expect([option for option in options if f"Fl -{option}" not in text], [])
-    expect([status for status in range(11) if not re.search(rf"^\.It (?:\d, )?{status}\b", text, re.M)], [])
+    expect([status for status in (0, *range(20, 30)) if not re.search(rf"^\.It (?:\d+, )*{status}\b", text, re.M)], [])
 
 
 def check_a_start_that_a_person_has_to_look_at_is_not_tried_again():
@@ -106,8 +106,24 @@ def check_a_start_that_a_person_has_to_look_at_is_not_tried_again():
     again = {status for told, words in table for status in told.split(", ") if "may help" in words}
     others = {status for told, words in table for status in told.split(", ")} - again
     expect((len(again), len(others)), (2, 8))
-    line = re.findall(r"^RestartPreventExitStatus=(.*)$", (TOP / "deploy" / "tfstated.service").read_text(), re.M)
-    expect(set(line[0].split()), others)
+    unit = (TOP / "deploy" / "tfstated.service").read_text()
+    expect(set(re.findall(r"^RestartPreventExitStatus=(.*)$", unit, re.M)[0].split()), others)
+    expect(set(re.findall(r"^ExecStopPost=.* in ([0-9 |]+)\) sleep", unit, re.M)[0].split(" | ")), again, "before these starts it waits")
+
+
+def settings_of(unit):
+    """The settings of a unit that follow its commands and limits, as they are written there."""
+    text = (TOP / "deploy" / f"{unit}.service").read_text()
+    return set(re.findall(r"^\w+=.*$", text[text.index("\nNoNewPrivileges=") :].split("\n[")[0], re.M))
+
+
+def check_the_other_units_are_hardened_as_the_server():
+    wanted = {line for line in settings_of(UNITS[0]) if not line.startswith("RestrictAddressFamilies=")}
+    expect(len(wanted) > 20, True, wanted)
+    for unit in UNITS[1:]:
+        # The standby asks the first machine.
+        may_lack = {"IPAddressDeny=any"} if unit == "tfstated-standby" else set()
+        expect(wanted - settings_of(unit) - may_lack, set(), unit)
 
 
 def check_systemd_reads_the_units():
@@ -116,7 +132,7 @@ def check_systemd_reads_the_units():
         return
     for target in ("sysinit", "basic", "shutdown", "multi-user", "timers", "network-online", "network", "local-fs"):
         package.put(ROOT, f"usr/lib/systemd/system/{target}.target", b"[Unit]\nDescription=a target\n")
-    for name in ("usr/bin/rsync", "usr/bin/find", "bin/sh"):
+    for name in ("usr/bin/rsync", "usr/bin/install", "bin/sh"):
         package.put(ROOT, name, b"", 0o755)
     for path, text in re.findall(r"^cat >(\S+) <<'END'\n(.*?)^END$", PAGE, re.M | re.S):
         package.put(ROOT, path[1:], text.encode())

@@ -1,10 +1,12 @@
 """Runs each command of deploy/README.md, in the order of its days, in a folder of its own: with the package, a real nginx, openssl and curl, and with
 stand-ins for what changes a whole system. tests/deploy_commands.py runs those of Terraform, and tests/try_package.py blocks, and what asks systemd,
 under a real one."""
+import contextlib
 import json
 import os
 import re
 import shutil
+import signal
 import subprocess
 import sys
 import time
@@ -22,6 +24,7 @@ from repository import TOP
 ROOM, STANDBY = fresh(), fresh()
 ROOT = ROOM / "root"
 JOURNAL = ROOT / "var/lib/tfstated/journal"
+PUT_AWAY = 12
 
 
 def prepare(room):
@@ -41,15 +44,33 @@ def prepare(room):
         path.chmod(0o755)
 
 
+def start(block, room=ROOM):
+    """A shell that runs a block on a machine."""
+    page_tools.enter(room)
+    variables = {"ROOM": str(room), "FIRST": str(ROOM), "PATH": f"{room}/tools:{room}/root/usr/bin:{room}/root/usr/sbin:{os.environ['PATH']}",
+                 "PYTHONPATH": str(TOP / "tests"), "TFSTATED_NGINX": f"{room}/root/etc/nginx/tfstated"}
+    how = {"cwd": room, "env": {**os.environ, **variables}, "stdin": subprocess.DEVNULL, "stdout": subprocess.PIPE, "stderr": subprocess.STDOUT}
+    return subprocess.Popen(["bash", "-e", "-c", page_tools.moved(block)], start_new_session=True, text=True, **how)
+
+
 def run(block, room=ROOM):
     """What a block writes on a machine; it is to end well."""
-    page_tools.enter(room)
-    path = f"{room}/tools:{room}/root/usr/bin:{os.environ['PATH']}"
-    variables = {"ROOM": str(room), "FIRST": str(ROOM), "PATH": path, "PYTHONPATH": str(TOP / "tests")}
-    how = {"cwd": room, "env": {**os.environ, **variables}, "stdin": subprocess.DEVNULL, "stderr": subprocess.STDOUT, "timeout": SECONDS}
-    ran = subprocess.run(["bash", "-e", "-c", page_tools.moved(block)], stdout=subprocess.PIPE, check=False, **how)
-    expect(ran.returncode, 0, f"{block}\n{ran.stdout.decode()}")
-    return ran.stdout.decode()
+    started = start(block, room)
+    text = started.communicate(timeout=2 * SECONDS)[0]
+    expect(started.returncode, 0, f"{block}\n{text}")
+    return text
+
+
+def run_until_it_listens(block):
+    """What a block writes until its server listens, which is ended then."""
+    started, text = start(block), ""
+    while "listening" not in text and (line := started.stdout.readline()):
+        text += line
+    with contextlib.suppress(ProcessLookupError):
+        os.killpg(started.pid, signal.SIGKILL)
+    started.communicate()
+    expect("listening" in text, True, f"{block}\n{text}")
+    return text
 
 
 def do(title):
@@ -108,7 +129,8 @@ def check_who_holds_a_lock_is_asked():
     asks = take("A run died holding the lock", 0)
     expect(run(asks).strip(), '{"error":"LockLost"}', "nobody does")
     expect(run(asks.replace("/prod?", "/watch?")).strip(), '{"ID":"for ever"}')
-    asks = asks.replace("curl -s", f"curl -s -u 'admin:{PASSWORDS['admin']}'").replace("http://127.0.0.1:8080", "https://tfstated.example.com")
+    asks = asks.replace("--unix-socket /run/tfstated/tfstated.sock", f"-u 'admin:{PASSWORDS['admin']}'")
+    asks = asks.replace("http://localhost", "https://tfstated.example.com")
     expect(run(asks).strip(), '{"error":"LockLost"}', "the same through nginx")
 
 
@@ -122,8 +144,13 @@ def check_the_script_of_the_archive():
     script = ROOT / "usr/share/tfstated/postinst"
     page_tools.enter(ROOM)
     script.write_text(page_tools.moved(script.read_text()))
-    text = run(command("/usr/share/tfstated/postinst configure"))
-    expect("nothing is started" in text, True, text)
+    configures = command("/usr/share/tfstated/postinst configure")
+    text = run(configures)
+    expect(("nothing is started" in text, "127.0.0.1:8080" in text), (True, False), text)
+    with open(ROOT / "etc/nginx/conf.d/tfstated.conf", "a") as site:
+        site.write("# server 127.0.0.1:8080;\n")
+    text = run(configures)
+    expect("names 127.0.0.1:8080, and the unit listens at unix:/" in text, True, text)
 
 
 def check_a_start_that_fails_is_told():
@@ -138,21 +165,22 @@ def check_a_start_that_fails_is_told():
     for text in (run(command("journalctl -u tfstated")), run(f"{command('systemctl status tfstated')} || [ $? = 3 ]")):
         expect(f"{newest}: Damaged" in text, True, text)
     newest.write_bytes(whole)
-    run(command("systemctl start tfstated"))
+    run(f"{command('systemctl reset-failed tfstated')}\n{command('systemctl start tfstated')}")
     expect(run("systemctl is-failed tfstated || [ $? = 1 ]"), "active\n")
 
 
 def check_users():
-    add, remove, allow = take_all("Users")
+    add, remove = take_all("Users")
     password = told_passwords(run(add))["ann"]
-    expect(ask("GET", "/state/network.prod", headers=signed("ann", password))[0], 403, "she has no line")
-    before = (ROOT / "etc/nginx/tfstated/passwords").read_text()
+    expect(waits_for_status("ann", password, 200), True, "once nginx has its new files")
+    expect(ask("DELETE", "/state/network.prod", headers=signed("ann", password))[0], 403, "it isn't in her line")
+    listed = run(command("tfstated-user list"))
+    expect([line for line in listed.splitlines() if not line.startswith(" ")], ["admin", "auditor", "network-ci", "ann"], listed)
+    expect('    "~^ann:(?:(GET|LOCK|POST|UNLOCK):)" 1;\n' in listed, True, listed)
     run(remove)
     expect(ask("GET", "/state/network.prod", headers=signed("ann", password))[0], 401, "she is gone")
-    (ROOT / "etc/nginx/tfstated/passwords").write_text(before)
-    run(allow)
-    expect(waits_for_status("ann", password, 200), True)
     expect(ask("GET", "/state/network.prod", headers=signed("admin", PASSWORDS["admin"])), (200, S1))
+    expect(run("tfstated-user list"), listed[: listed.index("ann\n")])
 
 
 def waits_for_status(user, password, wanted):
@@ -164,15 +192,23 @@ def waits_for_status(user, password, wanted):
     return False
 
 
+def compacted_with_changes():
+    """Has the server retire more journals than stay in any case, each with a change."""
+    for number in range(PUT_AWAY):
+        before, admin = goes_on_alone(JOURNAL), signed("admin", PASSWORDS["admin"])
+        expect(ask(("LOCK", "UNLOCK")[number % 2], "/state/put-away", b'{"ID":"away"}', headers=admin), (200, b""))
+        (JOURNAL / "compact").touch()
+        goes_on_alone(JOURNAL, before)
+
+
 def copies_go_by_age():
-    """Copies that were put away go after 90 days, and no other. A copy makes all journals anew that the server hasn't put away yet, so it has to
-    have done that."""
+    """Retired copies are removed after 90 days, except the newest 10, and no others."""
     journal = ROOT / "var/backups/tfstated/journal"
-    before, old = set(journal.rglob("*.tfj")), set(journal.glob("old/*.tfj"))
-    expect((len(old) > 0, len(before - old)), (True, 1), "those before the newest were put away")
-    for days, left in ((80, before), (100, before - old)):
+    before, old = set(journal.rglob("*.tfj")), sorted(journal.glob("old/*.tfj"))
+    expect((len(old) > 10, len(before - set(old))), (True, 1), f"those before the newest were put away: {before}")
+    for days, left in ((80, before), (100, before - set(old[:-10]))):
         for path in before:
-            os.utime(path, (time.time() - (days if path in old else 100) * 86400,) * 2)
+            os.utime(path, (time.time() - days * 86400,) * 2)
         run("systemctl start tfstated-copy.service")
         expect(set(journal.rglob("*.tfj")), left, f"after {days} days; the newest stays, however old")
 
@@ -180,7 +216,7 @@ def copies_go_by_age():
 def check_an_upgrade_and_a_restore_keep_the_states():
     do("Upgrade")
     expect(ask("GET", "/state/network.prod", headers=signed("admin", PASSWORDS["admin"])), (200, S1))
-    goes_on_alone(JOURNAL)
+    compacted_with_changes()
     do("Copies")
     copies_go_by_age()
     do("Restore")
@@ -193,18 +229,19 @@ def check_a_least_position_counts_what_was_accepted():
     """Reads, refusals, copies, starts, shorter journals and a restore are no changes."""
     do("The loss of a machine")
     admin, least = signed("admin", PASSWORDS["admin"]), ROOT / "var/lib/tfstated-least/position"
-    expect(int(least.read_text()), 4, "a push, a lock and an unlock by the run, and the lock that is watched")
+    changes = 4 + PUT_AWAY
+    expect(int(least.read_text()), changes, "a push, a lock and an unlock by the run, the lock that is watched, and those before compactions")
     expect(ask("POST", "/state/network.prod", S2, headers=admin), (200, b""))
-    expect(int(least.read_text()), 5)
+    expect(int(least.read_text()), changes + 1)
     expect(ask("LOCK", "/state/watch", b'{"ID":"other"}', headers=admin)[0], 423)
-    expect(int(least.read_text()), 5, "to ask whether changes are taken costs no entry")
+    expect(int(least.read_text()), changes + 1, "to ask whether changes are taken costs no entry")
 
 
 def check_an_address_with_a_key_is_asked_for():
     resource = {"mode": "managed", "type": "t", "name": "a", "instances": [{"index_key": "k"}]}
     body = json.dumps({"version": 4, "serial": 1, "lineage": "L", "resources": [resource]}).encode()
     expect(ask("POST", "/state/keys", body, headers=signed("admin", PASSWORDS["admin"])), (200, b""))
-    text = run(command("""curl -G URL --data-urlencode 'of=t.a["k"]'""", URL="http://127.0.0.1:8080/impact/keys/any"))
+    text = run(command("""curl -G URL --data-urlencode 'of=t.a["k"]'""", URL="--unix-socket /run/tfstated/tfstated.sock http://localhost/impact/keys/any"))
     expect('{"instances":[],' in text, True, text)
 
 
@@ -223,11 +260,10 @@ def check_a_standby_gets_the_journals_and_takes_over():
     expect(copy.read_bytes() == newest.read_bytes(), True, "the standby has the journal")
     page_tools.enter(ROOM)
     page_tools.stop("server")
-    start = command("tfstatectl serve FOLDER --at-least POSITION", FOLDER="/var/lib/tfstated/journal", POSITION=1000)
-    expect("NotAtLeast" in run(f"{start} || [ $? = 7 ]", STANDBY), True, "a position that the standby lacks")
+    starts = command("tfstatectl serve FOLDER --at-least POSITION", FOLDER="/var/lib/tfstated/journal", POSITION=1000)
+    expect("NotAtLeast" in run(f"{starts} --listen {LOOPBACK}:{free_port()} || [ $? = 26 ]", STANDBY), True, "a position that the standby lacks")
     run(take_over, STANDBY)
-    port = (STANDBY / "ports").read_text().split()[1]
-    expect(run(f"curl -fs http://127.0.0.1:{port}/state/network.prod", STANDBY).encode(), S2)
+    expect(run("curl -fs --unix-socket /run/tfstated/tfstated.sock http://localhost/state/network.prod", STANDBY).encode(), S2)
 
 
 def check_a_damaged_journal_is_cut_or_passed_over():
@@ -235,32 +271,32 @@ def check_a_damaged_journal_is_cut_or_passed_over():
     listen = f"--listen {LOOPBACK}:{free_port()}"
     newest, older = fresh(n2=NEWEST[:-1] + b"x"), fresh(n1=NEWEST[:-1] + b"x", n2=REBASED)
     file, past = newest / f"{named(2)}.tfj", older / f"{named(1)}.tfj"
-    told = run(f"tfstatectl serve {newest} {listen} || [ $? = 4 ]")
+    told = run(f"tfstatectl serve {newest} {listen} || [ $? = 23 ]")
     at = len(SHORT + PUSH2)
     expect(f"{file}: Damaged: it goes wrong at byte {at}." in told, True, told)
     text = run(f"{command('tfstated check FILE', FILE=file)} || [ $? = 4 ]")
     expect(text, f"base 1 1\n1 push a\ndamaged {at}\n", "the good records before it")
     run(command("truncate -s AT FILE", AT=at, FILE=file))
     expect("a start goes on from" in run(f"tfstatectl check {newest}"), True)
-    expect(f"{past}: Damaged" in run(f"tfstatectl serve {older} {listen} || [ $? = 4 ]"), True)
-    start = command("runuser -u tfstated -- tfstatectl serve /var/lib/tfstated/journal --accept-past FILE", FILE=past)
-    told = run(start.replace("tfstatectl", "timeout 3 tfstatectl").replace("/var/lib/tfstated/journal", str(older)) + " || [ $? = 124 ]")
-    expect(f"{past} is passed over" in told and "listening" in told, True, told)
-    expect("listening" in run(f"timeout 3 tfstatectl serve {older} {listen} || [ $? = 124 ]"), True, "the unit starts again")
+    expect(f"{past}: Damaged" in run(f"tfstatectl serve {older} {listen} || [ $? = 23 ]"), True)
+    starts = command("runuser -u tfstated -- tfstatectl serve /var/lib/tfstated/journal --accept-past FILE", FILE=past)
+    told = run_until_it_listens(starts.replace("/var/lib/tfstated/journal", str(older)))
+    expect(f"{past} is passed over" in told, True, told)
+    run_until_it_listens(f"tfstatectl serve {older} {listen}")
 
 
 def check_histories_of_two_servers_are_told_apart():
     listen = f"--listen {LOOPBACK}:{free_port()}"
     both = fresh(n1=SHORT + PUSH3, n2=REBASED)
-    told = run(f"tfstatectl serve {both} {listen} || [ $? = 6 ]")
+    told = run(f"tfstatectl serve {both} {listen} || [ $? = 25 ]")
     expect("Parted" in told, True, told)
     for folder in (fresh(n1=SHORT + PUSH3), fresh(n2=REBASED)):
         text = run(command("tfstatectl check FOLDER", FOLDER=folder))
         expect("a start goes on from" in text, True, text)
     run(command("tfstatectl show FOLDER NAME >FILE", FOLDER=folder, NAME="a", FILE="missing.json"))
     expect((ROOM / "missing.json").read_bytes(), S2, "what is pushed to the other one")
-    told = run(f"timeout 3 tfstatectl serve {both} {listen} --accept-past {both}/{named(1)}.tfj || [ $? = 124 ]")
-    expect("lost" in told and "listening" in told, True, told)
+    told = run_until_it_listens(f"tfstatectl serve {both} {listen} --accept-past {both}/{named(1)}.tfj")
+    expect("lost" in told, True, told)
 
 
 def check_each_command_of_the_page_was_run():

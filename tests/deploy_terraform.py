@@ -2,7 +2,6 @@
 applies at once, an apply while the server restarts and while it shortens its journal, pushes that are refused, 4,000 instances, and odd keys. The
 resource `terraform_data` is in Terraform, so nothing is downloaded. tests/deploy_commands.py has the commands of the page."""
 import contextlib
-import http.client
 import json
 import os
 import re
@@ -13,8 +12,7 @@ import time
 import urllib.parse
 
 from checking import SECONDS, STARTED, checks_in, expect, run_checks
-from deploy_nginx import Nginx, PASSWORD, ROOM, USER, make_secrets, replaced, served, site
-from folder_program import Serving
+from deploy_nginx import Nginx, PASSWORD, ROOM, USER, make_secrets, replaced, served, serving, site
 from folders import LOOPBACK, ask_over, free_port, fresh, goes_on_alone
 from impact_model import impact, instances_of
 from page_blocks import configuration
@@ -73,7 +71,8 @@ class Project:
 
     def name_backend(self, port, name, tries=0, user=USER):
         """Gives it the page's block, with another address and user."""
-        block = replaced(configuration(), 'username       = "network-ci"', f'username = "{user}"\n    retry_max = {tries}')
+        block = replaced(configuration(), '"network-ci"', f'"{user}"')
+        block = replaced(block, "retry_max      = 5", f"retry_max      = {tries}")
         block = block.replace("tfstated.example.com/state/network.prod", f"{LOOPBACK}:{port}/state/{name}")
         (self.folder / "backend.tf").write_text(block)
         return self
@@ -161,10 +160,9 @@ def check_the_second_of_two_applies_waits():
 
 
 def check_an_apply_goes_on_over_a_restart():
-    folder, port = fresh(n1=b"TFJ1\n"), free_port()
-    server = Serving(folder).listens()
-    with Nginx(site(server.port, port), port):
-        project = Project(SLOW + RESOURCES).name_backend(port, "one", tries=2)
+    server, port = serving(), free_port()
+    with Nginx(site(server.path, port), port):
+        project = Project(SLOW + RESOURCES).name_backend(port, "one", tries=5)
         project.do("init")
         applying = project.start("apply", "-auto-approve")
         project.begun()
@@ -172,7 +170,7 @@ def check_an_apply_goes_on_over_a_restart():
         project.go()
         time.sleep(1.5)
         expect(applying.poll(), None, "it tries again")
-        server = Serving(folder, port=server.port).listens()
+        server = serving(server.folder, server.path)
         good, text = ended(applying)
         expect((good, "3 added" in text), (True, True), text)
         expect("No changes" in project.do("plan"), True)
@@ -188,9 +186,9 @@ def compacted(folder):
 
 
 def check_an_apply_goes_on_over_compactions():
-    folder, port = fresh(n1=b"TFJ1\n"), free_port()
-    server = Serving(folder).listens()
-    with Nginx(site(server.port, port), port):
+    server, port = serving(), free_port()
+    folder = server.folder
+    with Nginx(site(server.path, port), port):
         project = Project(SLOW + RESOURCES).name_backend(port, "one")
         project.do("init")
         applying = project.start("apply", "-auto-approve")
@@ -235,9 +233,9 @@ def asked(address):
     return re.sub(r'\["(?:[^"\\]|\\.)*"\]$', lambda key: key[0].replace("$${", "${").replace("%%{", "%{"), address)
 
 
-def impacts(port, name, addresses):
+def impacts(server, name, addresses):
     """What the server answers of each address, on as few connections as it allows."""
-    connection, found = http.client.HTTPConnection(LOOPBACK, port, timeout=SECONDS), {}
+    connection, found = server.connect(), {}
     with contextlib.closing(connection):
         for address in addresses:
             target = f"/impact/{name}/any?of={urllib.parse.quote(address, safe='')}"
@@ -264,9 +262,9 @@ def check_4000_instances_are_pushed_listed_and_asked_for():
         listed = project.do("state", "list").splitlines()
         instances = instances_of(json.loads(server.ask("GET", "/state/large")[1]))
         expect((len(listed), len(instances)), (4000, 4000))
-        expect(impacts(server.port, "large", listed), {address: impact("any", [address], instances) for address in listed})
+        expect(impacts(server, "large", listed), {address: impact("any", [address], instances) for address in listed})
         low = 'module.part["part 3"].terraform_data.low["7"]'
-        expect(len(impacts(server.port, "large", [low])[low]), 2000, "each `high`, since dependencies have no keys")
+        expect(len(impacts(server, "large", [low])[low]), 2000, "each `high`, since dependencies have no keys")
         project.do("state", "rm", low)
         expect(len(project.do("state", "list").splitlines()), 3999)
 
@@ -281,7 +279,7 @@ def check_an_impact_of_each_odd_address_is_what_a_search_finds():
         instances = instances_of(json.loads(server.ask("GET", "/state/odd")[1]))
         expect(len(listed), 1 + len(KEYS) * (len(KEYS) + 2))
         listed = [asked(address) for address in listed]
-        expect(impacts(server.port, "odd", listed), {address: impact("any", [address], instances) for address in listed})
+        expect(impacts(server, "odd", listed), {address: impact("any", [address], instances) for address in listed})
 
 
 if __name__ == "__main__":

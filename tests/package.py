@@ -20,7 +20,7 @@ DIST, DEPLOY = TOP / "dist", TOP / "deploy"
 VERSION = (TOP / "VERSION").read_text().splitlines()[0]
 NAME = f"tfstated_{VERSION}_amd64"
 UNITS = "usr/lib/systemd/system"
-PAGES = ["deploy/README.md", "deploy/IMPACT.md", "docs/FOLDER.md", "docs/VERSIONS.md", "docs/PERFORMANCE.md"]
+PAGES = ["deploy/README.md", "deploy/IMPACT.md", "docs/FOLDER.md", "docs/SERVING.md", "docs/COPIES.md", "docs/VERSIONS.md", "docs/PERFORMANCE.md"]
 TEXTS = {
     "usr/share/doc/tfstated": [*PAGES, "LICENSE"],
     "usr/share/tfstated": ["deploy/nginx.conf", "deploy/nginx-access.conf", "deploy/impact_comment.py", "deploy/impact-gitlab.yml", "deploy/impact-github.yml"],
@@ -89,6 +89,7 @@ def fill(root, programs, when):
             # The pages lie in one folder there.
             put(root, f"{folder}/{Path(text).name}", (TOP / text).read_bytes().replace(b"](../docs/", b"]("))
     (root / "usr/share/doc/tfstated/LICENSE").rename(root / "usr/share/doc/tfstated/copyright")
+    put(root, "usr/sbin/tfstated-user", (DEPLOY / "tfstated-user").read_bytes(), 0o755)
     put(root, "usr/share/tfstated/postinst", script_text(DEPLOY / "package" / "postinst"), 0o755)
     for unit in [*DEPLOY.glob("*.service"), *DEPLOY.glob("*.timer")]:
         put(root, f"{UNITS}/{unit.name}", unit.read_bytes())

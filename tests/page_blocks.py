@@ -9,8 +9,8 @@ from repository import TOP
 
 PAGE, IMPACT = ((TOP / "deploy" / name).read_text() for name in ("README.md", "IMPACT.md"))
 FENCED = re.compile(r"^```(\w*)\n(.*?)^```$", re.M | re.S)
-# Text in backquotes that begins like a command and is none. So are lines of nginx's configuration, which end in `;`.
-NO_COMMANDS = {"it answers"}
+# Text in backquotes that begins like a command and is none: so do an answer, and lines of nginx's configuration.
+NO_COMMANDS = {"it answers", "listen 127.0.0.1:8081", "listen 443 ssl"}
 # The program whose commands in sentences tests/deploy_commands.py runs, and those whose commands tests/try_package.py runs under a real systemd.
 TERRAFORM, SYSTEMD = ("terraform",), ("systemctl", "journalctl", "/usr/share/tfstated/postinst")
 TAKEN = set()
@@ -57,7 +57,7 @@ def configuration():
 def commands_in(page):
     """The commands in sentences and tables: text in backquotes of more than one word that begins with a program's name or path."""
     texts = {" ".join(text.split()) for text in re.findall(r"`([^`]+)`", FENCED.sub("", page))}
-    return {text for text in texts - NO_COMMANDS if re.match(r"(?:\w+=\S* )*[a-z./~][\w./-]* ", text) and not text.endswith(";")}
+    return {text for text in texts - NO_COMMANDS if re.match(r"(?:\w+=\S* )*[a-z./~][\w./-]* ", text)}
 
 
 def commands_of(*programs):

@@ -5,8 +5,10 @@ folder, which is the root of the page's paths, and of units what systemd does wi
     python3 tests/page_tools.py TOOL ARGUMENT ..
 
 ROOM names the folder: its `root` has the files, its `ports` the ports of nginx and of the server. FIRST names that of the first machine."""
+import contextlib
 import os
 import re
+import select
 import shlex
 import shutil
 import signal
@@ -19,7 +21,8 @@ from folders import LOOPBACK
 
 ROOM = Path(os.environ.get("ROOM", "."))
 ROOT, HOST = ROOM / "root", "tfstated.example.com"
-OWN = ("/var/lib/", "/var/backups", "/var/log/nginx", "/etc/nginx", "/etc/systemd", "/usr/lib/systemd", "/usr/share/tfstated", "/usr/bin/tfstatectl")
+OWN = ("/var/lib/", "/var/backups", "/var/log/nginx", "/etc/nginx", "/etc/systemd", "/usr/lib/systemd", "/usr/share/tfstated", "/usr/bin/tfstatectl",
+       "/run/tfstated")
 AROUND = """user root;
 daemon on;
 pid {room}/nginx.pid;
@@ -37,12 +40,17 @@ http {{
 
 
 def moved(text):
-    """A text of the page or of a unit, whose paths and ports are those of the room."""
-    nginx, server = (ROOM / "ports").read_text().split()
+    """A text of the page or of a unit, whose paths and port are those of the room."""
     for path in OWN:
         text = re.sub(rf"(?<!{re.escape(str(ROOT))}){re.escape(path)}", f"{ROOT}{path}", text)
-    text = text.replace("127.0.0.1:8080", f"{LOOPBACK}:{server}").replace("/usr/bin/find", shutil.which("find")).replace("/usr/bin/rsync", "rsync")
-    return text.replace("listen 443 ssl;", f"listen {LOOPBACK}:{nginx} ssl;")
+    for name in ("install", "rsync"):
+        text = text.replace(f"/usr/bin/{name} ", f"{name} ")
+    return text.replace("listen 443 ssl", f"listen {LOOPBACK}:{port_of('nginx')} ssl")
+
+
+def port_of(name):
+    """The port of nginx, or of a server without --listen."""
+    return (ROOM / "ports").read_text().split()[("nginx", "server").index(name)]
 
 
 def enter(room):
@@ -79,12 +87,11 @@ def runuser(words):
     if words[:3] != ["-u", "tfstated", "--"]:
         return 2
     serves = "serve" in words and "--listen" not in words
-    return run(*words[3:], *(["--listen", moved("127.0.0.1:8080")] if serves else []))
+    return run(*words[3:], *(["--listen", f"{LOOPBACK}:{port_of('server')}"] if serves else []))
 
 
 def curl(words):
-    nginx = (ROOM / "ports").read_text().split()[0]
-    return run(real("curl"), "--connect-to", f"{HOST}:443:{LOOPBACK}:{nginx}", "--cacert", ROOM / "certificate.pem", *words)
+    return run(real("curl"), "--connect-to", f"{HOST}:443:{LOOPBACK}:{port_of('nginx')}", "--cacert", ROOM / "certificate.pem", *words)
 
 
 def rsync(words):
@@ -122,12 +129,12 @@ def nginx(words):
     return run(real("nginx"), "-p", ROOM, "-c", ROOM / "nginx.conf", *words)
 
 
-def commands_of(unit):
+def commands_of(unit, setting="ExecStart"):
     """The words of each command of a service, with those of its drop-ins: an empty one takes away those before it."""
     folders = [ROOT / "etc/systemd/system", ROOT / "usr/lib/systemd/system"]
     files = [next(folder / unit for folder in folders if (folder / unit).exists()), *sorted((folders[0] / f"{unit}.d").glob("*.conf"))]
     found = []
-    for command in re.findall(r"^ExecStart=(.*)$", "\n".join(file.read_text() for file in files), re.M):
+    for command in re.findall(rf"^{setting}=\+?(.*)$", "\n".join(file.read_text() for file in files), re.M):
         found = found + [moved(command)] if command else []
     return [shlex.split(command) for command in found]
 
@@ -140,14 +147,15 @@ def start(unit):
 
 
 def start_server():
-    """Starts the server and waits until it listens; a status."""
+    """Starts the server and waits until it listens or has ended; a status."""
     if alive():
         return 0
+    for command in commands_of("tfstated.service", "ExecStartPre"):
+        run(*command)
     with open(ROOM / "server.log", "wb") as log:
         process = subprocess.Popen(commands_of("tfstated.service")[0], stdin=subprocess.DEVNULL, stdout=log, stderr=log, start_new_session=True)
     (ROOM / "server.pid").write_text(str(process.pid))
-    end = time.monotonic() + 20
-    while b"listening" not in (ROOM / "server.log").read_bytes() and time.monotonic() < end and process.poll() is None:
+    while b"listening" not in (ROOM / "server.log").read_bytes() and process.poll() is None:
         time.sleep(0.05)
     return 0 if b"listening" in (ROOM / "server.log").read_bytes() else 1
 
@@ -157,19 +165,44 @@ def pid_of(name):
     return int(path.read_text()) if path.exists() and path.read_text().strip() else 0
 
 
+def has_ended(process, seconds):
+    """Whether all threads of a process have ended, before this time has passed: a thread that hasn't keeps the files open, and their locks."""
+    return bool(select.select([process], [], [], seconds)[0])
+
+
+@contextlib.contextmanager
+def process_of(name):
+    """A descriptor of the process of the server or of nginx; none if there is no such process."""
+    try:
+        process = os.pidfd_open(pid_of(name)) if pid_of(name) else None
+    except ProcessLookupError:
+        process = None
+    yield process
+    if process is not None:
+        os.close(process)
+
+
 def alive(name="server"):
     """Whether a process runs; one that has ended and waits for its parent doesn't."""
-    path = Path(f"/proc/{pid_of(name)}/stat")
-    return bool(pid_of(name)) and path.exists() and path.read_text().rpartition(")")[2].split()[0] != "Z"
+    with process_of(name) as process:
+        return process is not None and not has_ended(process, 0)
 
 
 def stop(name):
     """Ends the server or nginx, and waits until it has ended."""
-    if alive(name):
-        os.kill(pid_of(name), signal.SIGTERM)
-        while alive(name):
-            time.sleep(0.05)
+    with process_of(name) as process:
+        if process is not None and not has_ended(process, 0):
+            signal.pidfd_send_signal(process, signal.SIGTERM)
+            has_ended(process, None)
     return 0
+
+
+def start_nginx():
+    """Starts nginx, and waits until its process is known; a status."""
+    status = nginx([])
+    while not status and not alive("nginx"):
+        time.sleep(0.05)
+    return status
 
 
 def act(verb, unit):
@@ -177,7 +210,7 @@ def act(verb, unit):
     if unit == "nginx":
         if verb == "reload":
             return nginx(["-s", "reload"])
-        return stop("nginx") + nginx([])
+        return stop("nginx") + start_nginx()
     unit = unit if "." in unit else f"{unit}.service"
     if unit.endswith(".timer"):
         return start(unit.replace(".timer", ".service")) if verb in ("start", "enable") else 0

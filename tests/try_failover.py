@@ -69,6 +69,12 @@ class Host:
         expect(line, f"listening {self.address}:{PORT}\n", "it serves" if line else process.stderr.read().decode())
         return process
 
+    def begin(self, folder, *words):
+        """A server on this host, in a new folder."""
+        status, text = self.run(FOLDER_PROGRAM, "init", folder)
+        expect(status, 0, text)
+        return self.serve(folder, *words)
+
     def refused(self, folder, *words):
         """The status of a start that is to end by itself, and the name of its fault."""
         status, text = self.run(FOLDER_PROGRAM, "serve", folder, "--listen", f"{self.address}:{PORT}", *words)
@@ -145,21 +151,21 @@ def end(process):
 
 def check_a_standby_has_all_up_to_its_last_copy_and_a_least_position_tells():
     folder = fresh() / "journal"
-    server, standby = FIRST.serve(folder, "--first"), Standby(FIRST, SECOND, folder)
+    server, standby = FIRST.begin(folder), Standby(FIRST, SECOND, folder)
     for serial in range(1, 11):
         push(serial)
     standby.copies_all()
     expect(int(standby.least.read_text()), 10)
     push(11)
     end(server)
-    expect(SECOND.refused(standby.copies, "--at-least", "11"), (7, "NotAtLeast"), "the client has seen position 11")
+    expect(SECOND.refused(standby.copies, "--at-least", "11"), (26, "NotAtLeast"), "the client has seen position 11")
     SECOND.serve(standby.copies, "--at-least-file", standby.least)
     expect(serial_at(SECOND), 10)
 
 
 def check_a_standby_that_has_caught_up_lacks_nothing():
     folder = fresh() / "journal"
-    server, standby = FIRST.serve(folder, "--first"), Standby(FIRST, SECOND, folder)
+    server, standby = FIRST.begin(folder), Standby(FIRST, SECOND, folder)
     for serial in range(1, 6):
         push(serial)
         standby.copies_all()
@@ -184,7 +190,7 @@ def push_with_lock(serial, server, lock):
 
 def check_a_host_that_is_cut_off_leaves_good_copies():
     folder = fresh() / "journal"
-    FIRST.serve(folder, "--first")
+    FIRST.begin(folder)
     standby = Standby(FIRST, SECOND, folder)
     push(1)
     standby.copies_all()
@@ -202,7 +208,7 @@ def check_a_host_that_is_cut_off_leaves_good_copies():
 
 def check_two_servers_at_once_give_one_lock_twice_and_their_histories_stay_apart():
     folder = fresh() / "journal"
-    first, standby = FIRST.serve(folder, "--first"), Standby(FIRST, SECOND, folder)
+    first, standby = FIRST.begin(folder), Standby(FIRST, SECOND, folder)
     push(1)
     standby.copies_all()
     FIRST.cut()
@@ -214,20 +220,20 @@ def check_two_servers_at_once_give_one_lock_twice_and_their_histories_stay_apart
         FIRST.join()
     expect([CLIENT.ask(host, "LOCK", "/state/prod", LOCK % "x")[0] for host in (FIRST, SECOND)], [423, 423])
     status, text = standby.copy()
-    expect((status, "Locked" in text), (1, True), "the first one's journals don't come over the second one's")
+    expect((status, "Locked" in text), (20, True), "the first one's journals don't come over the second one's")
     end(first)
     end(second)
     status, text = standby.copy()
-    expect((status, "Served" in text), (6, True), "nor once it has ended")
+    expect((status, "Served" in text), (25, True), "nor once it has ended")
     for path in standby.copies.glob("*.tfj"):
         shutil.copy(path, folder / path.name.replace(path.stem[-2:], f"{int(path.stem[-2:]) + 5:02}"))
     status, fault = FIRST.refused(folder)
-    expect((status, fault), (6, "Parted"), "one folder with both is refused")
+    expect((status, fault), (25, "Parted"), "one folder with both is refused")
 
 
 def check_a_host_that_comes_back_is_refused_by_the_position_of_the_other():
     folder = fresh() / "journal"
-    first, standby = FIRST.serve(folder, "--first"), Standby(FIRST, SECOND, folder)
+    first, standby = FIRST.begin(folder), Standby(FIRST, SECOND, folder)
     push(1)
     standby.copies_all()
     end(first)
@@ -235,7 +241,7 @@ def check_a_host_that_comes_back_is_refused_by_the_position_of_the_other():
     for serial in range(2, 6):
         push(serial, SECOND)
     expect(int(standby.least.read_text()), 5, "the server raises it")
-    expect(FIRST.refused(folder, "--at-least-file", standby.least), (7, "NotAtLeast"))
+    expect(FIRST.refused(folder, "--at-least-file", standby.least), (26, "NotAtLeast"))
     back = fresh() / "back"
     expect(FIRST.run(FOLDER_PROGRAM, "copy", standby.copies, back)[0], 0, "the way back is a new folder")
     expect("position 5" in FIRST.run(FOLDER_PROGRAM, "check", back)[1], True)
@@ -244,13 +250,13 @@ def check_a_host_that_comes_back_is_refused_by_the_position_of_the_other():
 def check_a_volume_that_shows_an_older_past_is_refused():
     volume, least = fresh() / "volume", fresh() / "position"
     least.write_text("0\n")
-    first = FIRST.serve(volume, "--first", "--at-least-file", least)
+    first = FIRST.begin(volume, "--at-least-file", least)
     push(1)
     shutil.copytree(volume, volume.parent / "older")
     for serial in range(2, 5):
         push(serial)
     end(first)
-    expect(SECOND.refused(volume.parent / "older", "--at-least-file", least), (7, "NotAtLeast"))
+    expect(SECOND.refused(volume.parent / "older", "--at-least-file", least), (26, "NotAtLeast"))
     SECOND.serve(volume, "--at-least-file", least)
     expect(serial_at(SECOND), 4, "the volume itself lacks nothing")
 

@@ -1,6 +1,6 @@
 """Installs the package into a fresh Debian tree and runs it under a systemd of its own, in a container without a network: each block of
-deploy/README.md, each command in its sentences that asks systemd, Terraform's cycle with TLS and a user, a kill, a damaged journal, a standby over ssh,
-and a removal that leaves the journals. It needs root, debootstrap, systemd-nspawn, Terraform and a Debian mirror, which MIRROR may name. The last line
+deploy/README.md, each command in its sentences that asks systemd, Terraform's cycle with TLS and a user, who may use the socket, kills, a damaged
+journal, a standby over ssh, and a removal that leaves the journals. It needs root, debootstrap, systemd-nspawn, Terraform and a Debian mirror, which MIRROR may name. The last line
 is `N passed, M failed`."""
 import json
 import os
@@ -93,6 +93,8 @@ class Container:
 
 
 BOX, PASSWORDS = None, {}
+# How curl asks the server itself.
+DIRECT = "--unix-socket /run/tfstated/tfstated.sock http://localhost"
 
 
 def do(title):
@@ -141,7 +143,20 @@ def check_the_first_day_of_the_page():
 def check_what_may_not_be_entered_is_told_apart_from_what_is_not_there():
     for folder, fault in (("/root/journal", "NotAllowed"), ("/var/lib/tfstated/none", "NoFolder")):
         status, text = BOX.run(f"runuser -u tfstated -- tfstatectl serve {folder} --listen 127.0.0.1:8099")
-        expect((status, f"{folder}: {fault}: " in text), (8, True), text)
+        expect((status, f"{folder}: {fault}: " in text), (27, True), text)
+
+
+def check_nginx_may_use_the_socket_and_nobody_else():
+    kept = ["tfstated www-data 2750 /run/tfstated", "tfstated www-data 660 /run/tfstated/tfstated.sock"]
+    look = "stat -c '%U %G %a %n' /run/tfstated /run/tfstated/tfstated.sock"
+    for again in ("systemctl restart tfstated", "systemctl stop tfstated && systemctl start tfstated"):
+        expect(BOX.do(look).splitlines(), kept)
+        expect(BOX.do(f"runuser -u www-data -- curl -s {DIRECT}/state/none"), '{"error":"NoState"}')
+        for user in ("nobody", "sshd"):
+            expect(BOX.run(f"runuser -u {user} -- curl -s {DIRECT}/state/none"), (7, ""), user)
+        expect(BOX.run("curl -s http://127.0.0.1:8080/state/none"), (7, ""), "nothing listens at the address of before")
+        BOX.do(again)
+        waits_for("curl -fs https://tfstated.example.com/healthz")
 
 
 def terraform(*words):
@@ -175,6 +190,17 @@ def check_a_killed_server_comes_back_with_its_state():
     expect("No changes" in terraform("plan"), True)
 
 
+def check_a_server_that_ends_again_and_again_is_not_started_without_end():
+    before, history = state(), BOX.do("tfstatectl history /var/lib/tfstated/journal network.prod")
+    kill = "systemctl kill --signal=KILL tfstated 2>/dev/null || true; systemctl is-failed --quiet tfstated"
+    BOX.do(f"for number in $(seq 2000); do if {kill}; then break; fi; sleep 0.1; done")
+    waits_for(command("systemctl is-failed tfstated"), "failed")
+    expect("Start request repeated too quickly" in BOX.do(command("journalctl -u tfstated")), True)
+    BOX.do(f"{command('systemctl reset-failed tfstated')} && {command('systemctl start tfstated')}")
+    waits_for("curl -fs https://tfstated.example.com/healthz")
+    expect((state(), BOX.do("tfstatectl history /var/lib/tfstated/journal network.prod")), (before, history), "it has all that it had")
+
+
 def check_the_timer_copies_as_the_user_of_the_service():
     do("Copies")
     waits_for("ls /var/backups/tfstated/journal", "journal-")
@@ -191,14 +217,14 @@ def check_what_to_watch_and_users():
     text = do("What to watch")
     expect(("\n423\n" in f"\n{text}", "a start goes on from" in text), (True, True), text)
     waits_for("curl -fs http://127.0.0.1:9100/metrics", "\ntfstated_changes_total ")
-    add, remove, allow = take_all("Users")
-    password = BOX.do(f"cd /root\n{add}").split()[-1]
+    add, remove = take_all("Users")
+    password = re.search("^ann (.*)$", BOX.do(add), re.M)[1]
     ask = f"curl -s -o /dev/null -w '%{{http_code}}' -u 'ann:{password}' https://tfstated.example.com/state/network.prod"
-    expect(BOX.do(ask), "403")
-    BOX.do(allow)
     waits_for(ask, "200")
+    expect(BOX.do("tfstated-user list | grep -v '^ '").split(), ["admin", "auditor", "network-ci", "ann"])
     BOX.do(remove)
-    expect(BOX.do(ask), "401")
+    expect((BOX.do(ask), BOX.do("tfstated-user list | grep -v '^ '").split()), ("401", ["admin", "auditor", "network-ci"]))
+    expect(BOX.do("stat -c '%U %G %a' /etc/nginx/tfstated/passwords").split(), ["root", "www-data", "640"])
 
 
 def check_a_damaged_journal_ends_the_start_for_good_and_a_copy_restores_it():
@@ -209,7 +235,7 @@ def check_a_damaged_journal_ends_the_start_for_good_and_a_copy_restores_it():
     for unit in ("tfstated", "tfstated-copy", "tfstated-stats"):
         BOX.run(f"systemctl start {unit}")
         waits_for(command(f"systemctl is-failed {unit}"), "failed")
-    expect(BOX.do("systemctl show -P ExecMainStatus tfstated; systemctl show -P NRestarts tfstated").split(), ["4", "0"])
+    expect(BOX.do("systemctl show -P ExecMainStatus tfstated; systemctl show -P NRestarts tfstated").split(), ["23", "0"])
     for text in (BOX.do(command("journalctl -u tfstated")), BOX.run(command("systemctl status tfstated"))[1]):
         expect(f"{newest}: Damaged" in text, True, text)
     do("Restore")
@@ -219,19 +245,20 @@ def check_a_damaged_journal_ends_the_start_for_good_and_a_copy_restores_it():
 
 def check_a_full_disk_ends_the_server_until_there_is_room():
     """The folder of the journals gets a disk of 4 MiB of its own, for so long."""
-    BOX.do("systemctl stop tfstated && mkdir /root/kept && cp -a /var/lib/tfstated/journal /root/kept && mount -t tmpfs -o size=4m,mode=700,uid=$(id -u tfstated) tmpfs "
-           "/var/lib/tfstated/journal && cp -a /root/kept/journal/*.tfj /var/lib/tfstated/journal && systemctl start tfstated")
+    BOX.do("systemctl stop tfstated-copy.timer tfstated && mkdir /root/kept && cp -a /var/lib/tfstated/journal /root/kept && mount -t tmpfs -o "
+           "size=4m,mode=700,uid=$(id -u tfstated) tmpfs /var/lib/tfstated/journal && cp -a /root/kept/journal/. /var/lib/tfstated/journal && systemctl start tfstated")
     waits_for("curl -fs https://tfstated.example.com/healthz")
     state_of = 'printf \'{"version":4,"serial":%d,"lineage":"L","x":"%s"}\' $number "$(head -c 1000000 /dev/zero | tr "\\0" x)"'
-    push = f"for number in 1 2 3 4 5; do {state_of} | curl -s -o /dev/null -w '%{{http_code}} ' --data-binary @- http://127.0.0.1:8080/state/full; done"
+    push = f"for number in 1 2 3 4 5; do {state_of} | curl -s -o /dev/null -w '%{{http_code}} ' --data-binary @- {DIRECT}/state/full; done"
     expect(BOX.do(push).split(), ["200", "200", "200", "200", "500"])
-    waits_for("systemctl show -P ExecMainStatus tfstated", "1")
+    waits_for("journalctl -u tfstated --no-pager -n 50", "status=29")
     waits_for("journalctl -u tfstated --no-pager -n 20", "CannotWrite")
-    expect(BOX.run("systemctl is-failed tfstated")[1].strip(), "activating", "it is tried again")
+    waits_for("systemctl show -P ExecMainStatus tfstated", "20")
+    expect(BOX.run("systemctl is-failed tfstated")[1].strip() in ("activating", "deactivating"), True, "it is tried again")
     BOX.do("mount -o remount,size=64m /var/lib/tfstated/journal")
     waits_for("curl -fs https://tfstated.example.com/healthz")
-    expect(json.loads(BOX.do("curl -fs http://127.0.0.1:8080/state/full | jq 'del(.x)'"))["serial"] in (4, 5), True, "that which was answered 500 may be there")
-    BOX.do("systemctl stop tfstated && umount /var/lib/tfstated/journal && systemctl start tfstated")
+    expect(json.loads(BOX.do(f"curl -fs {DIRECT}/state/full | jq 'del(.x)'"))["serial"] in (4, 5), True, "that which was answered 500 may be there")
+    BOX.do("systemctl stop tfstated && umount /var/lib/tfstated/journal && systemctl start tfstated tfstated-copy.timer")
     waits_for("curl -fs https://tfstated.example.com/healthz")
 
 
@@ -243,8 +270,8 @@ def check_a_least_position_that_the_server_raises():
     expect(position > 3, True, position)
     BOX.do(f"echo {position + 1} >/var/lib/tfstated-least/position && systemctl restart tfstated || true")
     waits_for("systemctl is-failed tfstated", "failed")
-    expect(BOX.do("systemctl show -P ExecMainStatus tfstated").strip(), "7")
-    BOX.do(f"echo {position} >/var/lib/tfstated-least/position && {command('systemctl start tfstated')}")
+    expect(BOX.do("systemctl show -P ExecMainStatus tfstated").strip(), "26")
+    BOX.do(f"echo {position} >/var/lib/tfstated-least/position && systemctl start tfstated")
     waits_for("curl -fs https://tfstated.example.com/healthz")
 
 
@@ -282,7 +309,8 @@ def check_a_removal_leaves_the_journals():
     text = BOX.do("dpkg -r tfstated")
     expect("the journals in /var/lib/tfstated are left" in text, True, text)
     expect(BOX.run("systemctl is-active tfstated")[1].strip(), "inactive")
-    expect((BOX.do("ls /var/lib/tfstated/journal/"), BOX.run("test -e /usr/bin/tfstatectl")[0]), (before, 1))
+    gone = [path for path in ("/usr/bin/tfstatectl", "/usr/sbin/tfstated-user", "/run/tfstated") if BOX.run(f"test -e {path}")[0]]
+    expect((BOX.do("ls /var/lib/tfstated/journal/"), len(gone)), (before, 3), gone)
     BOX.do("dpkg -P tfstated")
     expect(BOX.do("ls /var/lib/tfstated/journal/"), before, "also where it is purged")
     BOX.do("dpkg -i /root/tfstated_next_amd64.deb && systemctl start tfstated")
