@@ -4,18 +4,23 @@ import http.client
 import json
 import os
 import random
+import shutil
 import signal
 import sys
 import threading
 import time
 
+from check_terms import Pusher, serials_of
 from checking import S1, S2, SECONDS, checks_in, expect, run_checks
-from folder_program import Serving, run, served
-from journal_reader import read_journal
+from folder_program import STATUSES, Serving, run, served
+from journal_reader import base_text, read_journal
 from serve_program import preloaded
-from folders import (LOCK, LOOPBACK, NEWEST, PUSH1, PUSH2, REBASED, SHORT, all_of, ask_over, at_once, fresh, journals, named)
+from folders import (LOCK, LOOPBACK, NEWEST, PUSH1, PUSH2, REBASED, SHORT, all_of, ask_over, at_once, fresh, identity_text,
+                     journals, named, owned)
 
 EMPTY = b"TFJ1\n"
+LATE = b"TFJ2\n" + base_text(9, [(b"a", b"", S2)])
+COPIES = 60
 
 
 def state_of(serial):
@@ -28,11 +33,13 @@ def copy(source, target, *words, **how):
     return status, journals(target), errors
 
 
-def refused(source, target, status, fault, *words):
-    """A copy that ends with a fault, and keeps the journals of the target."""
-    before = journals(target)
-    ended, after, errors = copy(source, target, *words)
-    expect((ended, after, f": {fault}" in errors), (status, before, True), errors)
+def refused(source, target, fault, *words):
+    """A copy that ends with a fault, and keeps the journals and the identity of the target: its text on standard error."""
+    before = all_of(target)
+    ended, _, errors = copy(source, target, *words)
+    after = {name: data for name, data in all_of(target).items() if not name.endswith(".part")}
+    expect((ended, after, f": {fault}: " in errors), (STATUSES[fault], before, True), errors)
+    return errors
 
 
 def check_a_copy_is_a_folder_that_is_served():
@@ -45,22 +52,24 @@ def check_a_copy_is_a_folder_that_is_served():
 
 
 def check_copies_are_read_before_they_are_kept():
-    table = [({"n1": NEWEST, "n2": REBASED}, 0, {2: REBASED}), ({"n2": NEWEST[:-3]}, 0, {2: NEWEST[:-3]}),
-             ({"n1": NEWEST, "n2": REBASED[:40]}, 0, {1: NEWEST}), ({"n2": NEWEST[:-1] + b"x"}, 4, {}), ({"n2": NEWEST + PUSH1}, 5, {}),
-             ({}, 6, {}), ({"n2": b""}, 3, {}), ({"n1": NEWEST, "n2": SHORT}, 6, {})]
-    for files, status, kept in table:
+    table = [({"n1": NEWEST, "n2": REBASED}, {2: REBASED}), ({"n2": NEWEST[:-3]}, {2: NEWEST[:-3]}), ({"n1": NEWEST, "n2": REBASED[:40]}, {1: NEWEST})]
+    for files, kept in table:
         ended, found, errors = copy(fresh(**files), fresh())
-        expect((ended, found), (status, kept), f"{files}: {errors}")
-    expect(copy(fresh() / "none", fresh())[0], 8)
+        expect((ended, found, errors), (0, kept, ""), files)
+    table = [({"n2": NEWEST[:-1] + b"x"}, "Damaged"), ({"n2": NEWEST + PUSH1}, "Unlawful"), ({}, "NoJournal"), ({"n2": b""}, "TornBase"),
+             ({"n1": NEWEST, "n2": SHORT}, "Parted")]
+    for files, fault in table:
+        refused(fresh(**files), fresh(), fault)
+    refused(fresh() / "none", fresh(), "NoFolder")
     for words in (("copy",), ("copy", "a"), ("copy", "a", "b", "c"), ("copy", "a", "b", "--keep", "x")):
-        expect(run(*words)[0], 2, words)
+        expect(run(*words)[0], STATUSES["Arguments"], words)
 
 
 def check_a_copy_only_grows():
     target = fresh(n2=NEWEST[:-3])
     expect(copy(fresh(n2=NEWEST), target)[:2], (0, {2: NEWEST}))
-    for files in ({"n2": SHORT + PUSH2}, {"n2": SHORT + LOCK}, {"n2": REBASED}, {"n3": REBASED}, {"n1": NEWEST}):
-        refused(fresh(**files), target, 6, "NotBeginning")
+    for files in ({"n2": SHORT + PUSH2}, {"n2": SHORT + LOCK}, {"n2": REBASED}, {"n3": SHORT}, {"n1": NEWEST}, {"n1": NEWEST, "n3": LATE}):
+        refused(fresh(**files), target, "NotBeginning")
 
 
 def check_copies_go_on_over_starts():
@@ -76,35 +85,129 @@ def check_copies_go_on_over_starts():
     expect(sorted(journals(target / "old")), [2, 3, 4])
     answer, line = served(target)
     expect((answer, " from position 7: " in line), ((200, state_of(4)), True), line)
-    late = fresh(n2=journals(target / "old")[2])
-    for path in (source / "old").iterdir():
-        path.unlink()
-    refused(source, late, 6, "NotBeginning")
+
+
+def copies_of(source, target, wanted, moves):
+    """Copies this often at least, until the server has retired journals a number of times meanwhile. Returns how each copy ended."""
+    ends, seen, end = [], set(), time.monotonic() + SECONDS
+    while len(ends) < wanted or len(seen) <= moves:
+        expect(time.monotonic() < end, True, f"the server retires journals: {seen}")
+        seen.add(len(journals(source / "old")))
+        ends.append(copy(source, target)[::2])
+    return ends
+
+
+def check_copies_beside_compactions_all_end_well():
+    source = fresh(n1=EMPTY)
+    server = Serving(source, "--compact-entries", "2").listens()
+    pushers, targets = [Pusher(server, f"n{number}", b"y" * 2000) for number in range(2)], [fresh() for _ in range(4)]
+    threads = [threading.Thread(target=pusher.push_until_gone) for pusher in pushers]
+    for thread in threads:
+        thread.start()
+    try:
+        ends = at_once(lambda target: copies_of(source, target, COPIES // 4, 2), targets)
+    finally:
+        server.kill()
+    for thread in threads:
+        thread.join()
+    expect({end for each in ends for end in each}, {(0, "")})
+    serials, last = serials_of(source)
+    for target in targets:
+        expect(copy(source, target)[::2], (0, ""))
+        found, position = serials_of(target)
+        expect((position, {name: serials[name][-len(rows):] for name, rows in found.items()}), (last, found), "they have no gap")
+
+
+def check_a_copy_reads_what_moves_away_meanwhile():
+    """A journal is put into `old/`, or removed, after the folder was listed and before the journal is read."""
+    for to, wanted in (("old", {1: NEWEST}), (None, {})):
+        source, target = fresh(n1=NEWEST, n2=REBASED), fresh()
+        (source / "old").mkdir()
+        path = source / f"{named(1)}.tfj"
+        variables = {"LD_PRELOAD": MOVES, "AWAY": str(path), **({"TO": str(source / to / path.name)} if to else {})}
+        expect(copy(source, target, env={**os.environ, **variables}), (0, {2: REBASED}, ""))
+        expect((path.exists(), journals(target / "old")), (False, wanted))
+
+
+def chain_line(file, base, position):
+    return f"{file}.tfj: base {base}, position {position}, 1 names, whole"
+
+
+def check_a_new_chain_begins_where_the_source_has_lost_what_copies_need():
+    source, target = owned(n2=NEWEST), fresh()
+    expect(copy(source, target), (0, {2: NEWEST}, ""))
+    (source / f"{named(2)}.tfj").unlink()
+    (source / f"{named(7)}.tfj").write_bytes(LATE)
+    (source / "identity").write_text(identity_text(n7=LATE))
+    text = (f"tfstatectl: {source}: the source no longer has the journals between position 3 and 9: a new chain of copies begins; "
+            f"the earlier one is in {target}/old\n")
+    expect(copy(source, target), (0, {7: LATE}, text))
+    expect(journals(target / "old"), {2: NEWEST}, "the earlier chain stays")
+    expect((target / "identity").read_text(), identity_text(n2=NEWEST, n7=LATE))
+    expect(copy(source, target), (0, {7: LATE}, ""), "it is said once")
+    status, output, errors = run("check", target)
+    lines = [chain_line(f"old/{named(2)}", 1, 3), chain_line(named(7), 9, 9), f"a start goes on from {named(7)}.tfj at position 9"]
+    expect((status, output.splitlines(), errors), (0, lines, ""))
+    (source / f"{named(7)}.tfj").write_bytes(LATE + LOCK)
+    expect(copy(source, target), (0, {7: LATE + LOCK}, ""), "it only grows")
+    status, output, errors = run("history", target, "a", "--json")
+    expect((status, errors, [(row["position"], row["kept_from"]) for row in json.loads(output)]), (0, "", [(2, 1), (3, 1), (10, 9)]))
+    expect("versions between positions 3 and 9 are no longer kept" in run("history", target, "a")[2], True)
+    expect(served(target)[0], (200, S2))
+
+
+def check_a_new_chain_at_the_same_position_is_no_loss():
+    target = fresh(n2=NEWEST)
+    expect(copy(fresh(n3=REBASED), target), (0, {3: REBASED}, ""))
+    expect(journals(target / "old"), {2: NEWEST})
+    target = fresh(n2=b"TFJ3\n")
+    status, found, errors = copy(fresh(n3=REBASED), target)
+    expect((status, found, "the source no longer has the journals after the copies: a new chain of copies begins" in errors), (0, {3: REBASED}, True), errors)
+
+
+def check_copies_go_on_over_compactions_of_a_source_that_keeps_little():
+    """A new chain begins each time; all of them are read."""
+    source, target, ends = fresh(n1=EMPTY), fresh(), []
+    for serial in range(1, 8, 2):
+        server = Serving(source, "--keep", "0").listens()
+        expect(server.ask("POST", "/state/a", state_of(serial)), (200, b""))
+        server.kill()
+        server = Serving(source, "--keep", "0").listens()
+        expect(server.ask("POST", "/state/a", state_of(serial + 1)), (200, b""))
+        ends.append(copy(source, target))
+        server.kill()
+    expect([(status, sorted(found)) for status, found, _ in ends], [(0, [number]) for number in (3, 5, 7, 9)])
+    expect([f"between position {at} and {at + 1}: a new chain" in errors for at, (_, _, errors) in zip((2, 4, 6), ends[1:])], [True] * 3, ends)
+    rows = json.loads(run("history", target, "a", "--json")[1])
+    expect([(row["serial"], row["kept_from"]) for row in rows], [(serial, serial - 1) for serial in (2, 4, 6, 8)])
+    expect(run("check", target)[1].count("old/"), 3)
 
 
 def check_a_folder_that_was_served_takes_no_copies():
     source, target = fresh(n1=SHORT), fresh()
     expect(copy(source, target)[0], 0)
     second = Serving(target).listens()
-    refused(source, target, 1, "Locked")
+    refused(source, target, "Locked")
     second.kill()
-    refused(source, target, 6, "Served")
-    refused(target, target, 6, "Served")
+    refused(source, target, "Served")
+    refused(target, target, "Served")
 
 
 def kill_at(turn):
     """Kills a copy before the call whose turn it is: the target can be served as it is, and the next copy goes on."""
-    source, target = fresh(n2=NEWEST, n3=REBASED), fresh(n2=NEWEST[:-3])
+    source, target = owned(n2=NEWEST, n3=REBASED), owned(n2=NEWEST[:-3])
     (target / f"{named(2)}.tfj.part").write_bytes(b"left")
     ended = copy(source, target, env={**os.environ, "LD_PRELOAD": SHIM, "TURN": str(turn)})[0]
     expect(ended, -signal.SIGKILL, f"turn {turn}")
-    twin = fresh(**{f"n{number}": data for number, data in journals(target).items()})
+    twin = shutil.copytree(target, fresh(), dirs_exist_ok=True)
     expect(served(twin)[0], (200, S2), f"turn {turn}")
     expect((copy(source, target)[0], journals(target)), (0, {3: REBASED}), f"turn {turn}")
+    text, (value, mark) = (target / "identity").read_text(), identity_text(n3=REBASED).splitlines()
+    expect((text.splitlines()[0], mark in text), (value, True), f"turn {turn}: {text}")
 
 
 def check_a_kill_at_each_call_leaves_a_folder_that_is_served():
-    source, target, count = fresh(n2=NEWEST, n3=REBASED), fresh(n2=NEWEST[:-3]), fresh() / "count"
+    source, target, count = owned(n2=NEWEST, n3=REBASED), owned(n2=NEWEST[:-3]), fresh() / "count"
     expect(copy(source, target, env={**os.environ, "LD_PRELOAD": SHIM, "TURN": "0", "COUNT": str(count)})[0], 0)
     turns = len(count.read_bytes())
     expect(turns > 10, True, f"there are {turns} calls")
@@ -207,12 +310,15 @@ def check_a_backup_is_restored():
     expect(server.ask("POST", "/state/a", state_of(1)), (200, b""))
     expect(copy(source, backup)[0], 0)
     server.kill()
-    restored = fresh(**{f"n{number}": data for number, data in journals(backup).items()})
-    status, _, errors = run("serve", restored, "--first", "--listen", f"{LOOPBACK}:0")
-    expect((status, "NotFirst" in errors), (6, True), "it has a journal")
-    expect(served(restored)[0], (200, state_of(1)))
+    for files in (all_of(backup), {name: data for name, data in all_of(backup).items() if name.endswith(".tfj")}):
+        restored = fresh()
+        for name, data in files.items():
+            (restored / name).write_bytes(data)
+        status, _, errors = run("serve", restored, "--first", "--listen", f"{LOOPBACK}:0")
+        expect((status, "NotFirst" in errors), (STATUSES["NotFirst"], True), "it has a journal")
+        expect(served(restored)[0], (200, state_of(1)), sorted(files))
 
 
 if __name__ == "__main__":
-    SHIM = preloaded("kill_calls.c")
+    SHIM, MOVES = preloaded("kill_calls.c"), preloaded("moved_files.c")
     sys.exit(run_checks(checks_in(globals())))

@@ -1,4 +1,4 @@
-"""What `tfstatectl serve` tells is on the disk: over one that keeps only what was synced (lazy_disk.c), with kills at random moments, a sync that
+"""What both programs acknowledge is on the disk: over one that keeps only what was synced (lazy_disk.c), with kills at random moments, a sync that
 fails at each turn, and syncs and writes that take long. KILLS says how many kills, SEED which ones."""
 import http.client
 import json
@@ -8,15 +8,18 @@ import sys
 import threading
 import time
 
-from check_terms import serials_of, serving
-from checking import checks_in, expect, run_checks
-from folder_program import Serving
-from folders import LOOPBACK, all_of, ask_over, fresh
-from serve_program import preloaded, state
+from check_terms import has_come, serials_of, serving
+from checking import SECONDS, checks_in, expect, run_checks
+from folder_program import STATUSES, Serving
+from folders import LOOPBACK, all_of, ask_over, fresh, journals
+from journal_reader import base_text, push_content, record_text
+from serve_program import Server, preloaded, state
 
 KILLS, SEED = int(os.environ.get("KILLS", "20")), int(os.environ.get("SEED", "1"))
 GONE = (OSError, http.client.HTTPException)
 NAMES = [f"n{number}" for number in range(4)]
+# The lengths of bodies, each with that of its chunks.
+BODIES = ((5_000, 700), (100_000, 4_096), (5_000_000, 65_536))
 
 
 def disk(**how):
@@ -133,17 +136,26 @@ def check_no_reply_is_written_before_its_sync():
     expect(syncs < replies, True, f"{syncs} syncs for {replies} replies")
 
 
+def has_failed_elsewhere(trace):
+    """Whether a sync of another file than a journal has failed."""
+    return any(letter == "o" for letter, _ in events_in(trace))
+
+
 def fail_at(turn):
-    """Has a sync fail: whether the server began. It ends with status 1, and what it told is there after a restart."""
+    """Has a sync fail. The server ends with a fault, and after a restart it has all that it acknowledged. If the sync is not of the journal but of
+    the folder's identity, a running server continues. Returns true if the server was running."""
     folder, told, trace = fresh(), Told(), fresh() / "trace"
     words = (folder, "--first", "--keep", "1000000")
     server = Serving(*words, workers="8", env=disk(DELAY=500, FAIL=turn, TRACE=trace))
     threads = beside(server, told, 2) if server.line else []
-    status, errors = server.end()
+    has_come(lambda: server.process.poll() is not None or server.line and has_failed_elsewhere(trace), f"turn {turn}: it fails")
+    if server.process.poll() is None:
+        server.kill()
+    else:
+        fault, (status, errors) = "SyncFault" if server.line else "CannotWrite", server.end()
+        expect((status, f": {fault}: " in errors), (STATUSES[fault], True), f"turn {turn}: {errors}")
     for thread in threads:
         thread.join()
-    fault = "SyncFault: its journal can't be synced any more" if server.line else "CannotWrite"
-    expect((status, f": {fault}" in errors), (1, True), f"turn {turn}: {errors}")
     expect_synced(trace, f"turn {turn}")
     if server.line or any(path.endswith(".tfj") for path in all_of(folder)):
         serving(folder).kill()
@@ -156,17 +168,66 @@ def check_after_a_sync_that_fails_nothing_is_told():
     expect((began[0], began[-1], sum(began) > 10), (False, True, True), began)
 
 
-def check_a_write_or_a_sync_that_a_signal_interrupts_is_made_again():
-    folder, told = fresh(), Told()
-    server = serving(folder, env={**os.environ, "LD_PRELOAD": preloaded("interrupted_calls.c")})
-    for _ in range(9):
-        connection = http.client.HTTPConnection(LOOPBACK, server.port, timeout=10)
-        told.push(connection, "n0")
-        told.look(connection, "n0")
-        connection.close()
-    expect((told.acknowledged, told.read), ({"n0": 9}, {"n0": 9}))
-    server.kill()
-    told.expect_in(folder, "after all")
+class FolderDisk:
+    """`tfstatectl` on a new folder."""
+
+    def __init__(self, env):
+        self.folder = fresh()
+        self.server = serving(self.folder, env=env)
+        self.port = self.server.port
+
+    def kill(self):
+        """Kills the server: the bytes of its journal."""
+        self.server.kill()
+        [data] = journals(self.folder).values()
+        return data
+
+
+class FileDisk:
+    """`tfstated` on a new journal."""
+
+    def __init__(self, env):
+        self.server = Server(env=env)
+        self.port, self.kill = int(self.server.address.split(":")[1]), self.server.kill
+
+
+def journal_of(name, states):
+    """The bytes of a new journal after pushes to a name."""
+    return b"TFJ2\n" + base_text(0, []) + b"".join(record_text(3, name, push_content(b"", text)) for text in states)
+
+
+def expect_bodies(program, in_chunks):
+    """Pushes bodies: each is on the disk once it is acknowledged, with Content-Length or in chunks."""
+    trace, texts = fresh() / "trace", []
+    disk_of = program(disk(TRACE=trace))
+    connection = http.client.HTTPConnection(LOOPBACK, disk_of.port, timeout=SECONDS)
+    for serial, (length, chunk) in enumerate(BODIES, 1):
+        texts.append(state(serial, ("a",)).ljust(length))
+        body = (texts[-1][at : at + chunk] for at in range(0, length, chunk)) if in_chunks else texts[-1]
+        expect(ask_over(connection, "POST", "/state/a", body), (200, b""), f"{length} bytes")
+    data = disk_of.kill()
+    connection.close()
+    about = f"{program.__name__}, {'in chunks' if in_chunks else 'with Content-Length'}"
+    expect(data == journal_of(b"a", texts), True, f"{about}: what a kill leaves, {len(data)} bytes")
+    expect(expect_synced(trace, about), len(BODIES), about)
+
+
+def check_bodies_of_each_length_are_synced_before_they_are_acknowledged():
+    for program in (FolderDisk, FileDisk):
+        for in_chunks in (False, True):
+            expect_bodies(program, in_chunks)
+
+
+def check_a_write_or_a_sync_that_a_signal_interrupts_is_made_once():
+    for program in (FolderDisk, FileDisk):
+        told, disk_of = Told(), program({**os.environ, "LD_PRELOAD": preloaded("interrupted_calls.c")})
+        for _ in range(9):
+            connection = http.client.HTTPConnection(LOOPBACK, disk_of.port, timeout=SECONDS)
+            told.push(connection, "n0")
+            told.look(connection, "n0")
+            connection.close()
+        expect((told.acknowledged, told.read), ({"n0": 9}, {"n0": 9}))
+        expect(disk_of.kill(), journal_of(b"n0", [state(serial, ("a",), ("b", "t.a")) for serial in range(1, 10)]), program.__name__)
 
 
 def rate(server, names, seconds):

@@ -10,16 +10,14 @@ from pathlib import Path
 from check_commands import some_journal, some_record
 from checking import S1, S2, checks_in, expect, run_checks
 from folder_model import Fault, chosen, number_of, started
-from folder_program import Serving, ended, run, served
-from folders import (A, B, LOCK, LOOPBACK, NEWEST, PUSH1, PUSH2, PUSH3, REBASED, SHORT, all_of, at_once, fresh, journals, named)
+from folder_program import STATUSES, Serving, ended, run, served
+from folders import (A, B, LOCK, LOOPBACK, NEWEST, PUSH1, PUSH2, PUSH3, REBASED, S3, SHORT, all_of, at_once, fresh, journals, named)
 from journal_reader import base_text, push_content, record_text
 from repository import TOP
 
 EMPTY = b"TFJ1\n"
 # Of a start whose journals have 100 KB that live.
 MOST_MEMORY = 24_000_000
-STATUSES = {"TornBase": 3, "Damaged": 4, "Unlawful": 5, "NoJournal": 6, "NotFirst": 6, "Parted": 6, "TooFar": 6, "TwoOfName": 6,
-            "NotAtLeast": 7, "NoFolder": 8, "Locked": 1, "CannotWrite": 1, "CannotBind": 1, "CannotRead": 1}
 
 
 def refused(folder, fault, about, *words):
@@ -41,9 +39,9 @@ def check_help_and_version():
     expect(run("--version"), (0, f"tfstatectl {version[0]} ({version[1]})\n", ""))
     status, output, errors = run("--help")
     expect((status, errors), (0, ""))
-    expect(all(word in output for word in ("serve", "check", "Status:")), True, output)
+    expect(all(word in output for word in ("init", "serve", "check", "Status: 0 done; 20 may pass")), True, output)
     status, output, _ = run("serve", "--help")
-    options = ("--listen", "--workers", "--keep", "--first", "--at-least", "FOLDER")
+    options = ("--listen", "--workers", "--keep", "--keep-days", "--keep-bytes", "--first", "--at-least", "FOLDER")
     expect((status, [word for word in options if word not in output]), (0, []))
 
 
@@ -51,10 +49,11 @@ def check_wrong_arguments():
     folder = fresh(n1=NEWEST)
     table = [(), ("serve",), ("check",), ("serve", folder, "more"), ("serve", folder, "--workers", "0"), ("serve", folder, "--workers", "17"),
              ("serve", folder, "--workers", "x"), ("serve", folder, "--keep", "-1"), ("serve", folder, "--at-least", "x"),
-             ("serve", folder, "--unknown"), ("other", folder), ("serve", folder, "--listen")]
+             ("serve", folder, "--unknown"), ("other", folder), ("serve", folder, "--listen"), ("init",), ("init", folder, "more"),
+             *(("serve", folder, *words) for words in (("--keep-days", "x"), ("--keep-bytes", "-1"), ("--keep", "9", "--keep-days", "9")))]
     for words in table:
         status, output, errors = run(*words)
-        expect((status, output, bool(errors)), (2, "", True), words)
+        expect((status, output, bool(errors)), (STATUSES["Arguments"], "", True), words)
     taken = Serving(fresh(n1=SHORT)).listens()
     for address in ("nowhere", LOOPBACK, f"{LOOPBACK}:x", f"{LOOPBACK}:65536", f"{LOOPBACK}:{taken.port}"):
         errors = refused(folder, "CannotBind", address, "--listen", address)
@@ -65,10 +64,10 @@ def check_the_first_start_is_asked_for():
     folder = fresh()
     shutil.rmtree(folder)
     status, _, errors = ended(folder)
-    expect((status, "NoFolder" in errors, folder.exists()), (8, True, False), errors)
+    expect((status, "NoFolder" in errors, folder.exists()), (STATUSES["NoFolder"], True, False), errors)
     folder.mkdir()
     errors = refused(folder, "NoJournal", "an empty folder")
-    expect("--first" in errors, True, errors)
+    expect("tfstatectl init" in errors, True, errors)
     answer, line = served(folder, "--first")
     expect((answer, " 0 names" in line), ((404, b'{"error":"NoState"}'), True), line)
     expect(journals(folder), {1: b"TFJ2\n" + started(0, EMPTY)[5:]})
@@ -79,6 +78,27 @@ def check_the_first_start_is_asked_for():
         (had / inside).write_bytes(EMPTY)
         errors = refused(had, "NotFirst", inside, "--first")
         expect(inside.startswith("served") or named(7) in errors, True, errors)
+
+
+def check_init_creates_a_folder_that_is_served():
+    for folder in (fresh(), fresh() / "not" / "there"):
+        path = folder / f"{named(1)}.tfj"
+        expect(run("init", folder), (0, f"created {path}\n", ""))
+        expect((journals(folder), path.stat().st_mode & 0o777), ({1: started(0, EMPTY)}, 0o600))
+        before = all_of(folder)
+        expect(sorted(before), ["identity", path.name, "served"])
+        status, output, errors = run("init", folder)
+        expect((status, output, f"{path}: NotFirst: " in errors), (STATUSES["NotFirst"], "", True), errors)
+        expect(all_of(folder), before, "nothing is changed")
+        expect((served(folder)[0][0], sorted(journals(folder))), (404, [1]))
+    server = Serving(folder).listens()
+    expect(run("init", folder)[0], STATUSES["Locked"], "it is served")
+    server.kill()
+    for files in ({"n7": NEWEST}, {"n7": b""}):
+        expect(run("init", fresh(**files))[0], STATUSES["NotFirst"], "it has a journal")
+    file = fresh() / "file"
+    file.write_bytes(b"")
+    expect(run("init", file)[0], STATUSES["NotFolder"], "it is a file")
 
 
 def check_a_folder_begins_with_a_file():
@@ -109,13 +129,14 @@ def check_each_start_goes_on_in_a_shorter_journal():
 
 
 def check_journals_that_went_before_are_put_away():
-    table = [({"n4": NEWEST}, [4]), ({"n3": NEWEST, "n4": REBASED}, [3, 4]), ({"n1": EMPTY + PUSH1, "n3": NEWEST, "n4": REBASED}, [1, 3, 4])]
-    for files, numbers in table:
+    """One without changes keeps its number."""
+    table = [({"n4": NEWEST}, [4], 5), ({"n3": NEWEST, "n4": REBASED}, [3], 4), ({"n1": EMPTY + PUSH1, "n3": NEWEST, "n4": REBASED}, [1, 3], 4)]
+    for files, numbers, new in table:
         folder = fresh(**files)
         answer, line = served(folder)
-        expect((answer, " from position 3: 92 bytes, 1 names, " in line), ((200, S2), True), line)
+        expect((answer, f"{named(new)}.tfj from position 3: 92 bytes, 1 names, " in line), ((200, S2), True), line)
         expect(old_of(folder), {number: files[f"n{number}"] for number in numbers})
-        expect(journals(folder), {5: REBASED})
+        expect(journals(folder), {new: REBASED})
 
 
 def large_state(serial):
@@ -189,13 +210,14 @@ def check_histories_that_parted_stop_the_start():
         expect(named(4) in errors, True, errors)
     folder = fresh(n3=SHORT)
     first = Serving(folder).listens()
-    other = fresh(n4=(folder / f"{named(4)}.tfj").read_bytes())
-    expect(first.ask("POST", "/state/a", S2), (200, b""), "A lives on")
+    expect(first.ask("POST", "/state/a", S2), (200, b""))
+    other = fresh(n3=journals(folder)[3])
+    expect(first.ask("POST", "/state/a", S3), (200, b""), "A lives on")
     second = Serving(other).listens()
     expect(second.ask("LOCK", "/state/a", B), (200, b""), "B was started from a copy")
     first.kill()
     second.kill()
-    shutil.copy(other / f"{named(5)}.tfj", folder)
+    shutil.copy(other / f"{named(4)}.tfj", folder)
     refused(folder, "Parted", "A's change isn't B's")
 
 
@@ -205,7 +227,7 @@ def start_over_a_cut_base(count):
     expect(served(folder)[0], (200, S2), f"the first {count} bytes")
     is_cut = count < len(REBASED)
     expect((folder / "failed-start").exists(), is_cut, f"the first {count} bytes")
-    expect((journals(folder), sorted(old_of(folder))), ({5: REBASED}, [3] if is_cut else [3, 4]))
+    expect((journals(folder), sorted(old_of(folder))), ({5 if is_cut else 4: REBASED}, [3]))
 
 
 def check_a_start_that_was_cut_off_is_set_aside():
@@ -302,18 +324,19 @@ def expect_random(case):
     expect(run("check", folder)[0], 0, about)
     server = Serving(folder).listens()
     server.kill()
-    new = max(number_of(name) for name in files if number_of(name) is not None) + 1
-    expect(journals(folder), {new: started(number, data)}, about)
-    put_away = {number_of(name): content for name, content in files.items() if number_of(name) not in (None, left)}
+    text, numbers = started(number, data), [number_of(name) for name in files if number_of(name) is not None]
+    new = number if text == data else max(numbers) + 1
+    expect(journals(folder), {new: text}, about)
+    put_away = {number_of(name): content for name, content in files.items() if number_of(name) not in (None, left, new)}
     expect(old_of(folder), put_away, about)
-    return "left" if left else "served"
+    return "left" if left else "replaced" if new == number else "served"
 
 
 def check_random_folders_are_served_as_the_model_says():
     chance = random.Random(20260611)
     cases = [(turn, broken(chance, some_folder(chance))) for turn in range(500)]
     met = set(at_once(expect_random, cases))
-    expect(met, {"NoJournal", "Damaged", "Unlawful", "TornBase", "Parted", "TooFar", "left", "served"}, "each end is met")
+    expect(met, {"NoJournal", "Damaged", "Unlawful", "TornBase", "Parted", "TooFar", "left", "replaced", "served"}, "each end is met")
 
 
 def check_check_tells_of_each_journal():
@@ -323,9 +346,13 @@ def check_check_tells_of_each_journal():
     before = all_of(folder)
     expect(run("check", folder), (0, wanted, ""))
     status, output, errors = run("check", fresh(n3=NEWEST, n4=SHORT))
-    expect((status, output.count("\n"), "Parted" in errors, named(4) in errors), (6, 2, True, True), errors)
+    expect((status, output.count("\n"), "Parted" in errors, named(4) in errors), (STATUSES["Parted"], 2, True, True), errors)
     expect(all_of(folder), before)
-    expect((run("check", fresh())[0], run("check", fresh() / "none")[0]), (6, 8))
+    none, file = fresh() / "none", fresh() / "file"
+    file.write_bytes(NEWEST)
+    for path, fault in ((fresh(), "NoJournal"), (none, "NoFolder"), (file, "NotFolder"), (file / "more", "NotFolder")):
+        status, output, errors = run("check", path)
+        expect((status, output, f"{path}: {fault}" in errors), (STATUSES[fault], "", True), errors)
 
 
 if __name__ == "__main__":

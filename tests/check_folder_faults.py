@@ -8,12 +8,13 @@ import subprocess
 import sys
 
 from checking import S2, checks_in, expect, run_checks
-from folder_program import Serving, ended, served
+from folder_program import STATUSES, Serving, ended, served
 from journal_reader import read_journal
 from serve_program import Server, preloaded
-from folders import A, B, NEWEST, PUSH1, REBASED, S1, S3, all_of, at_once, fresh, journals, named
+from folders import A, B, NEWEST, PUSH1, REBASED, S1, S3, all_of, at_once, fresh, identity_text, journals, named, owned
 
 EMPTY = b"TFJ1\n"
+LARGE = S3[:-1] + b',"x":"' + b"y" * 70000 + b'"}'
 
 
 def expect_newest(server):
@@ -31,20 +32,23 @@ def limit_files(size):
 
 
 def check_files_that_cant_grow_lose_nothing():
-    for size in (0, 1, 40, len(REBASED) - 1):
-        folder = fresh(n1=NEWEST)
+    """The journal can't be written, or the identity, which is longer."""
+    mark = len(identity_text(n1=NEWEST))
+    for size, make in [(0, fresh), (1, owned), (40, fresh), (len(REBASED) - 1, owned), (len(REBASED), owned), (mark, owned)]:
+        folder = make(n1=NEWEST)
+        before = all_of(folder)
         status, _, errors = ended(folder, preexec_fn=limit_files(size))
-        expect((status, "CannotWrite" in errors), (1, True), f"files of {size} bytes: {errors}")
-        expect(all_of(folder), {f"{named(1)}.tfj": NEWEST}, f"files of {size} bytes")
+        expect((status, "CannotWrite" in errors), (STATUSES["CannotWrite"], True), f"files of {size} bytes: {errors}")
+        expect(all_of(folder), before, f"files of {size} bytes")
         expect(served(folder)[0], (200, S2))
     folder = fresh(n1=NEWEST)
-    server = Serving(folder, preexec_fn=limit_files(len(REBASED) + 30))
+    server = Serving(folder, preexec_fn=limit_files(1000))
     expect_newest(server)
-    expect(server.ask("POST", "/state/a?ID=B", S3), (500, b'{"error":"JournalFault"}'))
+    expect(server.ask("POST", "/state/a?ID=B", LARGE), (500, b'{"error":"JournalFault"}'))
     status, errors = server.end()
-    expect((status, f"{folder}: JournalFault" in errors), (10, True), errors)
-    reads = Serving(folder, "--serve-reads", preexec_fn=limit_files(len(REBASED) + 30)).listens()
-    expect(reads.ask("POST", "/state/a?ID=B", S3), (500, b'{"error":"JournalFault"}'))
+    expect((status, f"{folder}: JournalFault" in errors), (STATUSES["JournalFault"], True), errors)
+    reads = Serving(folder, "--serve-reads", preexec_fn=limit_files(1000)).listens()
+    expect(reads.ask("POST", "/state/a?ID=B", LARGE), (500, b'{"error":"JournalFault"}'))
     expect(reads.ask("POST", "/state/a?ID=B", S3), (503, b'{"error":"JournalStopped"}'))
     expect(reads.ask("GET", "/state/a"), (200, S2))
     reads.kill()
@@ -61,7 +65,7 @@ def limit_stacks(size):
 def check_a_start_with_a_small_stack_is_refused():
     folder = fresh(n1=NEWEST)
     status, _, errors = ended(folder, preexec_fn=limit_stacks((1 << 19) - 4096))
-    expect((status, "SmallStack: a thread's stack has 520192 bytes" in errors), (9, True), errors)
+    expect((status, "SmallStack: a thread's stack has 520192 bytes" in errors), (STATUSES["SmallStack"], True), errors)
     expect(all_of(folder), {f"{named(1)}.tfj": NEWEST}, "nothing is done")
     server = Serving(folder, preexec_fn=limit_stacks(1 << 19))
     expect_newest(server)
@@ -73,29 +77,34 @@ def check_a_server_whose_listener_is_shut_tells_the_error():
     server = Serving(folder).listens()
     Server.shut(server)
     status, errors = server.end()
-    expect((status, f"{folder}: AcceptFault: no connection could be taken: invalid input parameter (os error 22). " in errors), (1, True), errors)
+    told = f"{folder}: AcceptFault: no connection could be taken: invalid input parameter (os error 22). "
+    expect((status, told in errors), (STATUSES["AcceptFault"], True), errors)
 
 
-LEFT = {"n2": EMPTY + PUSH1, "n3": NEWEST, "n4": REBASED, "n5": REBASED[:50]}
+# What failed starts have left behind a journal with changes, and behind one without any, which the next start replaces.
+LEFT = ({"n2": EMPTY + PUSH1, "n3": NEWEST, "n5": REBASED[:50]}, {"n2": EMPTY + PUSH1, "n3": NEWEST, "n4": REBASED, "n5": REBASED[:50]})
 
 
-def kill_at(turn):
+def kill_at(case):
     """Kills a start before the call whose turn it is, and starts again."""
-    folder = fresh(**LEFT)
+    files, turn = case
+    folder, about = fresh(**files), f"turn {turn} over {sorted(files)}"
     (folder / f"{named(6)}.tfj.part").write_bytes(REBASED[:50])
     server = Serving(folder, env={**os.environ, "LD_PRELOAD": SHIM, "TURN": str(turn)})
-    expect(server.end()[0], -signal.SIGKILL, f"turn {turn}")
-    expect(served(folder)[0], (200, S2), f"turn {turn}")
-    expect(sorted(journals(folder / "old"))[:3], [2, 3, 4], f"turn {turn}")
-    expect(list(journals(folder).values()), [REBASED], f"turn {turn}")
+    expect(server.end()[0], -signal.SIGKILL, about)
+    expect(served(folder)[0], (200, S2), about)
+    expect((sorted(journals(folder / "old")), list(journals(folder).values())), ([2, 3], [REBASED]), about)
 
 
 def check_a_kill_at_each_call_loses_nothing():
-    folder, count = fresh(**LEFT), fresh() / "count"
-    Serving(folder, env={**os.environ, "LD_PRELOAD": SHIM, "TURN": "0", "COUNT": str(count)}).listens().kill()
-    turns = len(count.read_bytes())
-    expect(turns > 15, True, f"there are {turns} calls")
-    at_once(kill_at, range(1, turns + 1))
+    cases = []
+    for files in LEFT:
+        folder, count = fresh(**files), fresh() / "count"
+        Serving(folder, env={**os.environ, "LD_PRELOAD": SHIM, "TURN": "0", "COUNT": str(count)}).listens().kill()
+        turns = len(count.read_bytes())
+        expect(turns > 15, True, f"there are {turns} calls")
+        cases += [(files, turn) for turn in range(1, turns + 1)]
+    at_once(kill_at, cases)
 
 
 def kill_first_at(turn):
@@ -121,7 +130,7 @@ def start_over_a_changed_byte(place):
     folder, (_, _, _, entries, end) = fresh(n4=data), read_journal(data)
     if end.startswith("damaged") or end == "torn 5":
         status, _, errors = ended(folder)
-        expect((status, named(4) in errors), (3 if end == "torn 5" else 4, True), f"byte {place}: {errors}")
+        expect((status, named(4) in errors), (STATUSES["TornBase" if end == "torn 5" else "Damaged"], True), f"byte {place}: {errors}")
         expect(journals(folder), {4: data}, f"byte {place}")
         return
     kept = [fields[-1] for kind, _, fields in entries if kind == "push"]
@@ -150,12 +159,11 @@ def start_on_a_full_disk(folder, pages):
     server = Serving(folder)
     if server.line:
         expect_newest(server)
-        changed = S3[:-1] + b',"x":"' + b"y" * 70000 + b'"}'
-        expect(server.ask("POST", "/state/a?ID=B", changed)[0], 500, "a change with no room for it")
+        expect(server.ask("POST", "/state/a?ID=B", LARGE)[0], 500, "a change with no room for it")
         server.kill()
     else:
         status, errors = server.end()
-        expect((status, "CannotWrite" in errors), (1, True), errors)
+        expect((status, "CannotWrite" in errors), (STATUSES["CannotWrite"], True), errors)
     (folder / "filled").unlink()
     again = Serving(folder)
     expect_newest(again)

@@ -19,6 +19,8 @@ PLACEHOLDER = re.compile(r"[A-Z]{4}|\.\.")
 # Pages for those who read the code: each name in them is one of the repository's.
 PRECISE = ("docs/ARCHITECTURE.md", "docs/DECISIONS.md", "docs/GUARANTEES.md", "docs/MODEL.md", "crates/*/README.md")
 ADDRESS, BUILT = "http://127.0.0.1:8080", "crates/tfstated/out/tfstated"
+# How pages ask the package's server. The program that runs here listens at an address alone.
+SOCKET = re.compile(r"--unix-socket /run/tfstated/tfstated\.sock ('?)http://localhost")
 
 
 def pages():
@@ -155,7 +157,7 @@ def can_run(content):
 
 def run_block(content, server, folder):
     """What a block prints, over a server and in a folder of its own."""
-    script = content.replace(ADDRESS, f"http://{server.address}").replace(BUILT, PROGRAM)
+    script = SOCKET.sub(rf"\1{ADDRESS}", content).replace(ADDRESS, f"http://{server.address}").replace(BUILT, PROGRAM)
     how = {"cwd": folder, "stdin": subprocess.DEVNULL, "stdout": subprocess.PIPE, "timeout": SECONDS}
     ran = subprocess.run(["sh", "-e", "-c", script], check=False, **how)
     expect(ran.returncode, 0, content)

@@ -1,14 +1,13 @@
 """Starts of `tfstatectl` below a least position, which a file has that the server and copies raise, and starts that pass over a journal whose
 entries the newest one lacks."""
+import itertools
 import sys
 from concurrent.futures import ThreadPoolExecutor
 
 from checking import S1, S2, checks_in, expect, run_checks
-from folder_program import Serving, ended, run, served
-from journal_reader import base_text
-from folders import NEWEST, PUSH1, PUSH2, REBASED, SHORT, all_of, fresh, journals, named
-
-STATUSES = {"NotAtLeast": 7, "NoPosition": 7, "CannotRead": 1, "NotPast": 2, "Parted": 6, "TwoOfName": 6}
+from folder_program import STATUSES, Serving, ended, run, served
+from journal_reader import base_text, record_text
+from folders import B, NEWEST, PUSH1, PUSH2, REBASED, SHORT, all_of, fresh, journals, named
 
 
 def refused(folder, fault, *words):
@@ -85,7 +84,7 @@ def check_a_copy_raises_the_file():
     expect(position_in(file), 3)
     older = fresh(n3=SHORT)
     status, _, errors = run("copy", older, fresh(), "--at-least-file", file)
-    expect((status, "its position is 1, and the least one is 3" in errors, named(3) in errors), (7, True, True), errors)
+    expect((status, "its position is 1, and the least one is 3" in errors, named(3) in errors), (STATUSES["NotAtLeast"], True, True), errors)
     expect(position_in(file), 3)
 
 
@@ -101,18 +100,21 @@ def passed_over(folder, *words):
 
 
 def check_a_journal_is_passed_over():
-    """The journal of number 4 went on from one of the places of that of number 3, or from none: how many entries are lost."""
-    other = base_of(1, b"", S2)
+    """The journal of number 4 went on from one of the places of that of number 3, or from none: how many entries are lost. No later start is refused
+    because of that of number 3."""
+    other, lock = base_of(1, b"", S2), record_text(1, b"z", B)
     table = [(NEWEST, SHORT, S1, "2 of its entries are lost"), (NEWEST, base_of(2, b"", S2), S2, "1 of its entries are lost"),
              (NEWEST, REBASED, S2, "0 of its entries are lost"), (NEWEST, base_of(3, b"", S2), S2, "2 of its entries are lost"),
              (NEWEST, other, S2, "2 of its entries are lost"), (NEWEST, base_of(9, b"", S1), S1, "2 of its entries are lost"),
              (b"TFJ1\n" + PUSH1 + PUSH2, SHORT, S1, "1 of its entries are lost"), (SHORT, other, S2, "0 of its entries are lost"),
              (NEWEST[:-1] + b"x", other, S2, "it can't be read, and its entries are lost")]
-    for past, newest, state, lost in table:
-        folder = fresh(n3=past, n4=newest)
+    for (past, newest, state, lost), changes in itertools.product(table, (b"", lock)):
+        folder = fresh(n3=past, n4=newest + changes)
         answer, lines = passed_over(folder, folder / f"{named(3)}.tfj")
         expect((answer, len(lines), f"{named(3)}.tfj is passed over: {lost}" in lines[0]), ((200, state), 2, True), lines)
-        expect((sorted(journals(folder)), journals(folder / "old")), ([5], {3: past, 4: newest}), lost)
+        put_away = {3: past, 4: newest + changes} if changes else {3: past}
+        expect((sorted(journals(folder)), journals(folder / "old")), ([5 if changes else 4], put_away), lost)
+        expect(served(folder)[0], (200, state), lost)
 
 
 def check_what_is_passed_over_is_named():
@@ -129,7 +131,7 @@ def check_what_is_passed_over_is_named():
     (folder / "old").mkdir()
     (folder / "old" / f"{named(3)}.tfj").write_bytes(SHORT)
     refused(folder, "TwoOfName", "--accept-past", f"{named(3)}.tfj")
-    expect(run("serve", folder, "--accept-past", "x", "--first")[0], 2)
+    expect(run("serve", folder, "--accept-past", "x", "--first")[0], STATUSES["Arguments"])
 
 
 if __name__ == "__main__":

@@ -7,9 +7,9 @@ import sys
 import threading
 import time
 
-from check_versions import STATUSES, WHO, bytes_of, graph, refused, some_past, state
+from check_versions import WHO, bytes_of, graph, refused, some_past, state
 from checking import SECONDS, checks_in, expect, run_checks
-from folder_program import FOLDER_PROGRAM, Serving, run
+from folder_program import FOLDER_PROGRAM, STATUSES, Serving, run
 from folders import NEWEST, PUSH1, PUSH2, REBASED, SHORT, fresh, named
 from journal_reader import push_content, record_text
 from metrics import read_metrics
@@ -86,13 +86,20 @@ def check_the_age_of_the_newest_copy():
     expect(numbers(folder, "--copies", copies)["newest_copy_age_seconds"], 0, "of a time to come")
 
 
-def check_faults_of_copies_are_told_behind_the_numbers():
+def check_there_is_no_age_before_the_first_copy():
     folder = some_past()
-    for copies, fault in ((fresh(), "NoJournal"), (fresh() / "none", "NoFolder")):
-        status, output, errors = run("stats", folder, "--copies", copies)
-        expect((status, f"tfstatectl: {copies}: {fault}" in errors, len(errors.splitlines())), (STATUSES[fault], True, 1), errors)
-        found = short(output)
-        expect((found["changes_total"], "newest_copy_age_seconds" in found), (3, False), output)
+    for copies in (fresh(), fresh() / "none"):
+        found = numbers(folder, "--copies", copies)
+        expect((found["changes_total"], "newest_copy_age_seconds" in found), (3, False), found)
+
+
+def check_faults_of_copies_are_told_behind_the_numbers():
+    folder, copies = some_past(), fresh() / "file"
+    copies.write_bytes(NEWEST)
+    status, output, errors = run("stats", folder, "--copies", copies)
+    expect((status, f"tfstatectl: {copies}: NotFolder" in errors, len(errors.splitlines())), (STATUSES["NotFolder"], True, 1), errors)
+    found = short(output)
+    expect((found["changes_total"], "newest_copy_age_seconds" in found), (3, False), output)
 
 
 def check_what_is_whole_is_counted_before_a_fault():
@@ -108,13 +115,13 @@ def check_what_is_whole_is_counted_before_a_fault():
     refused("NoFolder", fresh() / "none", "stats")
     for words in ((), (some_past(), "--copies"), (some_past(), "a"), (some_past(), "--json")):
         status, output, errors = run("stats", *words)
-        expect((status, output, bool(errors)), (2, "", True), words)
+        expect((status, output, bool(errors)), (STATUSES["Arguments"], "", True), words)
 
 
 def check_closed_output_is_told():
     with open("/dev/full", "wb") as full:
         ran = subprocess.run([FOLDER_PROGRAM, "stats", some_past()], stdout=full, stderr=subprocess.PIPE, timeout=SECONDS, check=False)
-    expect((ran.returncode, b": Write" in ran.stderr), (1, True), ran.stderr)
+    expect((ran.returncode, b": Write" in ran.stderr), (STATUSES["Write"], True), ran.stderr)
 
 
 def check_numbers_beside_a_server_that_writes_and_starts_anew():

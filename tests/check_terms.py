@@ -15,7 +15,7 @@ import time
 
 from check_folder_faults import limit_files
 from checking import S1, STARTED, checks_in, expect, run_checks
-from folder_program import Serving, run
+from folder_program import STATUSES, Serving, run
 from folders import A, B, LOOPBACK, all_of, ask_over, at_once, fresh, journals, named
 from journal_reader import read_journal
 from serve_program import preloaded, reply_of
@@ -205,7 +205,7 @@ def check_wrong_bounds():
     words += [("--compact-entries", number) for number in ("0", "65001", "64K", "1G", "x")]
     for asked in (*words, ("--compact-bytes",), ("--compact-entries=",), ("--compact-bytes=0",)):
         status, output, errors = run("serve", folder, *asked)
-        expect((status, output, "error: " in errors), (2, "", True), f"{asked}: {errors}")
+        expect((status, output, "error: " in errors), (STATUSES["Arguments"], "", True), f"{asked}: {errors}")
     expect(all_of(folder), {f"{named(1)}.tfj": b"TFJ1\n"}, "nothing is changed")
 
 
@@ -255,7 +255,7 @@ def check_a_journal_that_fails_in_a_later_term_ends_the_server():
     text = pusher.text(9)[:-2] + b"x" * 2_000 + b'"}'
     expect(server.ask("POST", "/state/a", text), (500, b'{"error":"JournalFault"}'))
     status, errors = server.end()
-    expect((status, "JournalFault" in errors), (10, True), errors)
+    expect((status, "JournalFault" in errors), (STATUSES["JournalFault"], True), errors)
     reads = serving(folder, "--serve-reads", "--compact-entries", "2", preexec_fn=limit_files(2_000))
     expect(reads.ask("POST", "/state/a", text), (500, b'{"error":"JournalFault"}'))
     (folder / "compact").touch()

@@ -1,5 +1,6 @@
 """Gets the built program `tfstatectl` for the checks, and serves folders of journals with it."""
 import http.client
+import socket
 import subprocess
 from pathlib import Path
 
@@ -8,6 +9,15 @@ from checking import SECONDS, STARTED, expect
 from folders import LOOPBACK, ask_over, free_port
 
 FOLDER_PROGRAM = program("tfstatectl", "--version")
+# The exit status by the name of a fault, as deploy/README.md and docs/VERSIONS.md list them.
+STATUSES = {
+    **dict.fromkeys(("Locked", "CannotRead", "CannotWrite", "CannotBind", "SyncFault", "AcceptFault", "Write", "Changing"), 20),
+    **dict.fromkeys(("Arguments", "NotPast"), 21), "TornBase": 22, "Damaged": 23, "Unlawful": 24,
+    **dict.fromkeys(("NoJournal", "NotFirst", "Parted", "TooFar", "TwoOfName", "NotBeginning", "Served"), 25),
+    **dict.fromkeys(("Replaced", "OldAhead", "OtherIdentity", "BadIdentity"), 25), **dict.fromkeys(("NotAtLeast", "NoPosition"), 26),
+    **dict.fromkeys(("NoFolder", "NotFolder", "NotAllowed"), 27), **dict.fromkeys(("OutOfMemory", "SmallStack"), 28), "JournalFault": 29,
+    "NoName": 30, "NoState": 31, **dict.fromkeys(("BeforeOldest", "BehindNewest", "NotKept"), 32), "LineageDiffers": 33,
+    **dict.fromkeys(("SerialAtLimit", "TooLong", "Unplaced"), 34), **dict.fromkeys(("NoAddress", "TooManyAddresses", "UnknownAddress"), 35)}
 
 
 def run(*words, **how):
@@ -22,25 +32,43 @@ def ended(folder, *words, **how):
     return run("serve", folder, *listen, *words, **how)
 
 
-class Serving:
-    """The server on a folder, or a start that failed: then there is no line."""
+class LocalConnection(http.client.HTTPConnection):
+    """A connection over a unix socket."""
 
-    def __init__(self, folder, *words, port=None, workers="2", **how):
-        self.folder, self.port = folder, port or free_port()
-        words = [FOLDER_PROGRAM, "serve", str(folder), "--listen", f"{LOOPBACK}:{self.port}", "--workers", workers, *map(str, words)]
+    def __init__(self, path):
+        super().__init__("localhost", timeout=SECONDS)
+        self.path = str(path)
+
+    def connect(self):
+        self.sock = socket.socket(socket.AF_UNIX)
+        self.sock.settimeout(self.timeout)
+        self.sock.connect(self.path)
+
+
+class Serving:
+    """The server on a folder, or a start that failed: then there is no line. It listens at a port, or at a unix socket of this path."""
+
+    def __init__(self, folder, *words, port=None, path=None, workers="2", **how):
+        self.folder, self.path, self.port = folder, path, None if path else port or free_port()
+        self.place = f"unix:{path}" if path else f"{LOOPBACK}:{self.port}"
+        words = [FOLDER_PROGRAM, "serve", str(folder), "--listen", self.place, "--workers", workers, *map(str, words)]
         self.process = subprocess.Popen(words, stdin=subprocess.DEVNULL, stdout=subprocess.PIPE, stderr=subprocess.PIPE, **how)
         STARTED.append(self.process)
         self.line = self.process.stdout.readline()
 
     def listens(self):
         """Fails where it doesn't serve."""
-        if self.line != f"listening {LOOPBACK}:{self.port}\n".encode():
+        if self.line != f"listening {self.place}\n".encode():
             raise AssertionError(f"it ended: {self.end()}")
         return self
 
+    def connect(self):
+        """A connection, which its first request makes."""
+        return LocalConnection(self.path) if self.path else http.client.HTTPConnection(LOOPBACK, self.port, timeout=SECONDS)
+
     def ask(self, method, target, body=None):
         """The status and the body of the reply to one request, on a connection of its own."""
-        connection = http.client.HTTPConnection(LOOPBACK, self.port, timeout=SECONDS)
+        connection = self.connect()
         try:
             return ask_over(connection, method, target, body)
         finally:

@@ -1,5 +1,6 @@
 """Folders of journals for the checks, each of its own, and what servers on them are asked."""
 import concurrent.futures
+import hashlib
 import random
 import socket
 import tempfile
@@ -18,6 +19,7 @@ PUSH1, PUSH2, PUSH3 = (record_text(3, b"a", push_content(b"", text)) for text in
 LOCK = record_text(1, b"a", B)
 SHORT = b"TFJ2\n" + base_text(1, [(b"a", b"", S1)])
 NEWEST = SHORT + PUSH2 + LOCK
+VALUE = "00112233445566778899aabbccddeeff"
 REBASED = b"TFJ2\n" + base_text(3, [(b"a", B, S2)])
 
 
@@ -37,6 +39,19 @@ def named(number):
 def journals(folder):
     """What the journals of a folder hold, by their numbers."""
     return {int(path.stem[8:]): path.read_bytes() for path in folder.glob("*.tfj")}
+
+
+def identity_text(value=VALUE, **files):
+    """The text of a file `identity`: the folder's value, and a mark of each journal."""
+    marks = [f"{named(int(name[1:]))}.tfj {len(data)} {hashlib.md5(data).hexdigest()}\n" for name, data in files.items()]
+    return f"{value}\n{''.join(marks)}"
+
+
+def owned(value=VALUE, **files):
+    """A folder that no check has used, with journals in it, and an identity that has marks of them."""
+    folder = fresh(**files)
+    (folder / "identity").write_text(identity_text(value, **files))
+    return folder
 
 
 def goes_on_alone(folder, after=0):

@@ -1,23 +1,25 @@
-/* Preloaded into the program: of its calls that write or sync a file, two are interrupted by a signal before each that is made. */
+/* Preloaded into the program: of its calls that write a file, and of those that sync one, a signal interrupts first one and then two in a row
+   before each that is made. A body that makes a call twice after one interruption, or after two, does so here. */
 #define _GNU_SOURCE
 #include <dlfcn.h>
 #include <errno.h>
 #include <stdatomic.h>
 #include <unistd.h>
 
-static atomic_uint calls;
+static atomic_uint writes, syncs;
 
-static int interrupts(void) {
+static int interrupts(atomic_uint *calls) {
+    unsigned turn = atomic_fetch_add(calls, 1) % 5;
     errno = EINTR;
-    return atomic_fetch_add(&calls, 1) % 3 < 2;
+    return turn != 1 && turn != 4;
 }
 
 ssize_t write(int descriptor, const void *bytes, size_t count) {
     ssize_t (*next)(int, const void *, size_t) = dlsym(RTLD_NEXT, "write");
-    return interrupts() ? -1 : next(descriptor, bytes, count);
+    return interrupts(&writes) ? -1 : next(descriptor, bytes, count);
 }
 
 int fdatasync(int descriptor) {
     int (*next)(int) = dlsym(RTLD_NEXT, "fdatasync");
-    return interrupts() ? -1 : next(descriptor);
+    return interrupts(&syncs) ? -1 : next(descriptor);
 }

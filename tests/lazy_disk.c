@@ -1,6 +1,7 @@
 /* Preloaded into the program: a disk of its own. What is written to a journal goes into its file only where that is synced, so that a kill loses the rest.
    Each sync takes DELAY microseconds, and each write HOLD. The sync whose turn FAIL tells, from 1, fails, and loses what it was to keep. The file TRACE gets a letter and
-   the thread's number for: w, a write to a journal is done; s, a sync begins; d, a sync is done; f, a sync failed; r, a write to a socket begins. */
+   the thread's number for: w, a write to a journal is done; s, a sync begins; d, a sync is done; f, a sync of a journal failed; o, a sync of another
+   file failed; r, a write to a socket begins. */
 #define _GNU_SOURCE
 #include <dlfcn.h>
 #include <errno.h>
@@ -62,7 +63,8 @@ static int is_journal(int descriptor) {
     ssize_t length = readlink(link, path, sizeof path - 1);
     if (length < 0) return 0;
     path[length] = 0;
-    return strstr(path, ".tfj") != NULL;
+    const char *name = strrchr(path, '/');
+    return name && !strncmp(name, "/journal-", 9);
 }
 
 /* What is held of a file. */
@@ -111,9 +113,10 @@ static int sync_journal(int descriptor, int fails) {
 static int sync_by(const char *name, int descriptor) {
     int (*next)(int) = dlsym(RTLD_NEXT, name);
     int fails = atomic_fetch_add(&syncs, 1) + 1 == number_of("FAIL");
+    int is_held = is_journal(descriptor);
     tell('s');
-    int result = is_journal(descriptor) ? sync_journal(descriptor, fails) : next(descriptor);
-    tell(fails || result ? 'f' : 'd');
+    int result = is_held ? sync_journal(descriptor, fails) : next(descriptor);
+    tell(!fails && !result ? 'd' : is_held ? 'f' : 'o');
     if (fails) errno = EIO;
     return fails ? -1 : result;
 }

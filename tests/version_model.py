@@ -57,15 +57,23 @@ def row_of(position, kind, fields):
     return {**row, **(numbers_of(fields[1]) if kind == "push" else {}), "id": fields[0].decode() or None}
 
 
+def kept_from(position):
+    """The member of a row that says from which position on versions are kept, unless that is 0."""
+    return {"kept_from": position} if position else {}
+
+
 def history(files, name):
     """The rows of a name, and the fault behind them with its journal's number, or none."""
-    rows, is_there = [], False
+    rows, is_there, reached, least = [], False, 0, 0
     journals = opened(files)
     if not journals:
         raise Fault("NoJournal", None)
     for number, journal in journals:
         is_there = is_there or journal.has(name)
-        rows += [row_of(journal.base + place, kind, fields) for place, (kind, own, fields) in enumerate(journal.entries, 1) if own == name]
+        least = journal.base if reached < journal.base else least
+        reached = reached if journal.is_cut else journal.base + len(journal.entries)
+        rows += [{**row_of(journal.base + place, kind, fields), **kept_from(least)}
+                 for place, (kind, own, fields) in enumerate(journal.entries, 1) if own == name]
         if journal.fault:
             if not is_there:
                 raise Fault(journal.fault, number)
@@ -139,15 +147,15 @@ def restored(here, files, name, position):
     return old[: found.start(2)] + b"%d" % (serial + 1) + old[found.end(2) :]
 
 
-def listing(here):
-    """The rows of the names."""
-    journal, rows = newest(here), []
+def listing(here, whole):
+    """The rows of the names, over all journals."""
+    journal, rows, least = newest(here), [], Opened(whole[min(whole)]).base
     names = dict.fromkeys([row[0] for row in journal.rows] + [entry[1] for entry in journal.entries])
     for name in names:
         state, holder = journal.table.states.get(name), journal.table.holders.get(name)
         numbers = numbers_of(state[2]) if state else {"serial": None, "instances": None, "bytes": None}
         words = {"holder": holder[0], **words_of(holder[1])} if holder else {"holder": None, **{word: None for word in WORDS}}
-        rows.append({"name": name, **numbers, **words})
+        rows.append({"name": name, **numbers, **words, **kept_from(least)})
     return rows
 
 
