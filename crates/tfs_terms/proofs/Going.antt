@@ -1,82 +1,224 @@
 -- Terms of service, one after another.
-use Rattle.std.proofs.Common.{◌≡◌, ◌+◌, ◌<◌, ℕ, suc, List, length, get_or, map, sum_by, All, [], ◌∷◌, ◌++◌, Option, refl, sym, ◌∙◌, ap, subst, arith}
-use Rattle.std.proofs.lemmas.List.Elements.{All-nil, All-cons}
-use Rattle.std.proofs.lemmas.List.Sums.{sum_by-append}
-use Rattle.tfs_records.specs.Journal.{Journal}
+use mathlib.Core.List.{IsPrefix}
+use Rattle.std.proofs.Common.{◌≡◌, ◌+◌, ◌≤◌, ◌<◌, ℕ, suc, length, length-append, get_or, map, List, sum_by, [], ◌∷◌, ◌++◌, append-nil, Option, refl, sym, ◌∙◌, ap, subst, inl, inr, arith}
+use Rattle.std.proofs.lemmas.Grind.{flat_map-append}
+use Rattle.std.proofs.lemmas.List.Sums.{sum_by-cons, sum_by_push}
+use Rattle.tfs_records.specs.Journal.{Journal, position_of}
+use Rattle.tfs_calls.specs.Reply.{ReplyValue, done, state, impact, refused}
 use Rattle.tfs_published.specs.Beginning.{BeginsWith}
 use Rattle.tfs_published.proofs.Beginnings.{begins_with_itself, begins_with_earlier}
 use Rattle.tfs_serve.specs.Gate.{Event}
-use Rattle.tfs_serve.specs.Working.{Answer}
 use Rattle.tfs_serve.specs.Serving.{ServedView, IsServed, IsRun, accepted_in, answers_on}
-use Rattle.tfs_terms.specs.Terms.{AnswersWithin, IsTerm, LeadsTo, GoesBy, GoesOn, EndsOn}
+use Rattle.tfs_serve.specs.Session.{accepted_by}
+use Rattle.tfs_serve.specs.Told.{AreToldOnce, position_told, positions_told, times}
+use Rattle.tfs_serve.specs.Working.{Answer}
+use Rattle.tfs_terms.specs.Terms.{Term, IsTerm, IsTermOf, LeadsTo, GoesBy, GoesOn, EndsOn, HoldsAll, HoldsJust, accepted_of, accepted_by_all, positions_on, positions_of_all}
+use Rattle.tfs_terms.proofs.Once.{told_then}
+
+-- A reply has a position if it reports a change as accepted.
+one_told : (r : ReplyValue) → length (position_told r) ≡ accepted_by r
+one_told (done position) = refl
+one_told (state d) = refl
+one_told (impact d chosen position) = refl
+one_told (refused refusal) = refl
+
+-- Answers have as many positions as they report changes as accepted.
+some_told : (answers : List Answer) → length (positions_told answers) ≡ accepted_in answers
+some_told [] = refl
+some_told (a ∷ more) =
+    let one = one_told a.reply in
+    let rest = some_told more in
+    let lengths = length-append (position_told a.reply) (positions_told more) in
+    let sums = sum_by-cons (λ (b : Answer). accepted_by b.reply) a more in omega (arith, one, rest, lengths, sums)
+
+-- So have those of all workers.
+all_told : (opening last : Journal) (workers : List (List (List Answer))) (told : List (Option (List Event))) (served : List ServedView)
+    → length workers ≡ length told → length served ≡ length told
+    → ((i : ℕ) (t : Option (List Event)) (s : ServedView) → i < length told
+    → IsServed opening last (get_or workers i []) (get_or told i t) (get_or served i s))
+    → length (positions_on workers) ≡ accepted_of served
+all_told opening last [] [] [] few same each = refl
+all_told opening last [] (t ∷ told) served few same each = absurd (omega (arith, few))
+all_told opening last (w ∷ workers) [] served few same each = absurd (omega (arith, few))
+all_told opening last [] [] (s ∷ served) few same each = absurd (omega (arith, same))
+all_told opening last (w ∷ workers) (t ∷ told) [] few same each = absurd (omega (arith, same))
+all_told opening last (w ∷ workers) (t ∷ told) (s ∷ served) few same each =
+    let one = (each 0 t s (omega arith)).accepted_is in
+    let more = all_told opening last workers told served (omega (arith, few)) (omega (arith, same))
+    (λ i u v inside. each (suc i) u v (omega (arith, inside))) in
+    let here = some_told (answers_on w) in
+    let lengths = length-append (positions_told (answers_on w)) (positions_on workers) in
+    let sums = sum_by-cons (λ (v : ServedView). v.accepted) s served in omega (arith, one, more, here, lengths, sums)
+
+-- A term has as many positions as its workers report changes as accepted.
+term_told : (opening : Journal) (t : Term) → IsTerm opening t → length t.positions ≡ accepted_of t.served
+term_told opening t term =
+    let run = term.run in
+    ap length term.positions ∙ all_told opening t.last run.connections term.told t.served run.each.0 run.each.1 run.workers
+
+-- It has a position more for each of them.
+term_grows : (opening : Journal) (t : Term) → IsTerm opening t → position_of t.last ≡ position_of opening + accepted_of t.served
+term_grows opening t term =
+    let base = ap (λ b. b.position) term.run.begins.base in
+    let grows = term.run.grows in omega (arith, base, grows)
+
+-- Each is reported once.
+term_once : (opening : Journal) (t : Term) → IsTerm opening t → AreToldOnce opening t.last t.positions
+term_once opening t term p above within = ap (times p) term.positions ∙ term.run.once p above within
+
+-- What a last journal leads to has its position.
+leads_stays : (last next : Journal) → LeadsTo last next → position_of next ≡ position_of last
+leads_stays last next (inl rebased) = rebased.position
+leads_stays last next (inr same) = ap position_of same
+
+-- So do terms one after another.
+goes_by_grows : (first now : Journal) (terms : List Term) → GoesBy first terms now → position_of now ≡ position_of first + accepted_by_all terms
+goes_by_grows first now [] goes = let same = ap position_of goes in omega (arith, same)
+goes_by_grows first now (t ∷ terms) goes =
+    let grows = term_grows first t goes.1 in
+    let stays = leads_stays t.last goes.0 goes.2 in
+    let more = goes_by_grows goes.0 now terms goes.3 in
+    let all = sum_by-cons (λ (u : Term). accepted_of u.served) t terms in omega (arith, grows, stays, more, all)
+
+goes_by_told : (first now : Journal) (terms : List Term) → GoesBy first terms now → length (positions_of_all terms) ≡ accepted_by_all terms
+goes_by_told first now [] goes = refl
+goes_by_told first now (t ∷ terms) goes =
+    let one = term_told first t goes.1 in
+    let more = goes_by_told goes.0 now terms goes.3 in
+    let lengths = length-append t.positions (positions_of_all terms) in
+    let all = sum_by-cons (λ (u : Term). accepted_of u.served) t terms in omega (arith, one, more, lengths, all)
+
+pub goes_on_grows : (first now : Journal) (accepted : ℕ) → GoesOn first now accepted → position_of now ≡ position_of first + accepted
+goes_on_grows first now accepted goes =
+    let counts = goes.counts in
+    let grows = goes_by_grows first now goes.terms goes.goes in omega (arith, counts, grows)
 
 -- One more term.
-goes_by_then : (first opening last next : Journal) (lasts : List Journal) → GoesBy first lasts opening → IsTerm opening last
-    → LeadsTo last next → GoesBy first (lasts ++ last ∷ []) next
-goes_by_then first opening last next [] goes term leads =
-    (next, subst (λ (j : Journal). IsTerm j last) goes term, leads, refl)
-goes_by_then first opening last next (l ∷ lasts) goes term leads =
-    (goes.0, goes.1, goes.2, goes_by_then goes.0 opening last next lasts goes.3 term leads)
+goes_by_then : (first opening next : Journal) (t : Term) (terms : List Term) → GoesBy first terms opening → IsTerm opening t → LeadsTo t.last next
+    → GoesBy first (terms ++ t ∷ []) next
+goes_by_then first opening next t [] goes term leads =
+    (next, subst (λ (j : Journal). IsTerm j t) goes term, leads, refl)
+goes_by_then first opening next t (u ∷ terms) goes term leads =
+    (goes.0, goes.1, goes.2, goes_by_then goes.0 opening next t terms goes.3 term leads)
+
+positions_then : (t : Term) (terms : List Term) → positions_of_all (terms ++ t ∷ []) ≡ positions_of_all terms ++ t.positions
+positions_then t terms =
+    flat_map-append (λ (u : Term). u.positions) terms (t ∷ []) ∙ ap (λ (l : List ℕ). positions_of_all terms ++ l) (append-nil t.positions)
 
 -- No term yet.
-pub goes_nowhere : (j : Journal) → GoesOn j j
-goes_nowhere j = ([], refl)
+pub goes_not_yet : (first now : Journal) → now ≡ first → GoesOn first now 0
+goes_not_yet first now same = record {
+  terms = [];
+  goes = same;
+  counts = refl;
+  once = λ p above within. let stays = ap position_of same in absurd (omega (arith, above, within, stays));
+}
+
+pub goes_nowhere : (j : Journal) → GoesOn j j 0
+goes_nowhere j = goes_not_yet j j refl
 
 -- A term after others.
-pub goes_on_then : (first opening last next : Journal) → GoesOn first opening → IsTerm opening last → LeadsTo last next → GoesOn first next
-goes_on_then first opening last next goes term leads =
-    (goes.0 ++ last ∷ [], goes_by_then first opening last next goes.0 goes.1 term leads)
+pub goes_on_then : (first opening next : Journal) (accepted : ℕ) (t : Term) → GoesOn first opening accepted → IsTerm opening t → LeadsTo t.last next
+    → GoesOn first next (accepted + accepted_of t.served)
+goes_on_then first opening next accepted t goes term leads =
+    let counts = goes.counts in
+    let more = sum_by_push (λ (u : Term). accepted_of u.served) goes.terms t in
+    let before = goes_by_grows first opening goes.terms goes.goes in
+    let told = goes_by_told first opening goes.terms goes.goes in
+    let grows = term_grows opening t term in
+    let here = term_told opening t term in
+    let stays = leads_stays t.last next leads in record {
+      terms = goes.terms ++ t ∷ [];
+      goes = goes_by_then first opening next t goes.terms goes.goes term leads;
+      counts = omega (arith, counts, more);
+      once = λ p above within. ap (times p) (positions_then t goes.terms)
+          ∙ told_then (position_of first) (position_of opening) (position_of t.last) (positions_of_all goes.terms) t.positions
+          (omega (arith, before, told)) (omega (arith, grows, here)) goes.once (term_once opening t term) p above (omega (arith, within, stays));
+    }
 
 -- A journal begins with itself.
 pub begins_itself : (j : Journal) → BeginsWith j j
 begins_itself = begins_with_itself
 
 -- What begins the opening journal of a term begins its last one.
-pub term_begins : (placed opening last : Journal) → IsTerm opening last → BeginsWith opening placed → BeginsWith last placed
-term_begins placed opening last term begins = begins_with_earlier last opening placed term.begins begins
+pub term_begins : (placed opening last : Journal) (served : List ServedView) → IsTermOf opening last served → BeginsWith opening placed
+    → BeginsWith last placed
+term_begins placed opening last served term begins = begins_with_earlier last opening placed term.1.run.begins begins
 
 -- A journal that is the last one begins with the one in place, if that is the same too.
 pub same_begins : (last end before after : Journal) → end ≡ last → after ≡ before → BeginsWith last before → BeginsWith end after
 same_begins last end before after same placed begins =
     subst (λ (j : Journal). BeginsWith j after) (sym same) (subst (λ (p : Journal). BeginsWith last p) (sym placed) begins)
 
--- The opening journal of a term itself is an end.
-pub ends_at : (first opening : Journal) → GoesOn first opening → EndsOn first opening
-ends_at first opening goes = (opening, goes, begins_with_itself opening)
+-- The opening journal of a term is an end.
+pub ends_at : (first opening end : Journal) (accepted before after : ℕ) → GoesOn first opening accepted → BeginsWith end opening
+    → after ≡ before + accepted → EndsOn first end before after
+ends_at first opening end accepted before after goes begins counts = record {
+  opening = opening;
+  accepted = accepted;
+  goes = goes;
+  begins = begins;
+  counts = counts;
+}
 
--- The answers of each worker.
-transcripts : (opening last : Journal) (workers : List (List (List Answer))) (told : List (Option (List Event))) (served : List ServedView)
-    → length workers ≡ length told → length served ≡ length told
-    → ((i : ℕ) (t : Option (List Event)) (s : ServedView) → i < length told
-    → IsServed opening last (get_or workers i []) (get_or told i t) (get_or served i s))
-    → All (AnswersWithin opening last) (map answers_on workers)
-    × (sum_by (λ (s : ServedView). s.accepted) served ≡ sum_by accepted_in (map answers_on workers))
-transcripts opening last [] [] [] few same each = (All-nil (AnswersWithin opening last), refl)
-transcripts opening last [] (t ∷ told) served few same each = absurd (omega (arith, few))
-transcripts opening last (w ∷ workers) [] served few same each = absurd (omega (arith, few))
-transcripts opening last [] [] (s ∷ served) few same each = absurd (omega (arith, same))
-transcripts opening last (w ∷ workers) (t ∷ told) [] few same each = absurd (omega (arith, same))
-transcripts opening last (w ∷ workers) (t ∷ told) (s ∷ served) few same each =
-    let one = each 0 t s (omega arith) in
-    let more = transcripts opening last workers told served (omega (arith, few)) (omega (arith, same))
-    (λ i u v inside. each (suc i) u v (omega (arith, inside))) in
-    let left = sum_by-append (λ (v : ServedView). v.accepted) (s ∷ []) served in
-    let right = sum_by-append accepted_in (answers_on w ∷ []) (map answers_on workers) in
-    let first = one.accepted_is in
-    let others = more.1 in (
-      All-cons (AnswersWithin opening last) (answers_on w) (map answers_on workers) (one.view, one.replies) more.0,
-      omega (arith, left, right, first, others),
-    )
+-- A beginning is no longer than the whole.
+prefix_is_shorter : {A : Type 0} (xs ys : List A) → IsPrefix xs ys → length xs ≤ length ys
+prefix_is_shorter [] ys begins = omega arith
+prefix_is_shorter (x ∷ xs) [] begins = absurd (cc (begins.1))
+prefix_is_shorter (x ∷ xs) (y ∷ ys) begins =
+    let rest = prefix_is_shorter xs ys (begins.0, cc (begins.1)) in omega (arith, rest)
+
+-- What a journal begins with isn't beyond it.
+begins_below : (j earlier : Journal) → BeginsWith j earlier → position_of earlier ≤ position_of j
+begins_below j earlier begins =
+    let base = ap (λ b. b.position) begins.base in
+    let shorter = prefix_is_shorter earlier.entries j.entries begins.entries in omega (arith, base, shorter)
+
+-- The last journal has all changes that were reported as accepted, and no others if it is the opening one of the next term.
+pub holds_all : (first end : Journal) (before after : ℕ) → EndsOn first end before after → HoldsAll first end before after
+holds_all first end before after ends =
+    let counts = ends.counts in
+    let grows = goes_on_grows first ends.opening ends.accepted ends.goes in
+    let below = begins_below end ends.opening ends.begins in omega (arith, counts, grows, below)
+
+pub holds_just : (first opening end : Journal) (accepted before after : ℕ) → GoesOn first opening accepted → end ≡ opening
+    → after ≡ before + accepted → HoldsJust first end before after
+holds_just first opening end accepted before after goes same counts =
+    let grows = goes_on_grows first opening accepted goes in
+    let stays = ap position_of same in omega (arith, counts, grows, stays)
+
+-- What is left of workers tells how many changes each reported as accepted.
+pub accepted_mapped : {X : Type 0} (view : X → ServedView) (xs : List X) → accepted_of (map view xs) ≡ sum_by (λ (x : X). (view x).accepted) xs
+accepted_mapped view [] = refl
+accepted_mapped {X} view (x ∷ xs) =
+    let one = sum_by-cons (λ (s : ServedView). s.accepted) (view x) (map view xs) in
+    let same = sum_by-cons (λ (y : X). (view y).accepted) x xs in
+    let more = accepted_mapped view xs in omega (arith, one, same, more)
+
+-- One more term after a count.
+pub counts_then : (before accepted more added now mid after : ℕ) → now ≡ before + accepted → mid ≡ now + added → more ≡ added → after ≡ mid
+    → after ≡ before + (accepted + more)
+counts_then before accepted more added now mid after counts counted same stays = omega (arith, counts, counted, same, stays)
+
+-- After one more term, which led to a journal.
+pub grows_then : (first opening last next : Journal) (served : List ServedView) (accepted before added now mid after : ℕ)
+    → GoesOn first opening accepted → IsTermOf opening last served → LeadsTo last next → now ≡ before + accepted → mid ≡ now + added
+    → accepted_of served ≡ added → after ≡ mid
+    → (all : ℕ) × GoesOn first next all × (after ≡ before + all)
+grows_then first opening last next served accepted before added now mid after goes term leads counts counted same stays = (
+  accepted + accepted_of served,
+  goes_on_then first opening next accepted _ goes term.1 leads,
+  counts_then before accepted (accepted_of served) added now mid after counts counted same stays,
+)
+
+-- Terms end with a journal to which they led.
+pub ends_now : (first now : Journal) (before after : ℕ) → ((all : ℕ) × GoesOn first now all × (after ≡ before + all)) → EndsOn first now before after
+ends_now first now before after grown = ends_at first now now grown.0 before after grown.1 (begins_with_itself now) grown.2
+
+pub holds_now : (first now : Journal) (before after : ℕ) → ((all : ℕ) × GoesOn first now all × (after ≡ before + all)) → HoldsJust first now before after
+holds_now first now before after grown = holds_just first now now grown.0 before after grown.1 refl grown.2
 
 -- A run is a term.
 pub term_of : (opening last : Journal) (told : List (Option (List Event))) (served : List ServedView) → IsRun opening last told served
-    → IsTerm opening last
-term_of opening last told served run =
-    let parts = transcripts opening last run.connections told served run.each.0 run.each.1 run.workers in
-    record {
-      lawful = run.lawful;
-      begins = run.begins;
-      workers = map answers_on run.connections;
-      replies = parts.0;
-      grows = run.grows ∙ ap (λ (n : ℕ). length opening.entries + n) parts.1;
-    }
+    → IsTermOf opening last served
+term_of opening last told served run = (positions_on run.connections, record { told = told; run = run; positions = refl })

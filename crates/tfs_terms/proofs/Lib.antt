@@ -1,2 +1,4 @@
 pub mod Going
 pub mod Captures
+pub mod Once
+pub mod Walks

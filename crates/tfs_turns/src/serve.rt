@@ -1,7 +1,7 @@
 //! A folder that is served in terms.
 
 ghost use Rattle.std.specs.Prelude.{◌≤◌};
-ghost use Rattle.tfs_terms.specs.Terms.{EndsOn};
+ghost use Rattle.tfs_terms.specs.Terms.{EndsOn, HoldsAll};
 
 use crate::fault::end_of;
 use crate::news::News;
@@ -17,7 +17,7 @@ use tfs_files::{
 };
 use tfs_serve::{AcceptFault, AnyListener};
 use tfs_table::Table;
-use tfs_terms::serve_terms;
+use tfs_terms::{Tally, serve_terms};
 
 /// How much the journal of a term may grow, in bytes and in entries, before the server goes on in a shorter one.
 #[derive(Clone, Copy)]
@@ -60,6 +60,8 @@ pub struct Left {
     pub table: Table<JournalSink>,
     pub fault: Fault,
     pub accepting: Option<AcceptFault>,
+    /// How many changes workers reported as accepted, by which only proofs count.
+    pub reported: Tally,
 }
 
 /// Serves a folder in terms, until it ends by a fault.
@@ -70,7 +72,8 @@ pub fn serve_folder<R: AllocGlobal + Threads + Wait + Clock + Sync>(
     plan: &Plan<'_>,
     begun: Begun,
 ) -> Left
-    ensures ends { EndsOn begun.table.journal result.table.journal }
+    ensures ends { EndsOn begun.table.journal result.table.journal 0 result.reported.count }
+    ensures holds { HoldsAll begun.table.journal result.table.journal 0 result.reported.count }
 {
     let Begun {
         listener,
@@ -82,6 +85,7 @@ pub fn serve_folder<R: AllocGlobal + Threads + Wait + Clock + Sync>(
             table,
             fault: Fault::CannotRead,
             accepting: None,
+            reported: Tally::new(),
         };
     };
     let least = Mutex::new(least);
@@ -97,7 +101,8 @@ pub fn serve_folder<R: AllocGlobal + Threads + Wait + Clock + Sync>(
         listener: &listener,
         news: Cell::new(News::First),
         placed: Snapshot::of(&table),
-        accepting: Cell::new(None),
+        accepting: None,
+        reported: Tally::new(),
     };
     let (table, finish) = serve_terms(rt, rt.alloc(), table, &mut turning);
     let fault = if lock.is_lost() {
@@ -107,11 +112,16 @@ pub fn serve_folder<R: AllocGlobal + Threads + Wait + Clock + Sync>(
     } else {
         end_of(finish, table.stopped())
     };
-    let accepting = turning.accepting.get();
+    let Turning {
+        accepting,
+        reported,
+        ..
+    } = turning;
     Left {
         table,
         fault,
         accepting,
+        reported,
     }
 }
 

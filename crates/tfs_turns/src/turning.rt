@@ -19,7 +19,7 @@ use tfs_durable::{Durable, FileDevice};
 use tfs_files::{JournalSink, PositionFile, ServedJournal};
 use tfs_serve::{AcceptFault, AnyListener, AnyStream, Served, first_fault};
 use tfs_table::Table;
-use tfs_terms::{Terms, Unturned};
+use tfs_terms::{Tally, Terms, Unturned};
 
 /// The terms of a folder: what they share, what is to be told once the next one begins, and the journal that is in place.
 #[derive(Drop)]
@@ -33,7 +33,8 @@ pub(crate) struct Turning<'t, R: AllocGlobal + Wait> {
     pub(crate) listener: &'t AnyListener,
     pub(crate) news: Cell<News>,
     pub(crate) placed: Snapshot<Table<JournalSink>>,
-    pub(crate) accepting: Cell<Option<AcceptFault>>,
+    pub(crate) accepting: Option<AcceptFault>,
+    pub(crate) reported: Tally,
 }
 
 impl<'t, R: AllocGlobal + Wait> Turning<'t, R> {
@@ -52,7 +53,7 @@ impl<'t, R: AllocGlobal + Wait> Turning<'t, R> {
 }
 
 impl<'t, R: AllocGlobal + Wait + Sync> Terms for Turning<'t, R> {
-    ghost use Rattle.std.specs.Prelude.{◌≡◌, ◌≤◌, [], length, IfOk, OnOk, OnErr, IfSome};
+    ghost use Rattle.std.specs.Prelude.{◌≡◌, ◌≤◌, ◌+◌, [], length, sum_by, IfOk, OnOk, OnErr, IfSome};
 
     type Gate = Watching<'t, R>;
 
@@ -65,6 +66,8 @@ impl<'t, R: AllocGlobal + Wait + Sync> Terms for Turning<'t, R> {
     type Fault = TurnFault;
 
     ghost placed = { λ t. t.placed.value.journal };
+
+    ghost reported = { λ t. t.reported.count };
 
     fn gates(&self, table: &Table<JournalSink>) -> Result<Vec<Watching<'t, R>>, TurnFault> {
         match gates_of(self, table.sink().durable()) {
@@ -97,8 +100,9 @@ impl<'t, R: AllocGlobal + Wait + Sync> Terms for Turning<'t, R> {
         Some(self.watch.muted())
     }
 
-    fn goes_on(&self, last: &Table<JournalSink>, served: &[Served<Watching<'t, R>>]) -> bool {
-        self.accepting.set(first_fault(served));
+    fn goes_on(&mut self, last: &Table<JournalSink>, served: &[Served<Watching<'t, R>>]) -> bool {
+        self.accepting = first_fault(served);
+        self.reported = self.reported.with(served);
         self.watch.is_ended()
             && !self.watch.is_muted()
             && (self.plan.serves_reads || !last.stopped())
