@@ -1,15 +1,18 @@
 -- Laws of what a decoder knows of the bytes that it was fed with.
-use Rattle.std.proofs.Common.{◌≡◌, ◌≤◌, ◌<◌, ◌+◌, ◌-◌, ℕ, List, [], ◌++◌, length, take, drop, append-nil, Result, Ok, Err, IfOk, OnErr, sym, ◌∙◌, ap, subst, arith}
+use Rattle.std.proofs.Common.{◌≡◌, ◌≤◌, ◌<◌, ◌+◌, ◌-◌, ℕ, List, [], ◌++◌, length, take, drop, append-nil, Option, Some, None, Result, Ok, Err, IfOk, OnErr, sym, ◌∙◌, ap, subst, arith}
 use Rattle.std.proofs.Common.{append_assoc, length-append, length-drop, take-append-drop, vec_capacity, if◌then◌else◌}
 use Rattle.std.specs.Result.{is_ok}
+use Rattle.std.specs.declared.alloc.AllocError.{AllocError}
 use Rattle.std.proofs.lemmas.List.{length-take-le}
 use Rattle.httparse.specs.Grammar.{RequestHead, print_blank}
 use Rattle.std.proofs.Math.Seq.{drop-append_seam}
-use Rattle.tfs_framing.specs.Decoder.{Comes, DecoderValue, Gives, IsApart, room_told}
+use Rattle.tfs_calls.specs.declared.refusal.Refusal.{Refusal}
+use Rattle.tfs_framing.specs.Decoder.{Comes, IsApart, IsOver, IsReason, last_result}
 use Rattle.tfs_framing.specs.Framing.{BeginsWith, IsSizedHead, IsUnfinished, ReadsHead}
 use Rattle.tfs_framing.specs.Request.{RequestValue, request_of}
 use Rattle.tfs_framing.specs.declared.framing.SizedHead.{SizedHead}
 use Rattle.tfs_framing.specs.declared.lines.BodyLength.TheVariants.{Sized}
+use Rattle.tfs_framing.specs.declared.over.Over.{Over}
 use Rattle.tfs_framing.specs.declared.state.SizedBody.{SizedBody}
 use Rattle.tfs_framing.specs.declared.state.State.{State}
 use Rattle.tfs_framing.specs.declared.framing.Received.{Received}
@@ -27,13 +30,15 @@ pub comes_told : (bytes unused : List ℕ) (spare : ℕ) (state : State) (receiv
     → BeginsWith bytes r n → unused ≡ drop n bytes → Comes bytes unused spare state received
 comes_told bytes unused spare state received r n is begins left = subst (Comes bytes unused spare state) (sym is) (n, begins, left)
 
--- Where no room is told, those that are left come first.
-pub begins_anew : {E : Type 0} (r : Result Received E) (bytes unused : List ℕ) (spare : ℕ) (state : State) → ¬ (0 < room_told r)
-    → IfOk r (Comes bytes unused spare state) → (v : DecoderValue) → v.bytes ≡ unused → IfOk r (Gives bytes v)
-begins_anew (Ok (Received.More room)) bytes unused spare state none c v is = absurd (none c.3)
-begins_anew (Ok (Received.Message r)) bytes unused spare state none c v is = (c.0, c.1, is ∙ c.2)
-begins_anew (Ok (Received.Refused refusal)) bytes unused spare state none c v is = c
-begins_anew (Err fault) bytes unused spare state none c v is = tt
+-- A decoder that is over returns what its bytes have.
+pub comes_of_over : (bytes unused : List ℕ) (spare : ℕ) (state : State) (o : Over) (r : Result Received AllocError) → IsOver bytes o
+    → r ≡ last_result o.reason → IfOk r (Comes bytes unused spare state)
+comes_of_over bytes unused spare state o r over is =
+    subst (λ (x : Result Received AllocError). IfOk x (Comes bytes unused spare state)) (sym is) (by o.reason over.reason)
+  where
+    by : (refusal : Option Refusal) → IsReason bytes refusal → IfOk (last_result refusal) (Comes bytes unused spare state)
+    by (Some refusal) has = has
+    by None has = tt
 
 -- What is kept apart is a message, where it is whole.
 pub apart_whole : (bytes unused : List ℕ) (s : SizedBody) → IsApart bytes s unused → length s.body.items ≡ s.head.size

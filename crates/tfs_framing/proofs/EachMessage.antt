@@ -106,7 +106,7 @@ with_head bytes skipped head rest has = elim (cases_lt 66 (line_feeds head)) [
       Got (request_of h []) _,
       begins_with_message bytes skipped head rest [] [] rest h Absent has (record { lines = few; is_head_of = is; body = e }) refl (refl, refl),
     )
-    by_length h (Err refusal) few is e = refused refusal (length_refused h refusal e head (few, h, is, e))
+    by_length h (Err refusal) few is e = refused refusal ((length_refused h refusal e).1 head (few, h, is, e))
 
 -- Each list of bytes begins with something, or is unfinished.
 pub each_framed : (bytes : List ℕ) → (t : Take) × Frames bytes t

@@ -64,13 +64,13 @@ spells_once (Sized n) coded body after other also last s t e =
 spells_once Chunked coded body after other also last s t e = chunks_once coded body after other also last s t e
 
 -- How a head is refused, by its three reasons.
-abbrev Reasons : List ℕ → Refusal → Type 0
+abbrev pub Reasons : List ℕ → Refusal → Type 0
 Reasons head refusal = ((66 < line_feeds head) × (refusal ≡ HeadTooLarge))
     ⊎ (((line_feeds head ≤ 66) × ((h : RequestHead) → ¬ (IsHeadOf head h)) × (refusal ≡ BadHead))
     ⊎ ((line_feeds head ≤ 66) × (h : RequestHead) × IsHeadOf head h × (body_length h ≡ Err refusal)))
 
 -- A refused head is refused for one of them.
-reasons : (head : List ℕ) (refusal : Refusal) → IsHeadRefused head refusal → Reasons head refusal
+pub reasons : (head : List ℕ) (refusal : Refusal) → IsHeadRefused head refusal → Reasons head refusal
 reasons head HeadTooLarge p = inl (p, refl)
 reasons head BadHead p = inr (inl (p.0, p.1, refl))
 reasons head _ p = inr (inr p)

@@ -1,5 +1,5 @@
 -- Laws of messages: how long they and their bodies are, and that bytes begin with one alone.
-use Rattle.std.proofs.Common.{◌≡◌, ◌≤◌, ◌<◌, ◌+◌, ℕ, List, [], ◌∷◌, ◌++◌, length, drop, Bool, true, false, ◌&&◌, nat_le, nat_lt, cond, ◌==◌}
+use Rattle.std.proofs.Common.{◌≡◌, ◌≢◌, ◌≤◌, ◌<◌, ◌+◌, ℕ, List, [], ◌∷◌, ◌++◌, length, drop, Bool, true, false, ◌&&◌, nat_le, nat_lt, cond, ◌==◌}
 use Rattle.std.proofs.Common.{Result, Ok, Err, refl, sym, ◌∙◌, ap, subst, arith, inl, inr, length-append, codes}
 use Rattle.std.specs.List.{list_all}
 use Rattle.std.specs.Char.{is_ascii_digit}
@@ -10,15 +10,17 @@ use Rattle.std.proofs.lemmas.Bool.{leb-true}
 use Rattle.httparse.specs.Grammar.{print_blank}
 use Rattle.httparse.specs.Grammar.{RequestHead}
 use Rattle.tfs_calls.specs.declared.refusal.Refusal.{Refusal}
-use Rattle.tfs_calls.specs.declared.refusal.Refusal.TheVariants.{NoHost, BadLength, BodyTooLarge, TransferCoding}
+use Rattle.tfs_calls.specs.declared.refusal.Refusal.TheVariants.{HeadTooLarge, BadHead, NoHost, BadLength, TransferCoding, BodyTooLarge, BadChunk}
 use Rattle.tfs_framing.specs.Request.{RequestValue}
 use Rattle.tfs_framing.specs.Head.{HasNoHead, IsHeadOf, line_feeds}
 use Rattle.tfs_framing.specs.Fields.{fields_of, lower, values_named}
-use Rattle.tfs_framing.specs.Body.{length_of_text, length_told, names_host, body_length, SpellsBody}
+use Rattle.tfs_framing.specs.Body.{length_of_text, length_told, names_host, body_length, SpellsBody, refusal_of}
 use Rattle.tfs_framing.specs.Framing.{IsHeadRefused, ReadsMessage, BeginsWith, IsUnfinished, framing_refusal}
+use Rattle.tfs_framing.specs.declared.chunks.Flaw.{Flaw}
+use Rattle.tfs_framing.specs.declared.chunks.Flaw.TheVariants.{TooLarge, Unreadable}
 use Rattle.tfs_framing.specs.declared.lines.BodyLength.{BodyLength}
 use Rattle.tfs_framing.specs.declared.lines.BodyLength.TheVariants.{Absent, Sized, Chunked}
-use Rattle.tfs_framing.proofs.FramingLemmas.{message_once}
+use Rattle.tfs_framing.proofs.FramingLemmas.{message_once, Reasons, reasons}
 use Rattle.tfs_framing.proofs.HeadLemmas.{head_size}
 
 -- A body of this length has at most 16 MiB.
@@ -27,11 +29,22 @@ Fits Absent = Unit {0}
 Fits (Sized size) = size ≤ 16777216
 Fits Chunked = Unit {0}
 
+-- A refusal of a message is one of seven.
+abbrev pub IsOfMessage : Refusal → Type 0
+IsOfMessage HeadTooLarge = Unit {0}
+IsOfMessage BadHead = Unit {0}
+IsOfMessage NoHost = Unit {0}
+IsOfMessage BadLength = Unit {0}
+IsOfMessage TransferCoding = Unit {0}
+IsOfMessage BodyTooLarge = Unit {0}
+IsOfMessage BadChunk = Unit {0}
+IsOfMessage refusal = ⊥
+
 -- What is told of a length: that it fits, or a refusal of a head whose fields have it.
 abbrev IsTold : Result BodyLength Refusal → Type 0
 IsTold (Ok n) = Fits n
-IsTold (Err refusal) = (head : List ℕ) → (line_feeds head ≤ 66) × (h : RequestHead) × IsHeadOf head h × (body_length h ≡ Err refusal)
-    → IsHeadRefused head refusal
+IsTold (Err refusal) = IsOfMessage refusal × ((head : List ℕ)
+    → (line_feeds head ≤ 66) × (h : RequestHead) × IsHeadOf head h × (body_length h ≡ Err refusal) → IsHeadRefused head refusal)
 
 -- It is told of the length that a text gives.
 text_told : (text : List ℕ) → IsTold (length_of_text text)
@@ -39,12 +52,12 @@ text_told text = by_digits (nat_lt 0 (length text) && list_all is_ascii_digit te
   where
     by_size : (b : Bool) → nat_le (digits_value 10 text) 16777216 ≡ b → IsTold (cond b (Ok (Sized (digits_value 10 text))) (Err BodyTooLarge))
     by_size true t = leb-true (digits_value 10 text) 16777216 t
-    by_size false t = λ head p. p
+    by_size false t = (tt, λ head p. p)
 
     by_digits : (b : Bool)
         → IsTold (cond b (cond (nat_le (digits_value 10 text) 16777216) (Ok (Sized (digits_value 10 text))) (Err BodyTooLarge)) (Err BadLength))
     by_digits true = by_size (nat_le (digits_value 10 text) 16777216) refl
-    by_digits false = λ head p. p
+    by_digits false = (tt, λ head p. p)
 
 -- And of the length that all values give.
 values_told : (minor : ℕ) (lengths codings : List (List ℕ)) → IsTold (length_told minor lengths codings)
@@ -53,12 +66,12 @@ values_told minor [] (coding ∷ []) = by (minor == 1 && bytes_eq (lower coding)
   where
     by : (b : Bool) → IsTold (cond b (Ok Chunked) (Err TransferCoding))
     by true = tt
-    by false = λ head p. p
-values_told minor [] (coding ∷ other ∷ codings) = λ head p. p
+    by false = (tt, λ head p. p)
+values_told minor [] (coding ∷ other ∷ codings) = (tt, λ head p. p)
 values_told minor (text ∷ []) [] = text_told text
-values_told minor (text ∷ other ∷ texts) [] = λ head p. p
-values_told minor (text ∷ []) (coding ∷ codings) = λ head p. p
-values_told minor (text ∷ other ∷ texts) (coding ∷ codings) = λ head p. p
+values_told minor (text ∷ other ∷ texts) [] = (tt, λ head p. p)
+values_told minor (text ∷ []) (coding ∷ codings) = (tt, λ head p. p)
+values_told minor (text ∷ other ∷ texts) (coding ∷ codings) = (tt, λ head p. p)
 
 -- And of what a head says.
 head_told : (h : RequestHead) → IsTold (body_length h)
@@ -68,7 +81,7 @@ head_told h = by (names_host h.minor (values_named (codes "host") (fields_of h))
         (length_told h.minor (values_named (codes "content-length") (fields_of h)) (values_named (codes "transfer-encoding") (fields_of h)))
         (Err NoHost))
     by true = values_told h.minor (values_named (codes "content-length") (fields_of h)) (values_named (codes "transfer-encoding") (fields_of h))
-    by false = λ head p. p
+    by false = (tt, λ head p. p)
 
 -- A length that a head says is of a body that fits.
 pub length_fits : (h : RequestHead) (n : BodyLength) → body_length h ≡ Ok n → Fits n
@@ -77,6 +90,33 @@ length_fits h n e = subst IsTold e (head_told h)
 -- A head of few lines whose fields are refused is refused.
 pub length_refused : (h : RequestHead) (refusal : Refusal) → body_length h ≡ Err refusal → IsTold (Err refusal)
 length_refused h refusal e = subst IsTold e (head_told h)
+
+-- The refusal of a message is one of those.
+pub is_of_message : (bytes : List ℕ) (refusal : Refusal) → framing_refusal bytes refusal → IsOfMessage refusal
+is_of_message bytes refusal (inl many) = subst IsOfMessage (sym many.2) tt
+is_of_message bytes refusal (inr (inl q)) = by (reasons q.head refusal q.refused)
+  where
+    by : Reasons q.head refusal → IsOfMessage refusal
+    by (inl a) = subst IsOfMessage (sym a.1) tt
+    by (inr (inl a)) = subst IsOfMessage (sym a.2) tt
+    by (inr (inr a)) = (length_refused a.1 refusal a.3).0
+is_of_message bytes refusal (inr (inr q)) = subst IsOfMessage (sym q.refused) (of_flaw q.flaw)
+  where
+    of_flaw : (flaw : Flaw) → IsOfMessage (refusal_of flaw)
+    of_flaw TooLarge = tt
+    of_flaw Unreadable = tt
+
+-- One that is none of the other six is `BadHead`.
+pub is_bad_head : (r : Refusal) → IsOfMessage r → r ≢ HeadTooLarge → r ≢ NoHost → r ≢ BadLength → r ≢ TransferCoding → r ≢ BodyTooLarge
+    → r ≢ BadChunk → BadHead ≡ r
+is_bad_head HeadTooLarge is a b c d e f = absurd (a refl)
+is_bad_head BadHead is a b c d e f = refl
+is_bad_head NoHost is a b c d e f = absurd (b refl)
+is_bad_head BadLength is a b c d e f = absurd (c refl)
+is_bad_head TransferCoding is a b c d e f = absurd (d refl)
+is_bad_head BodyTooLarge is a b c d e f = absurd (e refl)
+is_bad_head BadChunk is a b c d e f = absurd (f refl)
+is_bad_head _ is a b c d e f = absurd is
 
 -- A body that is spelled fits where its length does.
 spelled_fits : (n : BodyLength) (coded body : List ℕ) → SpellsBody n coded body → Fits n → length body ≤ 16777216

@@ -3,12 +3,12 @@
 ghost use Rattle.std.specs.Prelude.{◌≡◌, ℕ, List, [], ◌++◌, IfOk, OnErr};
 ghost use Rattle.std.specs.Borrow.{ftrue};
 ghost use Rattle.std.specs.Coded.{coded_ℕ, coded_list};
-ghost use Rattle.tfs_framing.specs.Decoder.{room_told};
 ghost use Rattle.tfs_framing.specs.Framing.{BeginsWith, Frames};
 ghost use Rattle.tfs_framing.specs.Request.{RequestValue};
 
 use crate::framing::{Framed, Received, Take, frame};
 use crate::head::Search;
+use crate::over::{Over, copy_of};
 use crate::state::{State, put, step};
 use bytes::BytesMut;
 use std::alloc::{AllocError, Global};
@@ -40,22 +40,22 @@ pub struct RequestDecoder {
 
 impl Model for RequestDecoder {
     ghost use Rattle.std.specs.Prelude.{◌≤◌, length};
-    ghost use Rattle.tfs_framing.specs.Decoder.{DecoderValue, HasRoomFor, IsAt};
+    ghost use Rattle.tfs_framing.specs.Decoder.{DecoderValue, HasRoomFor, IsAt, over_of};
 
     ghost Value = { DecoderValue };
 
-    ghost view = { λ d. record { bytes = d.fed.bytes; room = d.room; unused = length d.unused.items } };
+    ghost view = { λ d. record { bytes = d.fed.bytes; room = d.room; unused = length d.unused.items; over = over_of d.state } };
 
     ghost invariant = { λ d. IsAt d.fed.bytes d.state d.unused.items × HasRoomFor d.room d.state d.unused.spare };
 }
 
 impl RequestDecoder {
-    ghost use Rattle.std.specs.Prelude.{◌≡◌, ◌≤◌, ◌++◌, ◌==◌, [], length, IfOk, OnErr};
-    ghost use Rattle.tfs_framing.specs.Decoder.{Gives, HasNoRefusal};
+    ghost use Rattle.std.specs.Prelude.{◌≡◌, ◌≤◌, ◌++◌, ◌==◌, [], length, None, IfOk, IfSome, OnErr};
+    ghost use Rattle.tfs_framing.specs.Decoder.{Gives, HasNoRefusal, lasting};
 
     /// It was fed with no bytes.
     pub fn new(alloc: Global) -> RequestDecoder
-        ensures value { result ≡ record { bytes = []; room = 0; unused = 0 } }
+        ensures value { result ≡ record { bytes = []; room = 0; unused = 0; over = None } }
     {
         RequestDecoder {
             state: State::start(),
@@ -65,25 +65,44 @@ impl RequestDecoder {
         }
     }
 
-    /// What comes of the bytes. Where more are needed, there is room for them then.
+    /// Decodes the next message. If it is incomplete, reserves room for more bytes. After a refusal, or an error for lack of memory, each
+    /// further call returns the same, and no message.
     pub fn next(&mut self, alloc: Global) -> Result<Received, AllocError>
         ensures ok { IfOk result (Gives self.old.bytes self.new) }
         ensures memory { OnErr result (HasNoRefusal self.old.bytes) }
+        ensures over { self.new.over ≡ lasting result }
+        ensures again { IfSome self.old.over (λ last. result ≡ last) }
     {
-        let received = step(alloc, &mut self.state, &mut self.unused);
-        self.room = room_told(&received);
-        if self.room > 0 {
-            return received;
+        let is_empty = self.is_empty();
+        self.room = 0;
+        match step(alloc, &mut self.state, &mut self.unused) {
+            Ok(Received::More(room)) => {
+                self.room = room;
+                Ok(Received::More(room))
+            }
+            Ok(Received::Message(request)) => {
+                self.state = State::start();
+                self.fed = Fed::of(self.unused.as_slice());
+                Ok(Received::Message(request))
+            }
+            Ok(Received::Refused(refusal)) => {
+                let reason = Some(copy_of(&refusal));
+                self.state = State::Over(Over { reason, is_empty });
+                Ok(Received::Refused(refusal))
+            }
+            Err(fault) => {
+                let reason = None;
+                self.state = State::Over(Over { reason, is_empty });
+                Err(fault)
+            }
         }
-        self.state.forget();
-        self.fed = Fed::of(self.unused.as_slice());
-        received
     }
 
     /// Takes bytes behind the others.
     pub fn feed(&mut self, bytes: &[u8])
         requires room { length bytes.now ≤ self.old.room }
         ensures bytes { self.new.bytes ≡ self.old.bytes ++ bytes.now }
+        ensures over { self.new.over ≡ self.old.over }
     {
         put(&mut self.state, &mut self.unused, bytes);
         self.room = 0;
@@ -97,17 +116,8 @@ impl RequestDecoder {
         match &self.state {
             State::Head(_) => self.unused.is_empty(),
             State::Sized(_) | State::Chunks(_) => false,
+            State::Over(over) => over.is_empty,
         }
-    }
-}
-
-/// For how many more bytes there is room: for none but where more are needed.
-fn room_told(received: &Result<Received, AllocError>) -> usize
-    ensures { result ≡ room_told received.now }
-{
-    match received {
-        Ok(Received::More(room)) => *room,
-        _ => 0,
     }
 }
 

@@ -11,6 +11,7 @@ mod head;
 mod laws;
 mod limits;
 mod lines;
+mod over;
 mod request;
 mod state;
 

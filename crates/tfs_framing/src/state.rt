@@ -1,17 +1,18 @@
 //! What is known of the message that a decoder is fed with, and what comes of its bytes.
 
-ghost use Rattle.std.specs.Prelude.{◌≡◌, ◌≤◌, ◌<◌, ◌+◌, ◌++◌, ℕ, List, length, take, drop, IfOk, OnErr};
+ghost use Rattle.std.specs.Prelude.{◌≡◌, ◌≤◌, ◌<◌, ◌+◌, ◌++◌, ℕ, List, length, take, drop, None, IfOk, IfSome, OnErr};
 ghost use Rattle.tfs_framing.specs.Framing.{IsSizedHead, IsUnfinished};
 ghost use Rattle.tfs_framing.specs.Sought.{IsSought};
 ghost use Rattle.tfs_framing.specs.Decoded.{Decodes};
 ghost use Rattle.tfs_framing.specs.Parts.{EndsWith};
-ghost use Rattle.tfs_framing.specs.Decoder.{Comes, HasNoRefusal, HasRoomFor, IsApart, IsAt};
+ghost use Rattle.tfs_framing.specs.Decoder.{Comes, HasNoRefusal, HasRoomFor, IsApart, IsAt, over_of};
 ghost use Rattle.tfs_framing.specs.declared.state.State.TheVariants.{Chunks as ChunksState, Sized};
 
 use crate::body::{ChunkedBody, Decoded, decode_body};
 use crate::framing::{Framed, Received, SizedHead, frame, receive, refusal_of};
 use crate::head::Search;
 use crate::laws::what_is_known_stays_whatever_bytes_follow;
+use crate::over::Over;
 use bytes::BytesMut;
 use std::alloc::{AllocError, Global};
 use std::mem;
@@ -28,6 +29,8 @@ pub(crate) enum State {
     Sized(SizedBody),
     /// Its head tells chunks, which are decoded as they come.
     Chunks(Chunks),
+    /// No message comes any more.
+    Over(Over),
 }
 
 /// A body whose length is known. The bytes before it aren't used, and none is behind it.
@@ -50,19 +53,9 @@ impl State {
     pub(crate) fn start() -> State
         ensures at { (bytes : List ℕ) → IsAt bytes result bytes }
         ensures room { (spare : ℕ) → HasRoomFor 0 result spare }
+        ensures over { over_of result ≡ None }
     {
         State::Head(Search::start())
-    }
-
-    /// Forgets what is known of a message.
-    pub(crate) fn forget(&mut self)
-        ensures at { (bytes : List ℕ) → IsAt bytes self.new bytes }
-        ensures room { (spare : ℕ) → HasRoomFor 0 self.new spare }
-    {
-        match self {
-            State::Head(search) => *search = Search::start(),
-            State::Sized(_) | State::Chunks(_) => *self = State::start(),
-        }
     }
 }
 
@@ -75,6 +68,7 @@ pub(crate) fn step(
     requires at { (bytes : List ℕ) × IsAt bytes state.old unused.old.items }
     ensures ok { (bytes : List ℕ) → IsAt bytes state.old unused.old.items → IfOk result (Comes bytes unused.new.items unused.new.spare state.new) }
     ensures memory { (bytes : List ℕ) → IsAt bytes state.old unused.old.items → OnErr result (HasNoRefusal bytes) }
+    ensures again { IfSome (over_of state.old) (λ last. result ≡ last) }
 {
     match state {
         State::Head(search) => {
@@ -83,6 +77,7 @@ pub(crate) fn step(
         }
         State::Sized(sized) => fill(alloc, sized, unused),
         State::Chunks(chunks) => decode(alloc, chunks, unused),
+        State::Over(over) => over.result(),
     }
 }
 
@@ -230,10 +225,12 @@ pub(crate) fn put(state: &mut State, unused: &mut BytesMut, bytes: &[u8])
     requires at { (old : List ℕ) × IsAt old state.old unused.old.items }
     requires room { HasRoomFor (length bytes.now) state.old unused.old.spare }
     ensures at { (old : List ℕ) → IsAt old state.old unused.old.items → IsAt (old ++ bytes.now) state.new unused.new.items }
+    ensures over { over_of state.new ≡ over_of state.old }
 {
     what_is_known_stays_whatever_bytes_follow();
     match state {
         State::Sized(sized) => sized.body.extend_from_slice(bytes).unwrap(),
         State::Head(_) | State::Chunks(_) => unused.extend_from_slice(bytes).unwrap(),
+        State::Over(_) => {}
     }
 }

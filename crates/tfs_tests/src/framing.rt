@@ -103,3 +103,24 @@ fn a_chunk_is_wanted_with_its_end(rt: HostRuntime) {
         expect_wanted(&rt, PUSH_IN_CHUNKS, 115, (n, 65_536));
     }
 }
+
+/// The head of a push in chunks.
+const HEAD_IN_CHUNKS: &str =
+    "POST /state/a HTTP/1.1\r\nHost: h\r\nTransfer-Encoding: chunked\r\n\r\n";
+
+/// A decoder refuses the bytes, since no chunk begins where one is due.
+fn expect_bad_chunk(rt: &(impl Alloc<A = Global> + Abort), decoder: &mut RequestDecoder) {
+    match decoder.next(rt.alloc()).expect(rt, "memory") {
+        Received::Refused(refusal) => assert!(rt; refusal.name() == "BadChunk"),
+        _ => panic!(rt; "the push is refused"),
+    }
+}
+
+#[test]
+fn a_decoder_returns_no_message_after_a_refusal(rt: HostRuntime) {
+    let mut decoder = RequestDecoder::new(rt.alloc());
+    feed(&rt, &mut decoder, HEAD_IN_CHUNKS.as_bytes(), 65_536);
+    feed(&rt, &mut decoder, PUSH_AND_READ.as_bytes(), 65_536);
+    expect_bad_chunk(&rt, &mut decoder);
+    expect_bad_chunk(&rt, &mut decoder);
+}

@@ -13,12 +13,11 @@ unwrap-requires c =
     let own = c.in-Sized.sized.body.ok in
     c.extend_from_slice.ensures.succeeds (omega arith)
 
-pub returns-in-Sized : goal.returns-in-Sized
-returns-in-Sized c = record {
-  at = λ old at. apart_more old c.args.unused.now.items c.args.bytes.now c.in-Sized.sized
-      (record { head = c.in-Sized.sized.head; body = c.extend_from_slice.new.self }) refl
-      (subst (λ (s : State). IsAt old s c.args.unused.now.items) c.in-Sized.is at)
-      (grown c.extend_from_slice.result c.unwrap.result _ _ _ c.unwrap.ensures c.extend_from_slice.ensures.items)
-      (subst (λ (s : State). HasRoomFor (length c.args.bytes.now) s c.args.unused.now.spare) c.in-Sized.is c.requires.room)
-      c.extend_from_slice.ensures.capacity;
-}
+pub returns-in-Sized-clause-at : goal.returns-in-Sized-clause-at
+returns-in-Sized-clause-at c = λ old at.
+    apart_more old c.args.unused.now.items c.args.bytes.now c.in-Sized.sized
+    (record { head = c.in-Sized.sized.head; body = c.extend_from_slice.new.self }) refl
+    (subst (λ (s : State). IsAt old s c.args.unused.now.items) c.in-Sized.is at)
+    (grown c.extend_from_slice.result c.unwrap.result _ _ _ c.unwrap.ensures c.extend_from_slice.ensures.items)
+    (subst (λ (s : State). HasRoomFor (length c.args.bytes.now) s c.args.unused.now.spare) c.in-Sized.is c.requires.room)
+    c.extend_from_slice.ensures.capacity

@@ -1,14 +1,25 @@
--- What comes of the bytes comes of those that were fed; behind a message those that aren't used are left.
-use Rattle.std.proofs.Common.{ℕ, List, IfOk, ◌<◌, ◌∙◌, ap, subst, arith}
-use Rattle.tfs_framing.specs.Decoder.{Comes, DecoderValue, room_told}
-use Rattle.tfs_framing.proofs.DecoderLemmas.{begins_anew}
+-- The refusal that is kept is the one that is returned.
+use Rattle.std.proofs.Common.{length, refl, sym, ◌∙◌, ◌==◌, ap, subst, Some, Ok}
+use Rattle.tfs_framing.specs.Decoder.{Comes, DecoderValue, HasNoRefusal}
+use Rattle.tfs_framing.specs.Framing.{framing_refusal}
+use Rattle.tfs_framing.specs.declared.framing.Received.TheVariants.{Refused}
 use Rattle.tfs_framing.proofs.decoder.RequestDecoder.next.Goals as goal
 
-pub returns-clause-ok : goal.returns-clause-ok
-returns-clause-ok c =
-    let step = c.step-received in
-    let none : ¬ (0 < room_told step.result) = λ some.
-    let is = c.room_told-self-inside.ensures in let no = c.if-self-gt0.false in omega (arith, some) in
-    let comes = subst (λ (t : List ℕ). IfOk step.result (Comes t step.new.unused.items step.new.unused.spare step.new.state))
-    (ap (λ (v : DecoderValue). v.bytes) c.self.view_is) (step.ensures.ok c.self.inside.fed.bytes c.self.invariant.0) in
-    begins_anew step.result _ _ _ _ none comes _ (c.of-self-inside.ensures ∙ c.as_slice.ensures)
+pub invariant_of-self-in-Ok-Refused : goal.invariant_of-self-in-Ok-Refused
+invariant_of-self-in-Ok-Refused c =
+    let bytes = c.self.inside.fed.bytes in
+    let told = subst (Comes bytes c.step.new.unused.items c.step.new.unused.spare c.step.new.state) c.in-Ok-Refused.field-0-is
+    (c.in-Ok-Refused.ensures.ok bytes c.self.invariant.0) in
+    let none = c.is_empty-is_empty.ensures.value ∙ ap (λ (v : DecoderValue). length v.bytes == 0) (sym c.self.view_is) in
+    (record { is_empty = none; reason = subst (framing_refusal bytes) (sym (c.copy_of.ensures bytes told)) told }, refl)
+
+pub returns-in-Ok-Refused-clause-over : goal.returns-in-Ok-Refused-clause-over
+returns-in-Ok-Refused-clause-over c =
+    let bytes = c.self.inside.fed.bytes in
+    let told = subst (Comes bytes c.step.new.unused.items c.step.new.unused.spare c.step.new.state) c.in-Ok-Refused.field-0-is
+    (c.in-Ok-Refused.ensures.ok bytes c.self.invariant.0) in
+    ap (λ r. Some (Ok (Refused r))) (c.copy_of.ensures bytes told)
+
+pub returns-in-Err-clause-memory : goal.returns-in-Err-clause-memory
+returns-in-Err-clause-memory c =
+    subst (λ (v : DecoderValue). HasNoRefusal v.bytes) c.self.view_is (c.in-Err.ensures.memory c.self.inside.fed.bytes c.self.invariant.0)
