@@ -29,10 +29,10 @@ pub(crate) struct Joined {
 /// What became of the bytes behind those that were decoded, where nothing is wrong with them.
 #[derive(Drop)]
 pub(crate) enum Decoded {
-    /// More are needed; so many are left.
-    Wanted(ChunkedBody, usize),
-    /// The body is whole, and so many are behind it.
-    Whole(Joined, usize),
+    /// More are needed; `left` of those that came aren't decoded.
+    Wanted { decoded: ChunkedBody, left: usize },
+    /// The body is whole, and `left` bytes follow it.
+    Whole { joined: Joined, left: usize },
 }
 
 impl ChunkedBody {
@@ -88,20 +88,30 @@ pub(crate) fn decode_body(decoded: ChunkedBody, left: &[u8]) -> Result<Decoded, 
     let mut left = left;
     loop {
         match part_at(decoded.count, decoded.total, left, decoded.ahead)? {
-            Part::Wanted(bytes, ahead, after) => {
+            Part::Wanted {
+                bytes,
+                ahead,
+                after,
+            } => {
                 decoded.body.push(bytes);
                 decoded.total += bytes.len();
                 decoded.ahead = ahead;
-                return Ok(Decoded::Wanted(decoded, after.len()));
+                return Ok(Decoded::Wanted {
+                    decoded,
+                    left: after.len(),
+                });
             }
-            Part::Chunk(bytes, after) => {
+            Part::Chunk { bytes, after } => {
                 decoded.body.push(bytes);
                 decoded.count += 1;
                 decoded.total += bytes.len();
                 decoded.ahead = Ahead::Line(0);
                 left = after;
             }
-            Part::Last(after) => return Ok(Decoded::Whole(decoded.body, after.len())),
+            Part::Last(after) => return Ok(Decoded::Whole {
+                joined: decoded.body,
+                left: after.len(),
+            }),
         }
     }
 }

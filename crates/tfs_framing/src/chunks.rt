@@ -30,17 +30,24 @@ pub(crate) enum Ahead {
     Line(usize),
     /// So many bytes of a chunk, behind its line and others of its bytes.
     Bytes(usize),
-    /// The last line comes, so long; from its line feed on, so many bytes have no line feed with an empty line behind it.
-    Trailer(usize, usize),
+    /// The last line comes, of `len` bytes; of the bytes from its line feed on, the first `passed` have no line feed before an empty line.
+    Trailer { len: usize, passed: usize },
 }
 
 /// What comes next in a body in chunks.
 #[derive(Clone, Copy)]
 pub(crate) enum Part<'b> {
-    /// These bytes of a chunk that isn't whole, or none; what is known of what is behind them, and that.
-    Wanted(&'b [u8], Ahead, &'b [u8]),
-    /// The bytes of a chunk, and what is behind it.
-    Chunk(&'b [u8], &'b [u8]),
+    /// Some bytes of a chunk that isn't whole, or none; the bytes after them, and what is known of those.
+    Wanted {
+        bytes: &'b [u8],
+        ahead: Ahead,
+        after: &'b [u8],
+    },
+    /// The bytes of a chunk, and the bytes after it.
+    Chunk {
+        bytes: &'b [u8],
+        after: &'b [u8],
+    },
     /// The end of the body, and what is behind it.
     Last(&'b [u8]),
 }
@@ -58,11 +65,15 @@ pub(crate) fn part_at(
     let seen = match ahead {
         Ahead::Line(seen) => seen,
         Ahead::Bytes(lacking) => return rest_of_chunk(left, lacking),
-        Ahead::Trailer(len, passed) => return last_behind(left, len, passed),
+        Ahead::Trailer { len, passed } => return last_behind(left, len, passed),
     };
     let Some((len, size)) = chunk_line_at(left, seen)? else {
         let (none, _) = left.split_at(0);
-        return Ok(Part::Wanted(none, Ahead::Line(left.len()), left));
+        return Ok(Part::Wanted {
+            bytes: none,
+            ahead: Ahead::Line(left.len()),
+            after: left,
+        });
     };
     if size > (MAX_BODY_BYTES - total) as u64 {
         return Err(Flaw::TooLarge);
@@ -116,10 +127,17 @@ fn rest_of_chunk(left: &[u8], lacking: usize) -> Result<Part<'_>, Flaw>
 {
     let (bytes, end) = left.split_at(lacking.min(left.len()));
     if left.len() < lacking + 2 {
-        return Ok(Part::Wanted(bytes, Ahead::Bytes(lacking - bytes.len()), end));
+        return Ok(Part::Wanted {
+            bytes,
+            ahead: Ahead::Bytes(lacking - bytes.len()),
+            after: end,
+        });
     }
     match strip_line_end(end) {
-        Some(behind) => Ok(Part::Chunk(bytes, behind)),
+        Some(behind) => Ok(Part::Chunk {
+            bytes,
+            after: behind,
+        }),
         None => Err(Flaw::Unreadable),
     }
 }
@@ -154,8 +172,13 @@ fn last_behind(left: &[u8], len: usize, passed: usize) -> Result<Part<'_>, Flaw>
         None => {
             if from.len() <= MAX_TRAILER_BYTES {
                 let (none, _) = left.split_at(0);
-                let known = Ahead::Trailer(len, from.len().saturating_sub(2));
-                Ok(Part::Wanted(none, known, left))
+                let passed = from.len().saturating_sub(2);
+                let ahead = Ahead::Trailer { len, passed };
+                Ok(Part::Wanted {
+                    bytes: none,
+                    ahead,
+                    after: left,
+                })
             } else {
                 Err(Flaw::Unreadable)
             }

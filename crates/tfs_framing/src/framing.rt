@@ -138,10 +138,10 @@ fn frame_body(
             got(alloc, &lines, body, bytes.len() - after.len())
         }
         BodyLength::Chunked => match decode_body(ChunkedBody::start(alloc), rest) {
-            Ok(Decoded::Wanted(decoded, left)) => {
+            Ok(Decoded::Wanted { decoded, left }) => {
                 Ok(Framed::Chunked(skipped, head.len(), decoded, left))
             }
-            Ok(Decoded::Whole(joined, left)) => {
+            Ok(Decoded::Whole { joined, left }) => {
                 let body = joined.into_bytes()?;
                 got(alloc, &lines, body, bytes.len() - left)
             }

@@ -199,7 +199,7 @@ fn decode(alloc: Global, chunks: &mut Chunks, unused: &mut BytesMut) -> Result<R
 {
     let body = mem::replace(&mut chunks.decoded, ChunkedBody::start(alloc));
     match decode_body(body, unused.as_slice()) {
-        Ok(Decoded::Wanted(decoded, left)) => {
+        Ok(Decoded::Wanted { decoded, left }) => {
             if decoded.body.lost {
                 return Err(AllocError);
             }
@@ -209,7 +209,7 @@ fn decode(alloc: Global, chunks: &mut Chunks, unused: &mut BytesMut) -> Result<R
             chunks.decoded = decoded;
             Ok(Received::More(MAX_FED_BYTES))
         }
-        Ok(Decoded::Whole(joined, left)) => {
+        Ok(Decoded::Whole { joined, left }) => {
             let body = joined.into_bytes()?;
             let received = receive(alloc, chunks.head.as_slice(), body)?;
             let used = unused.len() - left;

@@ -27,7 +27,7 @@ returns-then-from-le-MAX_TRAILER_BYTES c = λ rest count body p.
     let few = c.if-from-le-MAX_TRAILER_BYTES.true in
     let none = no_trailer _ _ at.after _ c.min.ensures c.split_at-2.ensures.front starts c.in-None.ensures.absent in
     last_wanted rest count body _ _ _ _ _ c.split_at-then-from-le-MAX_TRAILER_BYTES.ensures.front p
-    (trailer_sought _ _ at.after _ _ c.min.ensures c.split_at-2.ensures.front starts few c.in-None.ensures.absent c.saturating_sub.ensures)
+    (trailer_sought _ _ at.after _ _ c.min.ensures c.split_at-2.ensures.front starts few c.in-None.ensures.absent c.saturating_sub-passed.ensures)
     (omega arith) (trailer_wanted count (length body) c.args.len _ line at (passed_fits rest count body _ _ p).1 (omega arith) none)
 
 pub returns-else-from-le-MAX_TRAILER_BYTES : goal.returns-else-from-le-MAX_TRAILER_BYTES
