@@ -11,9 +11,9 @@ use tfs_table::{Call, Refusal, Reply};
 
 /// A gate that takes every connection until conversations are to end. Before a reply is written, all is durable that was written to the journal
 /// by then; once that can't be had, nothing more is written to anybody. Before an accepted change is acknowledged, the folder, its journal and its
-/// lock file are compared with the opened ones. A read of a state tells of its name alone, and waits only while a
-/// worker changes that name: the change before is durable once its worker is done. It raises the least position with each change that is
-/// accepted: once the change is durable, and without a sync; where the file can't be written, it lags behind.
+/// lock file are compared with the opened ones; one comparison may serve all changes of a sync. A read of a state tells of its name alone, and waits
+/// only while a worker changes that name: the change before is durable once its worker is done. It raises the least position with each change that
+/// is accepted: once the change is durable, and without a sync; where the file can't be written, it lags behind.
 #[derive(Drop)]
 pub(crate) struct Watching<'g, R: AllocGlobal + Wait> {
     pub(crate) rt: &'g R,
@@ -75,7 +75,7 @@ impl<'g, R: AllocGlobal + Wait> Gate for Watching<'g, R> {
         self.underway.end(self.worker);
         match reply {
             Reply::Done(position) => {
-                if !self.watch.holds(&self.journal) {
+                if !self.watch.holds_after(&self.journal, count) {
                     return;
                 }
                 self.raise(*position);
