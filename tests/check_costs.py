@@ -1,5 +1,6 @@
 """Counts instructions, which don't change with the load of a machine: a head's end is found in one pass however the head is cut, an order of rows costs
-little beside their closure, and a push makes its index and each digest once."""
+little beside their closure, a push makes its index and each digest once, a rebase reads a state and makes its index once, and a query finds
+an address without a look at each instance."""
 import base64
 import hashlib
 import os
@@ -10,9 +11,10 @@ import subprocess
 import sys
 
 from checking import SECONDS, checks_in, expect, run_checks
+from journal_reader import base_text, push_content, record_text
 from repository import TOP
-from sample_states import dense, written
-from serve_program import preloaded
+from sample_states import chain, dense, written
+from serve_program import fresh, preloaded
 from stdio_program import PROGRAM, request_text
 
 sys.path.append(str(TOP / "bench"))
@@ -24,10 +26,10 @@ SIZE = 4_096
 RECORD, DIGEST = 15, 12
 
 
-def counted(data, **how):
-    """The instructions of a conversation over the standard input."""
+def counted(data, *arguments, **how):
+    """The instructions of a conversation over the standard input, or of another command."""
     expect(shutil.which("valgrind") is not None, True, "valgrind, which counts instructions, is there")
-    words = [*CALLGRIND, PROGRAM, "stdio"]
+    words = [*CALLGRIND, PROGRAM, *(arguments or ("stdio",))]
     ran = subprocess.run(words, input=data, capture_output=True, timeout=2 * SECONDS, check=False, **how)
     expect(ran.returncode, 0, ran.stderr[-300:])
     return collected(ran.stderr)
@@ -71,6 +73,27 @@ def check_a_push_makes_its_index_and_each_digest_once():
         expect(0 < beyond < RECORD, True, f"{beyond:.1f} instructions a byte beyond the document and its index")
         more = (with_digest - plain) / len(state)
         expect(0 < more < DIGEST, True, f"{more:.1f} instructions a byte for Content-MD5")
+
+
+def rebased(*states):
+    """The instructions of a rebase of a journal that pushes these states."""
+    records = b"".join(record_text(3, b"a", push_content(b"", state)) for state in states)
+    return counted(b"", "rebase", fresh(b"TFJ2\n" + base_text(0, []) + records), fresh())
+
+
+def check_a_rebase_reads_a_state_once_and_makes_its_index_once():
+    # It costs what a push of the state does, and the text of the base. One more index costs a third of the dense one's push, and one more
+    # document two thirds of either.
+    for state, most in ((dense(2_048), 1.2), (written(500, 10), 1.5)):
+        push = counted(request_text("POST", "/state/a", state)) - counted(b"")
+        times = (rebased(state) - rebased()) / push
+        expect(0.5 < times < most, True, f"{times:.2f} times what a push costs")
+
+
+def check_a_query_finds_an_address_without_a_look_at_each_instance():
+    push, query = request_text("POST", "/state/a", chain(SIZE)), request_text("GET", f"/impact/a/any?of=t.r{SIZE - 1}")
+    each = (counted(push + query * 11) - counted(push + query)) / 10
+    expect(0 < each < 20 * SIZE, True, f"{each:,.0f} instructions a query over {SIZE:,} instances")
 
 
 if __name__ == "__main__":

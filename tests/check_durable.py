@@ -4,6 +4,7 @@ import http.client
 import json
 import os
 import random
+import string
 import sys
 import threading
 import time
@@ -298,6 +299,22 @@ def check_a_read_waits_only_while_its_name_is_changed():
 def check_a_read_waits_for_no_write_of_another_name():
     some, others, reads = counted(disk(HOLD=50000), pushing("busy"), pushing("third"), reading("still"))
     expect(some + others <= 42 and reads >= 10 * (some + others) > 0, True, f"pushes {some} and {others}, reads {reads}")
+
+
+def check_no_read_or_query_waits_for_a_write_of_another_name():
+    server, told, letters = serving(fresh(), workers="4", env=disk(HOLD=4_000_000)), Told(), string.ascii_letters + string.digits + "_-."
+    connections = [http.client.HTTPConnection(LOOPBACK, server.port, timeout=SECONDS) for _ in range(2)]
+    change = threading.Thread(target=told.push, args=(connections[0], "busy"))
+    change.start()
+    time.sleep(0.5)
+    for target in (f"/{route}" for letter in letters for route in (f"state/{letter}", f"impact/{letter}/any?of=t.a")):
+        expect(ask_over(connections[1], "GET", target)[0], 404, target)
+    expect(change.is_alive(), True, "the write lasts longer than all reads and queries")
+    change.join()
+    for connection in connections:
+        connection.close()
+    server.kill()
+    expect(told.count, 1, "the change")
 
 
 if __name__ == "__main__":

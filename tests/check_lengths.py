@@ -1,11 +1,18 @@
-"""Drives `tfstated stdio` through every length of a name, an identifier, a head and a body, each with its bytes in two reads. A program that gives
-up at one length, or at one place of a cut, answers other than the plain model of stdio_model.py."""
+"""Drives `tfstated stdio` through every length of a name, an identifier, a head and a body, each with its bytes in two reads, and through every
+character of a name. A program that gives up at one length, for one name, or at one place of a cut, answers other than the plain model of
+stdio_model.py."""
+import string
 import sys
 
 from checking import S1, checks_in, expect, run_checks
+from sample_states import chain
 import stdio_model as model
 from stdio_model import CLEAN
 from stdio_program import request_text, run_in_pieces
+
+# The characters of a name, lock information, and a state of two instances.
+LETTERS = string.ascii_letters + string.digits + "_-."
+LOCK, STATE = b'{"ID":"i"}', chain(2)
 
 
 def expect_as_modelled(pieces, about):
@@ -40,6 +47,15 @@ def check_each_length_of_a_name():
             target = "/state/" + "n" * length
             pieces += halves(framed(S1, target=target)) + halves(request_text("GET", target))
         expect_as_modelled(pieces, framed.__name__)
+
+
+def check_each_character_of_a_name():
+    pieces = []
+    for letter in LETTERS:
+        for name in (letter, f"{letter}x", f"x{letter}"):
+            pieces += [request_text("LOCK", f"/state/{name}", LOCK), request_text("POST", f"/state/{name}?ID=i", STATE),
+                       request_text("GET", f"/state/{name}"), request_text("GET", f"/impact/{name}/any?of=t.a")]
+    expect_as_modelled(pieces, "names")
 
 
 def check_each_length_of_an_identifier():

@@ -1,6 +1,7 @@
 """Runs `tfstated serve` with up to 16 sessions that work at once: each change that is acknowledged is an entry of the journal, pushes
 of the same states are judged one after another, and answers to queries beside them never go back."""
 import json
+import string
 import sys
 import threading
 from pathlib import Path
@@ -230,6 +231,16 @@ def round_of(count, turns):
     accepted = sum(follow(requests, told, entries, standings) for requests, told in zip(asked_by, replies))
     expect(accepted, len(entries), "each entry is a change that was told as accepted")
     return accepted
+
+
+def check_each_letter_of_a_name_is_answered():
+    server = Server(workers=1)
+    with server.connect() as connection:
+        for letter in string.ascii_letters + string.digits + "_-.":
+            for name in (letter, f"{letter}x", f"x{letter}"):
+                expect(asked(connection, "POST", f"/state/{name}", chain(1)), (200, b""), name)
+                expect(asked(connection, "GET", f"/state/{name}"), (200, chain(1)), name)
+                expect(asked(connection, "GET", f"/impact/{name}/any?of=t.b")[0], 200, name)
 
 
 def check_each_reply_is_over_a_journal_that_the_last_one_begins_with():

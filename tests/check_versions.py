@@ -177,6 +177,13 @@ def check_restored_states_differ_in_their_serial():
         expect(bytes_of("restore", fresh(n3=b"TFJ1\n" + push + last), "a", "--position", "1"), text.replace(was, new), text)
 
 
+def check_each_serial_of_the_newest_state_is_restored_over():
+    edges = [edge + more for edge in (*(10**digits for digits in range(2, 20)), 2**32, 2**53, 2**63) for more in (-2, -1, 0)]
+    for serial in (*range(1, 65), *sorted(edges)):
+        records = (record_text(3, b"a", push_content(b"", text)) for text in (state(0), state(serial)))
+        expect(bytes_of("restore", fresh(n1=b"TFJ1\n" + b"".join(records)), "a", "--position", "1"), state(serial + 1))
+
+
 def check_a_restored_state_is_taken_by_a_push():
     folder = some_past()
     server = Serving(folder).listens()
