@@ -1,6 +1,6 @@
 """Requests for room in src/ that no machine may grant. A contract can't distinguish a refused request from one that asks for too much, so a body
 that gives up for one length would pass. The room of a request is one length, one constant or one name, or a sum of these. In its
-function nothing is multiplied or shifted, and no length is compared with a number. Its constants are at most 32 MiB."""
+function nothing is multiplied or shifted, no length is compared with a number, and no number is over 32 MiB. Its constants are at most 32 MiB."""
 import re
 
 from fault_places import code_lines, sources
@@ -14,6 +14,7 @@ NAMES = re.compile(r"\b[A-Z][A-Z0-9_]+\b(?!\.len\(\))")
 PRODUCT = re.compile(r"[\w.)\]]+ (?:\*|<<) \S+|\b\w*(?:mul|pow|shl)\w*\(")
 LENGTH = r"(?:\.len\(\)|\b(?:len|length|count|size)\b)"
 NUMBER = r"(?:\d[\d_]*|[A-Z][A-Z0-9_]+)\b"
+HUGE = re.compile(r"\w*::MAX\b|(?<![\w.])(?:0[xob][\da-fA-F_]+|\d[\d_]*)(?:[ui](?:8|16|32|64|128|size))?\b|!0\b|\bwrapping_\w+|\b[ui]\w+::BITS\b")
 COMPARED = re.compile(rf"{LENGTH} (?:==|!=|<=?|>=?|%) {NUMBER}|\b{NUMBER} (?:==|!=|<=?|>=?) [^&|]*{LENGTH}|\bmatch [^{{]*{LENGTH} \{{|\bmatches!\([^,]*{LENGTH},")
 
 
@@ -68,6 +69,12 @@ def is_plain(room):
     return "::MAX" not in room and all(TERM.fullmatch(term) for term in re.sub(r"\.saturating_add\((\w+)\)", r" + \1", room).split(" + "))
 
 
+def is_small(word):
+    """Whether a word is a number of at most 32 MiB."""
+    digits = re.sub(r"[ui](?:8|16|32|64|128|size)$", "", word.replace("_", ""))
+    return re.fullmatch(r"\d+|0[xob][\da-fA-F]+", digits) is not None and int(digits, 0) <= MOST
+
+
 def functions(path):
     """The text of each function of a file, without comments and contracts."""
     bodies = {}
@@ -87,6 +94,8 @@ def wrong_rooms(body, values):
                 yield f"room for `{room}`, which is over 32 MiB or unknown"
     if found and PRODUCT.search(body):
         yield f"a product beside a request for room: `{PRODUCT.search(body).group()}`"
+    if found:
+        yield from (f"a number over 32 MiB beside a request for room: `{word}`" for word in HUGE.findall(body) if not is_small(word))
     if found and COMPARED.search(body):
         yield f"a length that is compared with a number beside a request for room: `{COMPARED.search(body).group()}`"
 
