@@ -1,6 +1,6 @@
 """Counts instructions, which don't change with the load of a machine: a head's end is found in one pass however the head is cut, an order of rows costs
-little beside their closure, a push makes its index and each digest once, a rebase reads a state and makes its index once, and a query finds
-an address without a look at each instance."""
+little beside their closure, a push makes its index and each digest once, a rebase reads a state and makes its index once, a journal in
+pieces is read once, and a query finds an address without a look at each instance."""
 import base64
 import hashlib
 import os
@@ -10,7 +10,9 @@ import struct
 import subprocess
 import sys
 
+import folders
 from checking import SECONDS, checks_in, expect, run_checks
+from folder_program import FOLDER_PROGRAM, STATUSES
 from journal_reader import base_text, push_content, record_text
 from repository import TOP
 from sample_states import chain, dense, written
@@ -82,12 +84,28 @@ def rebased(*states):
 
 
 def check_a_rebase_reads_a_state_once_and_makes_its_index_once():
-    # It costs what a push of the state does, and the text of the base. One more index costs a third of the dense one's push, and one more
-    # document two thirds of either.
+    # It costs as much as a push of the state, and the text of the base. One more index costs a third of the push of the dense state, and one
+    # more document two thirds of that or more.
     for state, most in ((dense(2_048), 1.2), (written(500, 10), 1.5)):
         push = counted(request_text("POST", "/state/a", state)) - counted(b"")
         times = (rebased(state) - rebased()) / push
         expect(0.5 < times < most, True, f"{times:.2f} times what a push costs")
+
+
+def listed(*states):
+    """The instructions of `tfstatectl history` over a journal that pushes these states."""
+    records = b"".join(record_text(3, b"a", push_content(b"", state)) for state in states)
+    folder = folders.fresh(n1=b"TFJ2\n" + base_text(0, []) + records)
+    ran = subprocess.run([*CALLGRIND, FOLDER_PROGRAM, "history", folder, "a", "--json"], capture_output=True, timeout=2 * SECONDS, check=False)
+    expect(ran.returncode, 0 if states else STATUSES["NoName"], ran.stderr[-300:])
+    return collected(ran.stderr)
+
+
+def check_a_journal_in_pieces_is_read_once():
+    state = written(500, 10)
+    push = counted(request_text("POST", "/state/a", state)) - counted(b"")
+    times = (listed(state) - listed()) / push
+    expect(0.5 < times < 1.2, True, f"{times:.2f} times what a push costs")
 
 
 def check_a_query_finds_an_address_without_a_look_at_each_instance():
