@@ -1,6 +1,7 @@
 """Counts instructions, which don't change with the load of a machine: a head's end is found in one pass however the head is cut, an order of rows costs
 little beside their closure, a push makes its index and each digest once, a rebase reads a state and makes its index once, a journal in
-pieces is read once, and a query finds an address without a look at each instance."""
+pieces is read once, a query finds an address without a look at each instance, and writes addresses that follow one another from
+the list that the version keeps."""
 import base64
 import hashlib
 import os
@@ -15,7 +16,7 @@ from checking import SECONDS, checks_in, expect, run_checks
 from folder_program import FOLDER_PROGRAM, STATUSES
 from journal_reader import base_text, push_content, record_text
 from repository import TOP
-from sample_states import chain, dense, written
+from sample_states import chain, dense, resource, text_of, written
 from serve_program import fresh, preloaded
 from stdio_program import PROGRAM, request_text
 
@@ -112,6 +113,18 @@ def check_a_query_finds_an_address_without_a_look_at_each_instance():
     push, query = request_text("POST", "/state/a", chain(SIZE)), request_text("GET", f"/impact/a/any?of=t.r{SIZE - 1}")
     each = (counted(push + query * 11) - counted(push + query)) / 10
     expect(0 < each < 20 * SIZE, True, f"{each:,.0f} instructions a query over {SIZE:,} instances")
+
+
+def each_answer(depends):
+    """The instructions of a query whose answer has 2,000 of 4,000 instances: those with these numbers."""
+    texts = [resource(f"r{number}", [{"dependencies": ["t.source"] if depends(number) else []}]) for number in range(1_000, 5_000)]
+    push, query = request_text("POST", "/state/a", text_of([resource("source", [{}]), *texts])), request_text("GET", "/impact/a/any?of=t.source")
+    return (counted(push + query * 11) - counted(push + query)) / 10
+
+
+def check_addresses_that_follow_one_another_are_written_from_the_list():
+    in_a_row, every_other = each_answer(lambda number: number < 3_000), each_answer(lambda number: number % 2 == 0)
+    expect(0 < 2 * in_a_row < every_other, True, f"{in_a_row:,.0f} instructions in a row, {every_other:,.0f} of every other instance")
 
 
 if __name__ == "__main__":
