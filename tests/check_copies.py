@@ -99,13 +99,14 @@ def copies_of(source, target, wanted, moves):
 
 def check_copies_beside_compactions_all_end_well():
     source = fresh(n1=EMPTY)
-    server = Serving(source, "--compact-entries", "2").listens()
+    server = Serving(source, "--compact-entries", "4").listens()
     pushers, targets = [Pusher(server, f"n{number}", b"y" * 2000) for number in range(2)], [fresh() for _ in range(4)]
-    threads = [threading.Thread(target=pusher.push_until_gone) for pusher in pushers]
+    # A server that compacts all the time would retire more journals than are copied meanwhile.
+    threads = [threading.Thread(target=pusher.push_until_gone, args=(0.05,)) for pusher in pushers]
     for thread in threads:
         thread.start()
     try:
-        ends = at_once(lambda target: copies_of(source, target, COPIES // 4, 2), targets)
+        ends = at_once(lambda target: copies_of(source, target, COPIES // 4, 8), targets)
     finally:
         server.kill()
     for thread in threads:

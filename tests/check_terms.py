@@ -53,11 +53,12 @@ class Pusher:
                 self.connection.close()
         raise Lost(f"{self.name}: {TRIES} tries of serial {self.acknowledged + 1} failed")
 
-    def push_until_gone(self):
-        """Pushes until the server is gone."""
+    def push_until_gone(self, pause=0):
+        """Pushes until the server is gone, with a pause after each push."""
         try:
             while True:
                 self.push()
+                time.sleep(pause)
         except Lost:
             self.connection.close()
         except AssertionError as error:
