@@ -6,13 +6,13 @@ import sys
 from datetime import datetime, timezone
 from pathlib import Path
 
-sys.path.append(str(Path(__file__).resolve().parent.parent / "tests"))
+sys.path += [str(Path(__file__).resolve().parent.parent / folder) for folder in ("tools", "tests/support", "tests/models")]
 
 from journal_reader import base_text, push_content, record_text
 from repository import TOP
 
 CRATE = TOP / "crates" / "tfs_bench"
-PROGRAM = CRATE / "out" / "tfs_bench"
+PROGRAM = Path(os.environ.get("TFS_BENCH", CRATE / "out" / "tfs_bench"))
 CPUS = ("x86-64-v2", "x86-64-v3")
 VALGRIND = shutil.which("valgrind")
 CALLGRIND = [VALGRIND, "--tool=callgrind", "--callgrind-out-file=/dev/null"]

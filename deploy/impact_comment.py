@@ -65,7 +65,7 @@ def ask(backend, addresses):
 
 
 def listed(title, addresses):
-    """A list that is folded, and cut where it is long."""
+    """A folded list, cut if it is long."""
     lines = [f"<details><summary>{title}: {len(addresses)}</summary>", ""]
     lines += [f"- `{address}`" for address in addresses[:SHOWN]]
     if len(addresses) > SHOWN:

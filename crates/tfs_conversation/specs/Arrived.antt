@@ -1,7 +1,8 @@
--- What comes next of the input of a conversation.
+-- The next input of a conversation.
 use Rattle.std.specs.Prelude.{◌≡◌, ◌⊎◌, ℕ, Option, Some, None, List, [], drop}
+use Rattle.tfs_framing.specs.Decoder.{HasNoRefusal}
 use Rattle.tfs_framing.specs.Framing.{BeginsWith, IsUnfinished, framing_refusal}
-use Rattle.tfs_conversation.specs.Conversation.{MayGoOn, IsReadThrough}
+use Rattle.tfs_conversation.specs.Conversation.{IsReadThrough}
 use Rattle.tfs_conversation.specs.Turns.{FailsReading}
 use Rattle.tfs_conversation.specs.declared.input.Arrived.{Arrived}
 use Rattle.tfs_conversation.specs.declared.ended.Ended.{Ended}
@@ -9,27 +10,27 @@ use Rattle.tfs_conversation.specs.declared.ended.Ended.TheVariants.{Clean, Cut}
 use Rattle.tfs_http.specs.declared.fault.ServeFault.{ServeFault}
 use Rattle.tfs_http.specs.declared.fault.ServeFault.TheVariants.{NoMemory}
 
--- The input has ended so: with no bytes, or inside a message.
+-- The input ended between messages or inside one.
 abbrev pub EndsSo : List ℕ → Ended → Type 0
 EndsSo bytes ended = ((ended ≡ Clean) × (bytes ≡ [])) ⊎ ((ended ≡ Cut) × ¬ (bytes ≡ []) × IsUnfinished bytes)
 
--- This comes of the bytes, and so many are left.
+-- The next input of the bytes, and what is left of them.
 abbrev pub Arrives : List ℕ → List ℕ → Arrived → Type 0
 Arrives bytes left (Arrived.Message r) = (used : ℕ) × BeginsWith bytes r used × (left ≡ drop used bytes)
 Arrives bytes left (Arrived.Refused refusal) = framing_refusal bytes refusal
 Arrives bytes left (Arrived.Ended ended) = EndsSo bytes ended
 
--- This comes of the bytes, or else they are all left.
+-- The same, or all are left.
 abbrev pub ArrivesOrStays : List ℕ → List ℕ → Option Arrived → Type 0
 ArrivesOrStays bytes left None = left ≡ bytes
 ArrivesOrStays bytes left (Some arrived) = Arrives bytes left arrived
 
--- The reader is at its end where the input has ended.
+-- At the end of the input, so is the reader.
 abbrev pub EndsThere : Option (List ℕ) → Arrived → Type 0
 EndsThere reader (Arrived.Message r) = Unit {0}
 EndsThere reader (Arrived.Refused refusal) = Unit {0}
 EndsThere reader (Arrived.Ended ended) = IsReadThrough ended reader
 
--- A fault came while more was read, or memory was refused, of bytes that have no refusal.
+-- A fault while reading unfinished bytes, or for lack of memory.
 abbrev pub BreaksThere : List ℕ → ServeFault → ℕ → ℕ → Type 0
-BreaksThere bytes fault before after = (IsUnfinished bytes × FailsReading fault before after) ⊎ ((fault ≡ NoMemory) × MayGoOn bytes)
+BreaksThere bytes fault before after = (IsUnfinished bytes × FailsReading fault before after) ⊎ ((fault ≡ NoMemory) × HasNoRefusal bytes)

@@ -1,4 +1,4 @@
--- The step of a desk over a table.
+-- A desk over a table.
 use Rattle.std.specs.Prelude.{◌≡◌, ◌≢◌, ◌<◌, ◌≤◌, length, false, None}
 use Rattle.std.specs.Io.KnownBytes.{Appends}
 use Rattle.tfs_rules.specs.History.{state_of}
@@ -12,7 +12,7 @@ use Rattle.tfs_calls.specs.Reply.{ReplyValue, done, state, impact, refused}
 use Rattle.tfs_calls.specs.Transition.{TableModel, Answers}
 use Rattle.tfs_table.specs.Table.{TableValue, model_of, IsSameTable, IsFault}
 
--- An entry was accepted: the journal has it at its end, and the sink was told its record.
+-- The journal and the sink got an entry.
 pub record IsEntered (old new : TableValue) : Type 0 where
   pub entry : EntryValue
   pub journal : new.journal ≡ with_entry old.journal entry
@@ -20,23 +20,22 @@ pub record IsEntered (old new : TableValue) : Type 0 where
   pub tells : new.tells ≡ old.tells
   pub told : Appends old.told new.told (record_text entry)
 
--- What a reply tells of the table and its sink: after an acceptance the entry is in both; else nothing has changed, but for a fault of
--- the sink, after which the table is stopped.
+-- What a reply says of the table: an entry is in the journal and the sink; or nothing has changed,
+-- unless the sink failed, which stops the table.
 abbrev pub Leaves : ReplyValue → TableValue → TableValue → Type 0
 Leaves (done position) old new = IsEntered old new
 Leaves (state d) old new = IsSameTable old new
 Leaves (impact d chosen position) old new = IsSameTable old new
 Leaves (refused refusal) old new = (refusal ≢ journal_fault → IsSameTable old new) × (refusal ≡ journal_fault → IsFault old new)
 
--- Over a table a call may lack memory: a read and a query where the name has a state, the query with 1 to 64 texts; a change that is read
--- without memory only where its texts give an act, and the table isn't stopped.
+-- Calls that may lack memory: reads and queries (1 to 64 texts) of a state; and changes, if their
+-- body takes memory, or gives an act and the table isn't stopped.
 abbrev pub CallMayLackMemory : TableModel → Call → Type 0
 CallMayLackMemory m (Read name) = state_of (acts_of name m.journal) ≢ None
 CallMayLackMemory m (Impact name query) = (state_of (acts_of name m.journal) ≢ None) × (0 < length query.texts) × (length query.texts ≤ 64)
 CallMayLackMemory m (Change name raw) = TakesNoMemory raw → (act_of raw ≢ None) × (m.stopped ≡ false)
 
--- One step of a desk over a table is the table's transition, and leaves the table as the reply tells. Want of memory is told only where the
--- call may lack it.
+-- One step is the table's transition, and lacks memory only if its call may.
 pub record AnswersCall (old : TableValue) (call : Call) (reply : ReplyValue) (new : TableValue) : Type 0 where
   pub answered : Answers (model_of old) call reply (model_of new)
   pub memory : reply ≡ refused out_of_memory → CallMayLackMemory (model_of old) call

@@ -1,4 +1,4 @@
--- The messages of a list of bytes one after another, and how they stop. There is no desk in it.
+-- The messages in a list of bytes, without any desk.
 use Rattle.std.specs.Prelude.{◌≡◌, ℕ, Bool, Option, Some, None, IfSome, List, [], ◌∷◌, ◌++◌, true, false}
 use Rattle.std.specs.List.{list_any}
 use Rattle.tfs_calls.specs.declared.refusal.Refusal.{Refusal}
@@ -7,28 +7,28 @@ use Rattle.tfs_framing.specs.Framing.{ReadsMessage, IsUnfinished, framing_refusa
 use Rattle.tfs_conversation.specs.declared.ended.Ended.{Ended}
 use Rattle.tfs_conversation.specs.declared.ended.Ended.TheVariants.{Clean, Cut, Asked, Refused}
 
--- The bytes are the message of a request, and what comes behind it.
+-- A message and the bytes after it.
 pub record IsMessage (bytes : List ℕ) (r : RequestValue) (behind : List ℕ) : Type 0 where
   pub frame : List ℕ
   pub parts : bytes ≡ frame ++ behind
   pub reads : ReadsMessage frame r
 
--- One of the requests asks to close (RFC 9112, section 9.6).
+-- Returns whether a request asks to close (RFC 9112, section 9.6).
 abbrev pub one_asks : List RequestValue → Bool
 one_asks requests = list_any (λ r. r.close) requests
 
--- The bytes are the messages of the requests, none of which but the last asks to close, and a rest.
+-- The bytes are the messages of the requests, of which only the last may ask to close, and a rest.
 abbrev pub AreMessages : List ℕ → List RequestValue → List ℕ → Type 0
 AreMessages bytes [] rest = bytes ≡ rest
 AreMessages bytes (r ∷ rs) rest = (behind : List ℕ) × IsMessage bytes r behind × (r.close ≡ true → rs ≡ []) × AreMessages behind rs rest
 
--- Requests, the bytes behind their messages, and the refusal of those, if they were refused.
+-- Requests, the bytes after their messages, and the refusal of those, if any.
 pub record Messages : Type 0 where
   pub requests : List RequestValue
   pub rest : List ℕ
   pub refusal : Option Refusal
 
--- A rest behind messages is refused so, or wasn't looked at; behind a request that asks to close nothing is refused.
+-- The rest is refused so, if it was looked at, after no request to close.
 abbrev pub IsRefused : Bool → List ℕ → Option Refusal → Type 0
 IsRefused asked rest refusal = IfSome refusal (λ r. (asked ≡ false) × framing_refusal rest r)
 
@@ -37,8 +37,8 @@ pub record HasMessages (bytes : List ℕ) (m : Messages) : Type 0 where
   pub messages : AreMessages bytes m.requests m.rest
   pub refused : IsRefused (one_asks m.requests) m.rest m.refusal
 
--- How messages stop: after one that asks to close, whatever is left; or without one, where no bytes are left, inside a message, or
--- with the refusal of what is left.
+-- How messages stop: after one that asks to close; or else at the end, inside a message, or with a
+-- refusal.
 abbrev pub StopsAt : Bool → List ℕ → Option Refusal → Ended → Type 0
 StopsAt asked rest refusal Clean = (asked ≡ false) × (rest ≡ []) × (refusal ≡ None)
 StopsAt asked rest refusal Cut = (asked ≡ false) × ¬ (rest ≡ []) × IsUnfinished rest × (refusal ≡ None)

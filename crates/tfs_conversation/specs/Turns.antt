@@ -1,23 +1,20 @@
--- The turns of a conversation: what was done from one moment to another.
+-- The turns of a conversation.
 use Rattle.std.specs.Prelude.{◌≡◌, ◌<◌, ◌+◌, ◌-◌, ◌*◌, ℕ, List, ◌++◌, length, Option, None, false}
 use Rattle.std.specs.Io.KnownBytes.{Appends, Consumes}
-use Rattle.tfs_calls.specs.declared.call.Call.{Call}
-use Rattle.tfs_calls.specs.Reply.{ReplyValue}
-use Rattle.tfs_conversation.specs.Conversation.{Exchange, requests_of, Course, replies_text, TakesCourse, IsReadThrough, ComesInReads, Converses, BreaksOff}
+use Rattle.tfs_conversation.specs.Conversation.{Step, Exchange, requests_of, Course, replies_text, TakesCourse, IsReadThrough, ComesInReads, Converses, BreaksOff}
 use Rattle.tfs_conversation.specs.Messages.{one_asks}
 use Rattle.tfs_conversation.specs.declared.ended.Ended.{Ended}
 use Rattle.tfs_http.specs.declared.fault.ServeFault.{ServeFault}
 use Rattle.tfs_http.specs.declared.fault.ServeFault.TheVariants.{Read, Write, TooManyReads, NoMemory}
 
--- A fault that comes while more is read, between two counts of reads.
+-- A fault while reading, between two counts of reads.
 abbrev pub FailsReading : ServeFault → ℕ → ℕ → Type 0
 FailsReading Read before after = before < after
 FailsReading Write before after = ⊥
 FailsReading TooManyReads before after = after ≡ 1048576
 FailsReading NoMemory before after = Unit {0}
 
--- What a conversation has at a moment: its desk, the bytes that the reader has left and the writer holds, how many reads were
--- made, and the input that isn't used yet.
+-- A conversation at a moment: desk, unread and written bytes, reads, and unused input.
 pub record Moment (S : Type 0) : Type 0 where
   pub desk : S
   pub reader : Option (List ℕ)
@@ -25,49 +22,49 @@ pub record Moment (S : Type 0) : Type 0 where
   pub reads : ℕ
   pub input : List ℕ
 
--- The moment that has these five.
+-- The moment of these.
 abbrev pub moment : {S : Type 0} → S → Option (List ℕ) → Option (List ℕ) → ℕ → List ℕ → Moment S
 moment desk reader writer reads input = record { desk = desk; reader = reader; writer = writer; reads = reads; input = input }
 
--- From one moment to another these bytes were read and this text was written.
+-- These bytes were read and this text written.
 pub record Moved {S : Type 0} (from to : Moment S) (bytes text : List ℕ) : Type 0 where
   pub consumed : Consumes from.reader to.reader bytes
   pub appended : Appends from.writer to.writer text
   pub came : ComesInReads bytes from.reads to.reads
 
--- The course of exchanges that no refusal ends.
+-- A course without a refusal.
 abbrev pub course_of : List Exchange → List ℕ → Course
 course_of exchanges rest = record { exchanges = exchanges; rest = rest; refusal = None }
 
--- So far the bytes were served, up to a rest, and no request asked to close.
-pub record HasServed {S : Type 0} (step : S → Call → ReplyValue → S → Type 0) (old new : S) (bytes rest text : List ℕ) : Type 0 where
+-- The bytes were served up to a rest, and no request asked to close.
+pub record HasServed {S : Type 0} (step : Step S) (old new : S) (bytes rest text : List ℕ) : Type 0 where
   pub exchanges : List Exchange
   pub takes : TakesCourse step old new bytes (course_of exchanges rest)
   pub goes_on : one_asks (requests_of exchanges) ≡ false
   pub text_is : text ≡ replies_text exchanges
 
--- More was read, messages were answered, and the conversation goes on with what is left.
-pub record Went {S : Type 0} (step : S → Call → ReplyValue → S → Type 0) (from to : Moment S) : Type 0 where
+-- The conversation continues.
+pub record Went {S : Type 0} (step : Step S) (from to : Moment S) : Type 0 where
   pub more : List ℕ
   pub text : List ℕ
   pub moved : Moved from to more text
   pub served : HasServed step from.desk to.desk (from.input ++ more) to.input text
 
 -- The conversation has ended so.
-pub record HasEnded {S : Type 0} (step : S → Call → ReplyValue → S → Type 0) (from to : Moment S) (ended : Ended) : Type 0 where
+pub record HasEnded {S : Type 0} (step : Step S) (from to : Moment S) (ended : Ended) : Type 0 where
   pub more : List ℕ
   pub text : List ℕ
   pub moved : Moved from to more text
   pub converses : Converses step from.desk to.desk (from.input ++ more) text ended
   pub through : IsReadThrough ended to.reader
 
--- A fault broke the conversation off.
-pub record HasBroken {S : Type 0} (step : S → Call → ReplyValue → S → Type 0) (from to : Moment S) (fault : ServeFault) : Type 0 where
+-- A fault broke it off.
+pub record HasBroken {S : Type 0} (step : Step S) (from to : Moment S) (fault : ServeFault) : Type 0 where
   pub more : List ℕ
   pub text : List ℕ
   pub moved : Moved from to more text
   pub breaks : BreaksOff step from.desk to.desk (from.input ++ more) text fault from.reads to.reads
 
--- A bound on the turns to come: each reads, or uses a byte at least.
+-- A bound on the turns to come: each reads, or uses a byte.
 abbrev pub work_left : ℕ → List ℕ → ℕ
 work_left reads input = (1048576 - reads) * (65536 + 1) + length input

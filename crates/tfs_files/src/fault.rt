@@ -71,11 +71,13 @@ pub enum Fault {
     SyncFault,
     #[error("OldAhead: it has changes that the folder's newest journal lacks. Stop what wrote it, and move away the one that isn't to count")]
     OldAhead,
-    #[error("OtherIdentity: it is of another folder, by the file identity. Bring back the folder's own, and copy into a new folder. For a journal that is meant to count, remove all lines but the first of that file")]
+    #[error("OtherIdentity: it is of another folder, by the file identity. Bring back the folder's own, and copy into a new folder. \
+For a journal that is meant to count, remove all lines but the first of that file")]
     OtherIdentity,
     #[error("BadIdentity: it isn't 32 hexadecimal digits and lines of journals. Restore it from a copy, or remove it")]
     BadIdentity,
-    #[error("Replaced: the folder, its journal or its lock file isn't the one any more that this server opened. Stop what moved it, look which journal has the last position, and start again")]
+    #[error("Replaced: the folder, its journal or its lock file isn't the one any more that this server opened. \
+Stop what moved it, look which journal has the last position, and start again")]
     Replaced,
     #[error("AcceptFault: the listener gives no connections any more. Start again")]
     AcceptFault,

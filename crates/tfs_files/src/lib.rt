@@ -10,6 +10,7 @@ mod guard;
 mod identity;
 mod late;
 mod marks;
+mod naming;
 mod next;
 mod old;
 mod own;
@@ -22,15 +23,16 @@ mod start;
 pub use copies::{Gap, Originals, below, name_parts, old_file, read_originals, write_parts};
 pub use fault::{End, Fault, Place, end_by, status_of};
 pub use first::{FIRST_NUMBER, make_first};
-pub use folder::{
-    files_of, journal_path, numbers_here, numbers_in, old_numbers, refuse_served, sync_names,
-};
+pub use folder::{files_of, journal_path, numbers_here, numbers_in, old_numbers, refuse_served};
 pub use guard::{FolderLock, ServedJournal, lock_folder};
 pub use marks::MOST_MARKED;
-pub use next::{JournalSink, part_path, put_away, remove_part, sink_of, sync_part};
+pub use naming::{
+    DurableJournal, FolderFiles, InPlace, NamingFault, place, place_copy, place_new, retire,
+};
+pub use next::{JournalSink, part_path, remove_part, sink_of};
 pub use old::remove_expired;
-pub use own::{mark_copies, mark_grown, mark_part, refuse_other_copies, refuse_other_original};
+pub use own::{mark_copies, mark_grown, refuse_other_copies, refuse_other_original};
 pub use position_file::{PositionFile, least_position, raised};
 pub use retention::{Limits, OldFile, Retention, expired};
 pub use stack::{LEAST_STACK, refuse_small_stack};
-pub use start::{Start, started};
+pub use start::{Made, Start, started};

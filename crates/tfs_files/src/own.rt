@@ -90,7 +90,7 @@ fn completed(rt: &HostRuntime, folder: &str, chosen: Option<&File>, number: u64)
 }
 
 /// Marks a part before it gets the name of a journal's number, durably. The marks of the newest journals stay.
-pub fn mark_part(rt: &HostRuntime, folder: &str, part: u64, number: u64) -> io::Result<()> {
+pub(crate) fn mark_part(rt: &HostRuntime, folder: &str, part: u64, number: u64) -> io::Result<()> {
     let mut identity = new_identity(rt, folder)?;
     identity.keep(newest_of(rt, folder)?.as_slice());
     let part = part_path(rt, folder, part)?;

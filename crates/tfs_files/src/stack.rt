@@ -7,7 +7,7 @@ use crate::fault::Fault;
 use libc::types::rlimit;
 use libc::{RLIMIT_STACK, getrlimit};
 
-/// The least stack of a thread, in bytes, on which each request fits (tests/check_serve.py).
+/// The least stack of a thread, in bytes, on which each request fits (tests/test_serve.py).
 pub const LEAST_STACK: u64 = 524_288;
 
 /// Refuses a limit of stacks below the least one. The C library gives each thread a stack of the limit that a program is started with.

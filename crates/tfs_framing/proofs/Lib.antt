@@ -9,13 +9,13 @@ pub mod PartLemmas
 pub mod TrailerLemmas
 pub mod WalkLemmas
 pub mod PassedLemmas
-pub mod DecodedLemmas
 pub mod KnownLemmas
 pub mod LengthLemmas
 pub mod FramingLemmas
 pub mod WantedLemmas
 pub mod MessageLemmas
-pub mod SizedLemmas
+pub mod OpensLemmas
+pub mod DecodedLemmas
 pub mod EachPiece
 pub mod EachHead
 pub mod EachEnd
@@ -23,6 +23,7 @@ pub mod EachChunk
 pub mod EachMessage
 pub mod ConnectionLemmas
 pub mod FieldLemmas
+pub mod DigestLemmas
 pub mod PrefixLemmas
 mod Walks
 pub mod DecoderLemmas

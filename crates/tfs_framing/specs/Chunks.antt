@@ -1,4 +1,4 @@
--- Bodies in chunks (RFC 9112, section 7.1): chunks, a last line, a trailer; and what can't be one.
+-- Chunked bodies (RFC 9112, section 7.1), and their flaws.
 use Rattle.std.specs.Prelude.{◌≡◌, ◌≤◌, ◌<◌, ◌+◌, ◌⊎◌, ℕ, List, ◌∷◌, ◌++◌, length, All}
 use Rattle.std.specs.List.{flat_map}
 use Rattle.httparse.specs.Ascii.{line_feed}
@@ -7,16 +7,16 @@ use Rattle.tfs_framing.specs.Head.{IsMessageHead}
 use Rattle.tfs_framing.specs.declared.chunks.Flaw.{Flaw}
 use Rattle.tfs_framing.specs.declared.chunks.Flaw.TheVariants.{TooLarge, Unreadable}
 
--- A chunk: its line, and its bytes.
+-- A chunk.
 pub record Chunk : Type 0 where
   pub line : ChunkLine
   pub bytes : List ℕ
 
--- How it is written: the line, the bytes, CR LF.
+-- Its text.
 abbrev pub print_chunk : Chunk → List ℕ
 print_chunk c = print_chunk_line c.line ++ (c.bytes ++ print_end crlf)
 
--- How chunks are written, one after the other.
+-- The text of chunks.
 abbrev pub print_chunks : List Chunk → List ℕ
 print_chunks chunks = flat_map print_chunk chunks
 
@@ -29,24 +29,24 @@ pub record IsShortLine (line : ChunkLine) : Type 0 where
   pub is_line : IsChunkLine line
   pub short : length (print_chunk_line line) ≤ 1024
 
--- The chunk has bytes, as many as its line says.
+-- The chunk isn't empty, and has the size in its line.
 pub record IsChunk (c : Chunk) : Type 0 where
   pub line : IsShortLine c.line
   pub size : chunk_size c.line ≡ length c.bytes
   pub some : 0 < length c.bytes
 
--- A body has at most 65,536 chunks, of at most 16 MiB together.
+-- At most 65,536 chunks, with at most 16 MiB.
 pub record AreChunks (chunks : List Chunk) : Type 0 where
   pub each : All IsChunk chunks
   pub few : length chunks ≤ 65536
   pub small : length (joined chunks) ≤ 16777216
 
--- A trailer ends with its first empty line, which may come at once, and has at most 16,384 bytes.
+-- A trailer ends with its first empty line, within 16,384 bytes.
 pub record IsTrailer (trailer : List ℕ) : Type 0 where
   pub is_head : IsMessageHead (line_feed ∷ trailer)
   pub short : length trailer ≤ 16384
 
--- The coded bytes are chunks, a line of size 0 and a trailer, and the chunks' bytes are the body.
+-- The coded bytes are the body's chunks, a line of size 0 and a trailer.
 pub record SpellsChunks (coded body : List ℕ) : Type 0 where
   pub chunks : List Chunk
   pub are : AreChunks chunks
@@ -58,12 +58,12 @@ pub record SpellsChunks (coded body : List ℕ) : Type 0 where
   pub parts : coded ≡ print_chunks chunks ++ (print_chunk_line last ++ trailer)
   pub is_body : body ≡ joined chunks
 
--- A line is there, or 1,024 bytes without its end, and no chunk line comes first.
+-- A whole line, or 1,024 bytes without a line end, that is no chunk line.
 pub record HasBadLine (left : List ℕ) : Type 0 where
   pub there : (1024 ≤ length left) ⊎ ((before : List ℕ) × (after : List ℕ) × (left ≡ before ++ line_feed ∷ after))
   pub none : (line : ChunkLine) (after : List ℕ) → IsShortLine line → ¬ (left ≡ print_chunk_line line ++ after)
 
--- Behind a chunk's bytes stand two others than CR LF.
+-- A chunk's bytes are followed by two bytes other than CR LF.
 pub record HasBadEnd (size : ℕ) (after : List ℕ) : Type 0 where
   pub bytes : List ℕ
   pub end : List ℕ
@@ -73,25 +73,25 @@ pub record HasBadEnd (size : ℕ) (after : List ℕ) : Type 0 where
   pub two : length end ≡ 2
   pub other : ¬ (end ≡ print_end crlf)
 
--- No trailer ends in the first 16,384 bytes, which are there.
+-- At least 16,384 bytes without the end of a trailer.
 pub record HasLongTrailer (after : List ℕ) : Type 0 where
   pub long : 16384 ≤ length after
   pub none : (trailer rest : List ℕ) → IsTrailer trailer → ¬ (after ≡ trailer ++ rest)
 
--- A line of this size can't come behind so many chunks with so many bytes: with it the body is too large; else there is one
--- chunk too many, or the chunk has a bad end, or the trailer is too long.
+-- After so many chunks with so many bytes, a line of this size is a flaw: too many bytes or chunks,
+-- a bad end, or a long trailer.
 abbrev pub IsFlawBehind : ℕ → ℕ → ℕ → List ℕ → Flaw → Type 0
 IsFlawBehind count total size after TooLarge = 16777216 < total + size
 IsFlawBehind count total size after Unreadable = (total + size ≤ 16777216)
     × (((0 < size) × (count ≡ 65536)) ⊎ (((0 < size) × (count < 65536) × HasBadEnd size after) ⊎ ((size ≡ 0) × HasLongTrailer after)))
 
--- What comes behind so many chunks with so many bytes can't be there: it is no line, or a line that can't come there.
+-- After so many chunks with so many bytes comes no line, or a line that is a flaw.
 abbrev pub IsFlawAt : ℕ → ℕ → List ℕ → Flaw → Type 0
 IsFlawAt count total left flaw = ((flaw ≡ Unreadable) × HasBadLine left)
     ⊎ ((line : ChunkLine) × (after : List ℕ) × IsShortLine line × (left ≡ print_chunk_line line ++ after)
     × IsFlawBehind count total (chunk_size line) after flaw)
 
--- The bytes are chunks, and behind them something that can't be there.
+-- Chunks, followed by a flaw.
 pub record HasFlaw (rest : List ℕ) (flaw : Flaw) : Type 0 where
   pub chunks : List Chunk
   pub are : AreChunks chunks

@@ -9,24 +9,24 @@ use Rattle.tfs_framing.specs.Fields.{fields_of, values_named, lower}
 abbrev pub comma : ℕ
 comma = 44
 
--- A byte more at the front of the first part.
+-- Puts a byte before the first part.
 abbrev pub lengthen : ℕ → List (List ℕ) → List (List ℕ)
 lengthen byte [] = (byte ∷ []) ∷ []
 lengthen byte (part ∷ parts) = (byte ∷ part) ∷ parts
 
--- The parts of a list's text, which stand between its commas (RFC 9110, section 5.6.1).
+-- The parts between the commas of a list (RFC 9110, section 5.6.1).
 unfoldable pub parts_of : List ℕ → List (List ℕ)
 parts_of [] = [] ∷ []
 parts_of (byte ∷ text) = if byte == comma then [] ∷ parts_of text else lengthen byte (parts_of text)
 
--- The part is `close`, in any case, with spaces and tabs around it.
+-- Returns whether the part is `close`, in any case, within spaces and tabs.
 abbrev pub is_close : List ℕ → Bool
 is_close part = bytes_eq (lower (trim_ows part)) (codes "close")
 
--- A value of a `Connection` field lists `close`.
+-- Returns whether the value of a `Connection` field lists `close`.
 abbrev pub lists_close : List ℕ → Bool
 lists_close value = list_any is_close (parts_of value)
 
--- Version 1.0 ends after one request, and a later one where it is asked to (RFC 9112, section 9.3).
+-- Version 1.0 ends after one request, others if asked to (RFC 9112, section 9.3).
 abbrev pub asks_to_close : RequestHead → Bool
 asks_to_close h = h.minor == 0 || list_any lists_close (values_named (codes "connection") (fields_of h))

@@ -6,17 +6,25 @@ use Rattle.base64.specs.GeneralPurpose.{encode_of}
 use Rattle.md5.specs.Md5.{md5}
 use Rattle.httparse.specs.Grammar.{RequestHead}
 use Rattle.tfs_framing.specs.Fields.{fields_of, values_named}
+use Rattle.tfs_framing.specs.declared.fields.AskedDigest.{AskedDigest}
+use Rattle.tfs_framing.specs.declared.fields.AskedDigest.TheVariants.{Any, Text, Impossible}
 
--- The text of a body's digest: the base64 text of its MD5.
+-- The base64 text of a body's MD5.
 abbrev pub digest_text : List ℕ → List ℕ
 digest_text body = encode_of standard (md5 body)
 
--- The values of all `Content-MD5` fields fit the body: there is none, or one that is the digest's text.
+-- The body fits all `Content-MD5` values: there is none, or one, its digest.
 abbrev pub fits_values : List (List ℕ) → List ℕ → Bool
 fits_values [] body = true
 fits_values (value ∷ []) body = bytes_eq value (digest_text body)
 fits_values (value ∷ other ∷ values) body = false
 
--- The digest that the head tells, if any, is that of the body.
+-- The body fits the head.
 abbrev pub fits_digest : RequestHead → List ℕ → Bool
 fits_digest h body = fits_values (values_named (codes "content-md5") (fields_of h)) body
+
+-- The same for what is kept of a head.
+abbrev pub has_asked : AskedDigest → List ℕ → Bool
+has_asked Any body = true
+has_asked (Text text) body = bytes_eq text (digest_text body)
+has_asked Impossible body = false

@@ -1,17 +1,17 @@
--- The head of a message (RFC 9112, sections 2.2, 3 and 5): where it begins and ends, and of which grammar it is.
+-- Message heads (RFC 9112, sections 2.2, 3 and 5).
 use Rattle.std.specs.Prelude.{◌≡◌, ℕ, ◌+◌, ◌≤◌, ◌==◌, List, [], ◌∷◌, ◌++◌, length, count_by}
 use Rattle.httparse.specs.Ascii.{line_feed}
 use Rattle.httparse.specs.Grammar.{LineEnd, print_end, print_blank, RequestHead, ReadsRequest}
 
--- An empty line comes first: CR LF, or LF alone.
+-- The bytes start with CR LF or LF.
 abbrev pub StartsWithEmptyLine : List ℕ → Type 0
 StartsWithEmptyLine bytes = (end : LineEnd) × (rest : List ℕ) × (bytes ≡ print_end end ++ rest)
 
--- A line end and then an empty line come last.
+-- The bytes end with an empty line.
 abbrev pub EndsWithEmptyLine : List ℕ → Type 0
 EndsWithEmptyLine bytes = (front : List ℕ) × (end : LineEnd) × (bytes ≡ front ++ line_feed ∷ print_end end)
 
--- The bytes end with an empty line, and no shorter part of them does.
+-- Only the whole of the bytes ends with an empty line.
 pub record IsMessageHead (head : List ℕ) : Type 0 where
   pub ends : EndsWithEmptyLine head
   pub shortest : (part rest : List ℕ) → head ≡ part ++ rest → EndsWithEmptyLine part → rest ≡ []
@@ -27,11 +27,11 @@ pub record HasHead (bytes : List ℕ) (skipped : List LineEnd) (head rest : List
 abbrev pub HasNoHead : List ℕ → Type 0
 HasNoHead bytes = (skipped : List LineEnd) (head rest : List ℕ) → ¬ (HasHead bytes skipped head rest)
 
--- How many line feeds there are.
+-- The number of line feeds.
 abbrev pub line_feeds : List ℕ → ℕ
 line_feeds bytes = count_by (λ byte. byte == line_feed) bytes
 
--- The head is one of `httparse`'s grammar.
+-- The head is valid by `httparse`'s grammar.
 pub record IsHeadOf (head : List ℕ) (h : RequestHead) : Type 0 where
   pub reads : ReadsRequest head h []
   pub fields : length h.fields ≤ 64

@@ -1,4 +1,4 @@
--- What comes next in a body in chunks, of which some bytes were passed.
+-- The next part of a chunked body.
 use Rattle.std.specs.Prelude.{◌≡◌, ◌≤◌, ◌<◌, ◌+◌, ℕ, List, ◌∷◌, ◌++◌, length, Result, Ok, Err}
 use Rattle.httparse.specs.Ascii.{line_feed}
 use Rattle.httparse.specs.Grammar.{ChunkLine, print_chunk_line, chunk_size}
@@ -10,7 +10,7 @@ use Rattle.tfs_framing.specs.declared.chunks.Flaw.{Flaw}
 use Rattle.tfs_framing.specs.declared.chunks.Part.{Part}
 use Rattle.tfs_framing.specs.declared.lines.BodyLength.TheVariants.{Chunked}
 
--- The chunk line comes first, so long and of this size.
+-- The bytes begin with this chunk line.
 pub record IsLineAt (left : List ℕ) (len size : ℕ) (line : ChunkLine) : Type 0 where
   pub is_line : IsShortLine line
   pub after : List ℕ
@@ -18,7 +18,7 @@ pub record IsLineAt (left : List ℕ) (len size : ℕ) (line : ChunkLine) : Type
   pub len_is : len ≡ length (print_chunk_line line)
   pub size_is : size ≡ chunk_size line
 
--- The first so many bytes have no line feed.
+-- The first bytes, so many, have no line feed.
 pub record HasNoFeedIn (seen : ℕ) (left : List ℕ) : Type 0 where
   pub front : List ℕ
   pub rest : List ℕ
@@ -26,7 +26,8 @@ pub record HasNoFeedIn (seen : ℕ) (left : List ℕ) : Type 0 where
   pub seen_is : seen ≡ length front
   pub none : (before after : List ℕ) → ¬ (front ≡ before ++ line_feed ∷ after)
 
--- Behind so many chunks with so many bytes a chunk has begun: its line and some of its bytes were passed, and so many lack.
+-- After so many chunks with so many bytes, some bytes of one more were passed, and so many are
+-- missing.
 pub record IsBegun (count total : ℕ) (line : ChunkLine) (seen : List ℕ) (lacking : ℕ) : Type 0 where
   pub is_line : IsShortLine line
   pub size : chunk_size line ≡ length seen + lacking
@@ -34,7 +35,7 @@ pub record IsBegun (count total : ℕ) (line : ChunkLine) (seen : List ℕ) (lac
   pub few : count < 65536
   pub small : total + chunk_size line ≤ 16777216
 
--- The bytes are these chunks, perhaps a piece of one more, and what is left, of which this is known; they give this body so far.
+-- The bytes are these chunks, maybe a piece of one more, and what is left; this is their body.
 abbrev pub Stands : List ℕ → List Chunk → List ℕ → Ahead → List ℕ → Type 0
 Stands rest chunks body (Ahead.Line seen) left = (rest ≡ print_chunks chunks ++ left) × (body ≡ joined chunks) × HasNoFeedIn seen left
 Stands rest chunks body (Ahead.Bytes lacking) left = (line : ChunkLine) × (seen : List ℕ)
@@ -43,7 +44,7 @@ Stands rest chunks body (Ahead.Bytes lacking) left = (line : ChunkLine) × (seen
 Stands rest chunks body (Ahead.Trailer len passed) left = (rest ≡ print_chunks chunks ++ left) × (body ≡ joined chunks)
     × (line : ChunkLine) × (at : IsLineAt left len 0 line) × HasNoEndYet passed (line_feed ∷ at.after)
 
--- The same of so many chunks.
+-- The same for so many chunks.
 pub record IsPassed (rest : List ℕ) (count : ℕ) (body : List ℕ) (ahead : Ahead) (left : List ℕ) : Type 0 where
   pub chunks : List Chunk
   pub are : AreChunks chunks
@@ -54,7 +55,7 @@ pub record IsPassed (rest : List ℕ) (count : ℕ) (body : List ℕ) (ahead : A
 abbrev pub EndsWith : List ℕ → List ℕ → Type 0
 EndsWith bytes end = (front : List ℕ) × (bytes ≡ front ++ end)
 
--- This comes next. Where more is wanted, fewer bytes are left than a chunk line and a trailer may have together.
+-- The next part. If more bytes are needed, few are left.
 abbrev pub IsPart : List ℕ → ℕ → List ℕ → List ℕ → Result Part Flaw → Type 0
 IsPart rest count body left (Ok (Part.Wanted bytes ahead after)) = EndsWith left after.now × IsPassed rest count (body ++ bytes.now) ahead after.now
     × HasNoBody Chunked rest × (length after.now < 17408)

@@ -1,11 +1,11 @@
--- A request as its reader sees it.
+-- Requests.
 use Rattle.std.specs.Prelude.{ℕ, Bool, List}
 use Rattle.httparse.specs.Grammar.{RequestHead}
 use Rattle.tfs_framing.specs.Connection.{asks_to_close}
-use Rattle.tfs_framing.specs.Digest.{fits_digest}
+use Rattle.tfs_framing.specs.Digest.{fits_digest, has_asked}
+use Rattle.tfs_framing.specs.declared.request.OpenRequest.{OpenRequest}
 
--- The method, the target and the body, as they came; whether the conversation is to end after the reply; and whether the body
--- has the digest that the head tells, if it tells one.
+-- A request, whether its connection ends, and whether its body fits its digest.
 pub record RequestValue : Type 0 where
   pub method : List ℕ
   pub target : List ℕ
@@ -13,7 +13,17 @@ pub record RequestValue : Type 0 where
   pub close : Bool
   pub intact : Bool
 
--- The request that a head and a body make.
+-- The request of a head and a body.
 abbrev pub request_of : RequestHead → List ℕ → RequestValue
 request_of h body =
     record { method = h.method; target = h.target; body = body; close = asks_to_close h; intact = fits_digest h body }
+
+-- The same for a request without its body.
+abbrev pub completed : OpenRequest → List ℕ → RequestValue
+completed o body = record {
+  method = o.method.items;
+  target = o.target.items;
+  body = body;
+  close = o.close;
+  intact = has_asked o.digest body;
+}

@@ -1,19 +1,19 @@
--- How far the end of a head was sought in bytes that have none yet.
+-- The search for the end of a head.
 use Rattle.std.specs.Prelude.{◌≡◌, ℕ, ◌<◌, ◌≤◌, List, ◌∷◌, ◌++◌, length}
 use Rattle.httparse.specs.Ascii.{line_feed}
 use Rattle.httparse.specs.Grammar.{LineEnd, print_blank}
 use Rattle.tfs_framing.specs.Head.{StartsWithEmptyLine}
 use Rattle.tfs_framing.specs.declared.head.Search.{Search}
 
--- No line feed among the first so many bytes has an empty line behind it.
+-- Of the first bytes, so many, no line feed is followed by an empty line.
 abbrev pub HasNoEndIn : ℕ → List ℕ → Type 0
 HasNoEndIn passed bytes = (before after : List ℕ) → bytes ≡ before ++ line_feed ∷ after → length before < passed → ¬ (StartsWithEmptyLine after)
 
--- Nor will one have it, whatever bytes follow.
+-- Nor will one be, whatever bytes follow.
 abbrev pub HasNoEndYet : ℕ → List ℕ → Type 0
 HasNoEndYet passed bytes = (more : List ℕ) → HasNoEndIn passed (bytes ++ more)
 
--- The bytes are empty lines and a text, in which the end of a head was sought.
+-- The bytes are empty lines and a text, which was searched so far.
 pub record IsSought (bytes : List ℕ) (search : Search) : Type 0 where
   pub lines : List LineEnd
   pub text : List ℕ

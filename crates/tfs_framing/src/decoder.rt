@@ -9,7 +9,7 @@ ghost use Rattle.tfs_framing.specs.Request.{RequestValue};
 use crate::framing::{Framed, Received, Take, frame};
 use crate::head::Search;
 use crate::over::{Over, copy_of};
-use crate::state::{State, put, step};
+use crate::progress::{Progress, put, step};
 use bytes::BytesMut;
 use std::alloc::{AllocError, Global};
 use std::marker::Model;
@@ -21,17 +21,17 @@ pub fn take(alloc: Global, bytes: &[u8]) -> Result<Take, AllocError>
     ensures memory { OnErr result ((request : RequestValue) × (used : ℕ) × BeginsWith bytes.now request used) }
 {
     match frame(alloc, bytes, Search::start())? {
-        Framed::Sought(_) | Framed::Sized(_) | Framed::Chunked(_, _, _, _) => Ok(Take::Need),
-        Framed::Got(request, used) => Ok(Take::Got(request, used)),
-        Framed::Fault(refusal) => Ok(Take::Fault(refusal)),
+        Framed::Message { request, left } => Ok(Take::Got(request, bytes.len() - left)),
+        Framed::Refused(refusal) => Ok(Take::Fault(refusal)),
+        Framed::More { .. } => Ok(Take::Need),
     }
 }
 
 /// It is fed with the bytes of a connection in any pieces, and gives the messages that they begin with, one after the other.
 #[derive(Drop)]
 pub struct RequestDecoder {
-    state: State,
-    /// The bytes that were fed and aren't used, but for those that the state keeps.
+    progress: Progress,
+    /// The bytes that were fed and aren't used, but for those that are kept there.
     unused: BytesMut,
     /// There is room for so many more.
     room: usize,
@@ -44,9 +44,15 @@ impl Model for RequestDecoder {
 
     ghost Value = { DecoderValue };
 
-    ghost view = { λ d. record { bytes = d.fed.bytes; room = d.room; unused = length d.unused.items; over = over_of d.state } };
+    ghost view = { λ d. record {
+      bytes = d.fed.bytes;
+      room = d.room;
+      unused = length d.unused.items;
+      over = over_of d.progress;
+    } };
 
-    ghost invariant = { λ d. IsAt d.fed.bytes d.state d.unused.items × HasRoomFor d.room d.state d.unused.spare };
+    ghost invariant = { λ d. IsAt d.fed.bytes d.progress d.unused.items
+        × HasRoomFor d.room d.progress d.unused.spare };
 }
 
 impl RequestDecoder {
@@ -58,7 +64,7 @@ impl RequestDecoder {
         ensures value { result ≡ record { bytes = []; room = 0; unused = 0; over = None } }
     {
         RequestDecoder {
-            state: State::start(),
+            progress: Progress::start(),
             unused: BytesMut::new(alloc),
             room: 0,
             fed: Fed::new(),
@@ -75,24 +81,24 @@ impl RequestDecoder {
     {
         let is_empty = self.is_empty();
         self.room = 0;
-        match step(alloc, &mut self.state, &mut self.unused) {
+        match step(alloc, &mut self.progress, &mut self.unused) {
             Ok(Received::More(room)) => {
                 self.room = room;
                 Ok(Received::More(room))
             }
             Ok(Received::Message(request)) => {
-                self.state = State::start();
+                self.progress = Progress::start();
                 self.fed = Fed::of(self.unused.as_slice());
                 Ok(Received::Message(request))
             }
             Ok(Received::Refused(refusal)) => {
                 let reason = Some(copy_of(&refusal));
-                self.state = State::Over(Over { reason, is_empty });
+                self.progress = Progress::Over(Over { reason, is_empty });
                 Ok(Received::Refused(refusal))
             }
             Err(fault) => {
                 let reason = None;
-                self.state = State::Over(Over { reason, is_empty });
+                self.progress = Progress::Over(Over { reason, is_empty });
                 Err(fault)
             }
         }
@@ -104,7 +110,7 @@ impl RequestDecoder {
         ensures bytes { self.new.bytes ≡ self.old.bytes ++ bytes.now }
         ensures over { self.new.over ≡ self.old.over }
     {
-        put(&mut self.state, &mut self.unused, bytes);
+        put(&mut self.progress, &mut self.unused, bytes);
         self.room = 0;
         self.fed = self.fed.then(&Piece { text: bytes });
     }
@@ -113,10 +119,10 @@ impl RequestDecoder {
     pub fn is_empty(&self) -> bool
         ensures value { result ≡ (length self.now.bytes == 0) }
     {
-        match &self.state {
-            State::Head(_) => self.unused.is_empty(),
-            State::Sized(_) | State::Chunks(_) => false,
-            State::Over(over) => over.is_empty,
+        match &self.progress {
+            Progress::Head(_) => self.unused.is_empty(),
+            Progress::Sized(_) | Progress::Chunks(_) => false,
+            Progress::Over(over) => over.is_empty,
         }
     }
 }

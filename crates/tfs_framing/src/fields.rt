@@ -7,7 +7,7 @@ ghost use Rattle.tfs_framing.specs.Fields.{TellsValues, lower, values_named};
 ghost use Rattle.std.specs.List.{list_any};
 ghost use Rattle.httparse.specs.Grammar.{trim_ows, skip_ows};
 ghost use Rattle.tfs_framing.specs.Connection.{is_close, lists_close, parts_of};
-ghost use Rattle.tfs_framing.specs.Digest.{digest_text, fits_values};
+ghost use Rattle.tfs_framing.specs.Digest.{digest_text, fits_values, has_asked};
 
 use base64::engine::general_purpose::STANDARD;
 use httparse::spans::HeaderSpan;
@@ -144,14 +144,49 @@ fn skip_last_ows(text: &[u8]) -> &[u8]
 /// The bytes of a digest's text: four for each three of its 16 bytes, the last three padded.
 const DIGEST_TEXT_BYTES: usize = 24;
 
-/// Whether the values of the `Content-MD5` fields fit the body.
-pub(crate) fn fits_digest(values: Values<'_>, body: &[u8]) -> bool
-    ensures { (told : List (List ℕ)) → TellsValues values.entry told → result ≡ fits_values told body.now }
+/// What a head asks of the digest of the body behind it.
+#[derive(Clone, Copy)]
+pub(crate) enum AskedDigest {
+    /// Nothing: there is no `Content-MD5` field.
+    Any,
+    /// This text.
+    Text([u8; DIGEST_TEXT_BYTES]),
+    /// What no digest is: there are several fields, or the only one has another length.
+    Impossible,
+}
+
+/// Reads what the values of the `Content-MD5` fields ask of the digest.
+pub(crate) fn asked_digest(values: Values<'_>) -> AskedDigest
+    ensures { (told : List (List ℕ)) (body : List ℕ) → TellsValues values.entry told
+        → has_asked result body ≡ fits_values told body }
 {
     match values {
-        Values::Absent => true,
-        Values::One(text) => is_digest_of(text, body),
-        Values::Several => false,
+        Values::Absent => AskedDigest::Any,
+        Values::One(text) => digest_of_text(text),
+        Values::Several => AskedDigest::Impossible,
+    }
+}
+
+/// Reads what the only value of `Content-MD5` asks of the digest.
+fn digest_of_text(value: &[u8]) -> AskedDigest
+    ensures { (body : List ℕ) → has_asked result body ≡ bytes_eq value.now (digest_text body) }
+{
+    if value.len() != DIGEST_TEXT_BYTES {
+        return AskedDigest::Impossible;
+    }
+    let mut text = [0; DIGEST_TEXT_BYTES];
+    text.as_mut_slice().copy_from_slice(value);
+    AskedDigest::Text(text)
+}
+
+/// Whether the body has the digest that is asked for.
+pub(crate) fn has_asked(asked: &AskedDigest, body: &[u8]) -> bool
+    ensures { result ≡ has_asked asked.now body.now }
+{
+    match asked {
+        AskedDigest::Any => true,
+        AskedDigest::Text(text) => is_digest_of(text.as_slice(), body),
+        AskedDigest::Impossible => false,
     }
 }
 

@@ -1,24 +1,21 @@
 //! Where a message ends (RFC 9112, sections 2.2, 3, 5 and 6.2).
 
-ghost use Rattle.std.specs.Prelude.{◌≡◌, ◌≤◌, ◌<◌, ◌+◌, ℕ, List, length, IfOk, OnErr};
-ghost use Rattle.httparse.specs.Grammar.{LineEnd, RequestHead};
+ghost use Rattle.std.specs.Prelude.{◌≡◌, ℕ, List, IfOk, OnErr};
 ghost use Rattle.tfs_framing.specs.Body.{refusal_of};
+ghost use Rattle.tfs_framing.specs.Decoded.{Decodes};
 ghost use Rattle.tfs_framing.specs.Decoder.{IsFramed};
-ghost use Rattle.tfs_framing.specs.Head.{HasHead};
-ghost use Rattle.tfs_framing.specs.Lines.{IsToldBy};
+ghost use Rattle.tfs_framing.specs.Framing.{BeginsWith, Opens};
 ghost use Rattle.tfs_framing.specs.Sought.{IsSought};
-ghost use Rattle.tfs_framing.specs.Framing.{BeginsWith, IsSizedHead, IsUnfinished, ReadsHead};
-ghost use Rattle.tfs_framing.specs.Request.{RequestValue, request_of};
-ghost use Rattle.tfs_framing.specs.declared.lines.BodyLength.{BodyLength};
-ghost use Rattle.tfs_framing.specs.declared.framing.Received.TheVariants.{Message};
+ghost use Rattle.tfs_framing.specs.Request.{RequestValue};
+ghost use Rattle.tfs_framing.specs.declared.lines.BodyLength.TheVariants.{Sized};
 
 use crate::body::{ChunkedBody, Decoded, decode_body};
 use crate::chunks::Flaw;
-use crate::fields::fits_digest;
 use crate::head::{Search, find_head};
 use crate::limits::MAX_HEAD_BYTES;
-use crate::lines::{BodyLength, Lines, read_head};
-use crate::request::Request;
+use crate::lines::{BodyLength, read_head};
+use crate::progress::{Progress, begin_sized, keep_chunks};
+use crate::request::{OpenRequest, Request};
 use std::alloc::{AllocError, Global};
 use tfs_calls::Refusal;
 
@@ -44,153 +41,130 @@ pub enum Received {
     Refused(Refusal),
 }
 
-/// What bytes begin with, and what is known where more are needed.
+/// What bytes begin with, and how many of them are left: behind the message, or undecoded.
 #[derive(Drop)]
 pub(crate) enum Framed {
-    /// No head has ended; its end was sought so far.
-    Sought(Search),
-    /// A head that says how long the body behind it is, of which some lacks.
-    Sized(SizedHead),
-    /// So many bytes of empty lines and so many of a head that tells chunks; what was decoded of them, and so many that are left.
-    Chunked(usize, usize, ChunkedBody, usize),
-    /// A message, and its length in bytes.
-    Got(Request, usize),
+    /// A message.
+    Message {
+        request: Request,
+        left: usize,
+    },
     /// No message, for this reason; where it ends isn't known.
-    Fault(Refusal),
+    Refused(Refusal),
+    /// Neither yet: what is known of the bytes, unless memory for it was refused.
+    More {
+        progress: Result<Progress, AllocError>,
+        left: usize,
+    },
 }
 
-/// A head that is there and says how long the body behind it is.
-#[derive(Clone, Copy)]
-pub(crate) struct SizedHead {
-    /// So many bytes of empty lines come first.
-    pub(crate) skipped: usize,
-    /// Behind them comes the head, of so many bytes.
-    pub(crate) len: usize,
-    /// So many bytes the body has.
-    pub(crate) size: usize,
-}
-
-impl SizedHead {
-    /// How many bytes come before the body.
-    pub(crate) fn start(&self) -> usize
-        ensures value { (bytes : List ℕ) → IsSizedHead bytes self.now → result ≡ (self.now.skipped + self.now.len) }
-        ensures inside { (bytes : List ℕ) → IsSizedHead bytes self.now → result ≤ length bytes }
-    {
-        self.skipped.saturating_add(self.len)
-    }
-
-    /// How many bytes the body has. Some of them lack where the message isn't whole.
-    pub(crate) fn size(&self) -> usize
-        ensures value { result ≡ self.now.size }
-        ensures fits { (bytes : List ℕ) → IsSizedHead bytes self.now → result ≤ 16777216 }
-        ensures lacking { (bytes : List ℕ) → IsSizedHead bytes self.now → IsUnfinished bytes → length bytes < (self.now.skipped + self.now.len) + result }
-    {
-        self.size
-    }
-}
-
-/// What the bytes begin with; where more are needed, what is known then. The end of the head was sought so far.
+/// Frames the bytes. The end of the head was sought so far.
 pub(crate) fn frame(alloc: Global, bytes: &[u8], search: Search) -> Result<Framed, AllocError>
     requires { IsSought bytes.now search }
-    ensures ok { IfOk result (IsFramed bytes.now) }
+    ensures ok { IfOk result (IsFramed bytes.now bytes.now) }
     ensures memory { OnErr result ((request : RequestValue) × (used : ℕ) × BeginsWith bytes.now request used) }
 {
     let (head, rest) = match find_head(bytes, search) {
         Ok(parts) => parts,
         Err(search) => {
             if bytes.len() < MAX_HEAD_BYTES {
-                return Ok(Framed::Sought(search));
+                return Ok(Framed::More {
+                    progress: Ok(Progress::Head(search)),
+                    left: bytes.len(),
+                });
             }
-            return Ok(Framed::Fault(Refusal::HeadTooLarge));
+            return Ok(Framed::Refused(Refusal::HeadTooLarge));
         }
     };
     match read_head(head) {
-        Ok(lines) => frame_body(alloc, bytes, head, rest, lines),
-        Err(refusal) => Ok(Framed::Fault(refusal)),
+        Ok(lines) => {
+            let request = OpenRequest::new(alloc, &lines);
+            frame_body(alloc, request, lines.size, rest)
+        }
+        Err(refusal) => Ok(Framed::Refused(refusal)),
     }
 }
 
-/// The same behind a head that was read. Memory is asked for once the body is whole, but for chunks, whose want of it is told where they
-/// aren't.
+/// Frames the body behind a head that was read.
 fn frame_body(
     alloc: Global,
-    bytes: &[u8],
-    head: &[u8],
+    request: Result<OpenRequest, AllocError>,
+    size: BodyLength,
     rest: &[u8],
-    lines: Lines<'_>,
 ) -> Result<Framed, AllocError>
-    requires has { (skipped : List LineEnd) × HasHead bytes.now skipped head.now rest.now }
-    requires reads { (h : RequestHead) × ReadsHead head.now h lines.size × IsToldBy lines h }
-    ensures ok { IfOk result (IsFramed bytes.now) }
-    ensures memory { OnErr result ((request : RequestValue) × (used : ℕ) × BeginsWith bytes.now request used) }
+    requires { (bytes : List ℕ) × Opens bytes request size rest.now }
+    ensures ok { (bytes : List ℕ) → Opens bytes request size rest.now
+        → IfOk result (IsFramed bytes rest.now) }
+    ensures memory { (bytes : List ℕ) → Opens bytes request size rest.now
+        → OnErr result ((request : RequestValue) × (used : ℕ) × BeginsWith bytes request used) }
 {
-    let start = bytes.len() - rest.len();
-    let skipped = start - head.len();
-    match lines.size {
-        BodyLength::Absent => got(alloc, &lines, Vec::new(alloc), start),
-        BodyLength::Sized(size) => {
-            if rest.len() < size {
-                let len = head.len();
-                return Ok(Framed::Sized(SizedHead { skipped, len, size }));
-            }
-            let (body, after) = rest.split_at(size);
-            let body = Vec::from_slice(alloc, body)?;
-            got(alloc, &lines, body, bytes.len() - after.len())
+    match size {
+        BodyLength::Absent => {
+            let request = request?.complete(Vec::new(alloc));
+            let left = rest.len();
+            Ok(Framed::Message { request, left })
         }
-        BodyLength::Chunked => match decode_body(ChunkedBody::start(alloc), rest) {
-            Ok(Decoded::Wanted { decoded, left }) => {
-                Ok(Framed::Chunked(skipped, head.len(), decoded, left))
-            }
-            Ok(Decoded::Whole { joined, left }) => {
-                let body = joined.into_bytes()?;
-                got(alloc, &lines, body, bytes.len() - left)
-            }
-            Err(flaw) => Ok(Framed::Fault(refusal_of(flaw))),
-        },
+        BodyLength::Sized(size) => frame_sized(alloc, request, size, rest),
+        BodyLength::Chunked => frame_chunks(request, ChunkedBody::start(alloc), rest),
     }
 }
 
-/// The message of a head and its body, which has so many bytes.
-fn got(alloc: Global, lines: &Lines<'_>, body: Vec<u8>, used: usize) -> Result<Framed, AllocError>
-    ensures { (bytes : List ℕ) (h : RequestHead) → IsToldBy lines.now h → BeginsWith bytes (request_of h body.items) used
-        → IfOk result (IsFramed bytes) × OnErr result ((request : RequestValue) × (used : ℕ) × BeginsWith bytes request used) }
+/// Frames a body whose length is known.
+fn frame_sized(
+    alloc: Global,
+    request: Result<OpenRequest, AllocError>,
+    size: usize,
+    rest: &[u8],
+) -> Result<Framed, AllocError>
+    requires { (bytes : List ℕ) × Opens bytes request (Sized size) rest.now }
+    ensures ok { (bytes : List ℕ) → Opens bytes request (Sized size) rest.now
+        → IfOk result (IsFramed bytes rest.now) }
+    ensures memory { (bytes : List ℕ) → Opens bytes request (Sized size) rest.now
+        → OnErr result ((request : RequestValue) × (used : ℕ) × BeginsWith bytes request used) }
 {
-    Ok(Framed::Got(request_of(alloc, lines, body)?, used))
+    if rest.len() < size {
+        let progress = begin_sized(alloc, request, size, rest);
+        return Ok(Framed::More { progress, left: 0 });
+    }
+    let (body, after) = rest.split_at(size);
+    let body = Vec::from_slice(alloc, body)?;
+    let request = request?.complete(body);
+    let left = after.len();
+    Ok(Framed::Message { request, left })
 }
 
-/// The message of a head and a body: the request keeps this very vector. Memory is asked for the method and the target alone.
-pub(crate) fn receive(alloc: Global, head: &[u8], body: Vec<u8>) -> Result<Received, AllocError>
-    ensures { (h : RequestHead) (size : BodyLength) → ReadsHead head.now h size → IfOk result (λ told. told ≡ Message (request_of h body.items)) }
+/// Frames a body in chunks, of which some bytes were decoded; these are left.
+pub(crate) fn frame_chunks(
+    request: Result<OpenRequest, AllocError>,
+    decoded: ChunkedBody,
+    left: &[u8],
+) -> Result<Framed, AllocError>
+    requires { (bytes : List ℕ) × Decodes bytes request decoded left.now }
+    ensures ok { (bytes : List ℕ) → Decodes bytes request decoded left.now
+        → IfOk result (IsFramed bytes left.now) }
+    ensures memory { (bytes : List ℕ) → Decodes bytes request decoded left.now
+        → OnErr result ((request : RequestValue) × (used : ℕ) × BeginsWith bytes request used) }
 {
-    match read_head(head) {
-        Ok(lines) => {
-            let request = request_of(alloc, &lines, body)?;
-            Ok(Received::Message(request))
+    match decode_body(decoded, left) {
+        Ok(Decoded::Wanted { decoded, left }) => {
+            let progress = keep_chunks(request, decoded);
+            Ok(Framed::More { progress, left })
         }
-        Err(refusal) => Ok(Received::Refused(refusal)),
+        Ok(Decoded::Whole { joined, left }) => {
+            let body = joined.into_bytes()?;
+            let request = request?.complete(body);
+            Ok(Framed::Message { request, left })
+        }
+        Err(flaw) => Ok(Framed::Refused(refusal_of(flaw))),
     }
 }
 
-/// The refusal of bytes that begin with no body.
-pub(crate) fn refusal_of(flaw: Flaw) -> Refusal
+/// Returns the refusal of bytes that begin with no body.
+fn refusal_of(flaw: Flaw) -> Refusal
     ensures { result ≡ refusal_of flaw }
 {
     match flaw {
         Flaw::TooLarge => Refusal::BodyTooLarge,
         Flaw::Unreadable => Refusal::BadChunk,
     }
-}
-
-/// The request of a head and its body.
-fn request_of(alloc: Global, lines: &Lines<'_>, body: Vec<u8>) -> Result<Request, AllocError>
-    ensures { (h : RequestHead) → IsToldBy lines.now h → IfOk result (λ request. request ≡ request_of h body.items) }
-{
-    let intact = fits_digest(lines.digest, body.as_slice());
-    Ok(Request {
-        method: Vec::from_slice(alloc, lines.method)?,
-        target: Vec::from_slice(alloc, lines.target)?,
-        body,
-        close: lines.close,
-        intact,
-    })
 }

@@ -1,16 +1,18 @@
 //! Laws of framing, which hold of all bytes.
 
-ghost use Rattle.std.specs.Prelude.{◌≢◌, ◌≡◌, ◌≤◌, ℕ, List, ◌++◌, length, All};
+ghost use Rattle.std.specs.Prelude.{◌≢◌, ◌≡◌, ◌≤◌, ℕ, List, ◌++◌, length, All, Result};
+ghost use Rattle.std.specs.declared.alloc.AllocError.{AllocError};
 ghost use Rattle.http_header.specs.FieldName.{IsFieldName};
 ghost use Rattle.http_header.specs.FieldValue.{IsFieldValue};
 ghost use Rattle.httparse.specs.Grammar.{RequestHead, field_value};
 ghost use Rattle.tfs_framing.specs.Head.{IsHeadOf};
-ghost use Rattle.tfs_framing.specs.Framing.{Frames, IsSizedHead};
+ghost use Rattle.tfs_framing.specs.Framing.{Frames, Opens};
 ghost use Rattle.tfs_framing.specs.Sought.{IsSought};
 ghost use Rattle.tfs_framing.specs.Decoded.{Decodes};
 ghost use Rattle.tfs_framing.specs.declared.body.ChunkedBody.{ChunkedBody};
-ghost use Rattle.tfs_framing.specs.declared.framing.SizedHead.{SizedHead};
+ghost use Rattle.tfs_framing.specs.declared.request.OpenRequest.{OpenRequest};
 ghost use Rattle.tfs_framing.specs.declared.head.Search.{Search};
+ghost use Rattle.tfs_framing.specs.declared.lines.BodyLength.{BodyLength};
 ghost use Rattle.tfs_framing.specs.declared.framing.Take.{Take};
 ghost use Rattle.tfs_framing.specs.declared.framing.Take.TheVariants.{Need};
 
@@ -26,9 +28,10 @@ pub fn what_bytes_begin_with_is_one_thing_and_stays()
 /// What is known of a message stays whatever bytes follow.
 pub(crate) fn what_is_known_stays_whatever_bytes_follow()
     ensures sought { (bytes more : List ℕ) (search : Search) → IsSought bytes search → IsSought (bytes ++ more) search }
-    ensures sized { (bytes more : List ℕ) (head : SizedHead) → IsSizedHead bytes head → IsSizedHead (bytes ++ more) head }
-    ensures decoded { (bytes more before left : List ℕ) (body : ChunkedBody) → Decodes bytes before body left
-        → Decodes (bytes ++ more) before body (left ++ more) }
+    ensures opens { (bytes more rest : List ℕ) (request : Result OpenRequest AllocError) (size : BodyLength)
+        → Opens bytes request size rest → Opens (bytes ++ more) request size (rest ++ more) }
+    ensures decoded { (bytes more left : List ℕ) (request : Result OpenRequest AllocError) (body : ChunkedBody)
+        → Decodes bytes request body left → Decodes (bytes ++ more) request body (left ++ more) }
 {}
 
 /// The crate `http_header` takes each field of a head of the grammar, so that none is refused for it.

@@ -12,8 +12,8 @@ mod laws;
 mod limits;
 mod lines;
 mod over;
+mod progress;
 mod request;
-mod state;
 
 pub use decoder::{RequestDecoder, take};
 pub use framing::{Received, Take};

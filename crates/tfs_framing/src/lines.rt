@@ -11,7 +11,7 @@ ghost use Rattle.std.specs.List.{list_all};
 ghost use Rattle.std.specs.Char.{is_ascii_digit};
 ghost use Rattle.tfs_framing.specs.Fields.{TellsValues};
 
-use crate::fields::{Values, asks_to_close, is_word, values_named};
+use crate::fields::{AskedDigest, Values, asked_digest, asks_to_close, is_word, values_named};
 use crate::limits::{MAX_BODY_BYTES, MAX_FIELDS, MAX_HEAD_LINES};
 use httparse::Status;
 use httparse::spans::{EMPTY_HEADER_SPAN, HeaderSpan, RequestSpans, parse_request};
@@ -27,8 +27,8 @@ pub(crate) struct Lines<'h> {
     pub(crate) size: BodyLength,
     /// Whether the conversation is to end after the reply.
     pub(crate) close: bool,
-    /// The values of the `Content-MD5` fields.
-    pub(crate) digest: Values<'h>,
+    /// What the `Content-MD5` fields ask of the body's digest.
+    pub(crate) digest: AskedDigest,
 }
 
 /// Reads a head, or tells its refusal.
@@ -50,7 +50,7 @@ pub(crate) fn read_head(head: &[u8]) -> Result<Lines<'_>, Refusal>
             target: spans.path.of(head),
             size,
             close: asks_to_close(spans.version, head, fields),
-            digest: values_named(head, fields, b"content-md5"),
+            digest: asked_digest(values_named(head, fields, b"content-md5")),
         }),
         Err(refusal) => Err(refusal),
     }

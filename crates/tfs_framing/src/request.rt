@@ -1,8 +1,12 @@
 //! A request of a client, and the form that it gives its reply.
 
-ghost use Rattle.std.specs.Prelude.{◌≡◌, IfOk, false, true};
-ghost use Rattle.tfs_framing.specs.Request.{RequestValue};
+ghost use Rattle.std.specs.Prelude.{◌≡◌, ℕ, List, IfOk, false, true};
+ghost use Rattle.httparse.specs.Grammar.{RequestHead};
+ghost use Rattle.tfs_framing.specs.Lines.{IsToldBy};
+ghost use Rattle.tfs_framing.specs.Request.{RequestValue, completed, request_of};
 
+use crate::fields::{AskedDigest, has_asked};
+use crate::lines::Lines;
 use std::alloc::{AllocError, Global};
 use std::marker::Model;
 use tfs_calls::Bytes;
@@ -89,6 +93,44 @@ impl Request {
         Form {
             close: self.close,
             bare: self.method() == b"HEAD".as_slice(),
+        }
+    }
+}
+
+/// A request that lacks its body: what its head says, copied.
+#[derive(Drop)]
+pub(crate) struct OpenRequest {
+    pub(crate) method: Vec<u8>,
+    pub(crate) target: Vec<u8>,
+    pub(crate) close: bool,
+    pub(crate) digest: AskedDigest,
+}
+
+impl OpenRequest {
+    /// Copies what the lines of a head say.
+    pub(crate) fn new(alloc: Global, lines: &Lines<'_>) -> Result<OpenRequest, AllocError>
+        ensures { (h : RequestHead) → IsToldBy lines.now h
+            → IfOk result (λ o. (body : List ℕ) → completed o body ≡ request_of h body) }
+    {
+        Ok(OpenRequest {
+            method: Vec::from_slice(alloc, lines.method)?,
+            target: Vec::from_slice(alloc, lines.target)?,
+            close: lines.close,
+            digest: lines.digest,
+        })
+    }
+
+    /// Returns the request with its body, which keeps this very vector.
+    pub(crate) fn complete(self, body: Vec<u8>) -> Request
+        ensures { result ≡ completed self body.items }
+    {
+        let intact = has_asked(&self.digest, body.as_slice());
+        Request {
+            method: self.method,
+            target: self.target,
+            body,
+            close: self.close,
+            intact,
         }
     }
 }

@@ -31,6 +31,7 @@ pub fn read_kept<'t, A: Allocator + Copy, S: Allocator>(
     ensures ok { IfOk result (λ tree. SpellsKept bytes.now (value_view tree)) }
     ensures err { IfErr result (λ fault. fault ≡ NotJson → json_value bytes.now ≡ None) }
     ensures memory { IfErr result (λ fault. fault ≡ NoMemory → IsUtf8 bytes.now) }
+    ensures utf8 { OnOk result (IsUtf8 bytes.now) }
 {
     match simdutf8::compat::from_utf8(bytes) {
         Ok(text) => read_text(alloc, text, scratch),

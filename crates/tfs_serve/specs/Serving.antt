@@ -13,6 +13,7 @@ use Rattle.tfs_serve.specs.Session.{MayLackMemory, accepted_by}
 use Rattle.tfs_serve.specs.Standing.{AcceptedStand}
 use Rattle.tfs_serve.specs.Told.{positions_told, AreToldOnce}
 use Rattle.tfs_serve.specs.Working.{Answer, heard_of_connection, end_of_work}
+use Rattle.tfs_serve.specs.declared.run.Served.{Served}
 
 -- The reply is the transition of a table over a lawful beginning of the last journal, which begins with all that had been seen. What
 -- it leaves, a lawful beginning too, is what has been seen then.
@@ -53,6 +54,16 @@ pub record ServedView : Type 0 where
   pub fault : Option AcceptFault
   pub seen : ℕ
   pub accepted : ℕ
+
+-- What is left of a worker, as contracts see it, by what gates of its type were told.
+abbrev pub served_view : {G : Type 0} → (G → Option (List Event)) → Served G → ServedView
+served_view told served = record {
+  told = told served.gate;
+  failed = served.failed;
+  fault = served.fault;
+  seen = served.seen;
+  accepted = served.accepted;
+}
 
 -- A worker of a run from an opening journal to a last one, which answered on these connections. Its gate has heard of the connections that
 -- it was asked for and of each call and reply on them, in order, and of nothing else. The replies are those in turn from the opening

@@ -4,7 +4,7 @@ ghost use Rattle.std.specs.Prelude.{◌≡◌, ◌+◌, ◌≤◌, ◌<◌, ℕ,
 ghost use Rattle.tfs_published.specs.Beginning.{BeginsWith};
 ghost use Rattle.tfs_shared.specs.View.{AreNew, new_session};
 ghost use Rattle.tfs_serve.specs.Faults.{IsCaused};
-ghost use Rattle.tfs_serve.specs.Serving.{IsRun};
+ghost use Rattle.tfs_serve.specs.Serving.{IsRun, served_view};
 ghost use Rattle.tfs_serve.specs.Working.{HasWorked, end_of_work};
 
 use crate::gate::Gate;
@@ -73,13 +73,7 @@ pub(crate) fn attend<
     requires empty { (crew.room.members.items ≡ []) × (crew.room.sessions.items ≡ []) × (crew.room.served.items ≡ []) }
     requires room { (length crew.gates.items ≤ vec_capacity crew.room.members) × (length crew.gates.items ≤ vec_capacity crew.room.sessions)
         × (length crew.gates.items ≤ vec_capacity crew.room.served) }
-    ensures run { IfOk result (λ run. IsRun J.opening run.table.journal (map G.told crew.gates.items) (map (λ served. record {
-      told = G.told served.gate;
-      failed = served.failed;
-      fault = served.fault;
-      seen = served.seen;
-      accepted = served.accepted;
-    }) run.served.items)) }
+    ensures run { IfOk result (λ run. IsRun J.opening run.table.journal (map G.told crew.gates.items) (map (served_view G.told) run.served.items)) }
     ensures kept { IfErr result (λ table. BeginsWith table.journal J.opening) }
 {
     let Crew {

@@ -5,7 +5,7 @@ ghost use Rattle.tfs_records.specs.Journal.{position_of};
 ghost use Rattle.tfs_published.specs.Beginning.{BeginsWith};
 ghost use Rattle.tfs_shared.specs.View.{AreNew, new_session};
 ghost use Rattle.tfs_serve.specs.Faults.{first_fault_in};
-ghost use Rattle.tfs_serve.specs.Serving.{IsRun};
+ghost use Rattle.tfs_serve.specs.Serving.{IsRun, served_view};
 ghost use Rattle.tfs_serve.specs.Working.{HasWorked, end_of_work};
 ghost use Rattle.tfs_serve.specs.declared.run.Obstacle.TheVariants.{NoCopy};
 
@@ -111,13 +111,7 @@ pub fn serve<
 ) -> Result<Run<K, G, L>, Unserved<K, E>>
     requires number { (1 ≤ length gates.items) × (length gates.items ≤ 16) }
     requires callable { F.IsAlwaysCallable listen }
-    ensures run { IfOk result (λ run. IsRun table.journal run.table.journal (map G.told gates.items) (map (λ served. record {
-      told = G.told served.gate;
-      failed = served.failed;
-      fault = served.fault;
-      seen = served.seen;
-      accepted = served.accepted;
-    }) run.served.items)) }
+    ensures run { IfOk result (λ run. IsRun table.journal run.table.journal (map G.told gates.items) (map (served_view G.told) run.served.items)) }
     ensures kept { IfErr result (λ unserved. BeginsWith unserved.table.journal table.journal) }
     ensures back { IfErr result (λ unserved. unserved.why ≢ NoCopy → unserved.table.journal ≡ table.journal) }
 {
@@ -148,13 +142,7 @@ pub fn serve_until<
 ) -> Result<Run<K, G, L>, Unserved<K, E>>
     requires number { (1 ≤ length gates.items) × (length gates.items ≤ 16) }
     requires callable { F.IsAlwaysCallable listen }
-    ensures run { IfOk result (λ run. IsRun table.journal run.table.journal (map G.told gates.items) (map (λ served. record {
-      told = G.told served.gate;
-      failed = served.failed;
-      fault = served.fault;
-      seen = served.seen;
-      accepted = served.accepted;
-    }) run.served.items)) }
+    ensures run { IfOk result (λ run. IsRun table.journal run.table.journal (map G.told gates.items) (map (served_view G.told) run.served.items)) }
     ensures kept { IfErr result (λ unserved. BeginsWith unserved.table.journal table.journal) }
     ensures back { IfErr result (λ unserved. unserved.why ≢ NoCopy → unserved.table.journal ≡ table.journal) }
 {
@@ -185,13 +173,7 @@ fn serve_named<
     requires callable { F.IsAlwaysCallable asked.listen }
     requires named { (length asked.gates.items ≡ J.sessions) × (J.parts ≡ J.sessions) × (blanks.blank.name ≡ J.name)
         × (blanks.blank.parts ≡ J.parts) × (blanks.opened ≡ J.book) × (table.journal ≡ J.opening) }
-    ensures run { IfOk result (λ run. IsRun J.opening run.table.journal (map G.told asked.gates.items) (map (λ served. record {
-      told = G.told served.gate;
-      failed = served.failed;
-      fault = served.fault;
-      seen = served.seen;
-      accepted = served.accepted;
-    }) run.served.items)) }
+    ensures run { IfOk result (λ run. IsRun J.opening run.table.journal (map G.told asked.gates.items) (map (served_view G.told) run.served.items)) }
     ensures kept { IfErr result (λ unserved. BeginsWith unserved.table.journal J.opening) }
     ensures back { IfErr result (λ unserved. unserved.why ≢ NoCopy → unserved.table.journal ≡ J.opening) }
 {
@@ -226,13 +208,7 @@ fn serve_shared<
     requires number { (1 ≤ length asked.gates.items) × (length asked.gates.items ≡ J.sessions) }
     requires callable { F.IsAlwaysCallable asked.listen }
     requires new { AreNew J.opening J.sessions sessions.items }
-    ensures run { IfOk result (λ run. IsRun J.opening run.table.journal (map G.told asked.gates.items) (map (λ served. record {
-      told = G.told served.gate;
-      failed = served.failed;
-      fault = served.fault;
-      seen = served.seen;
-      accepted = served.accepted;
-    }) run.served.items)) }
+    ensures run { IfOk result (λ run. IsRun J.opening run.table.journal (map G.told asked.gates.items) (map (served_view G.told) run.served.items)) }
     ensures kept { IfErr result (λ unserved. BeginsWith unserved.table.journal J.opening) }
     ensures back { IfErr result (λ unserved. unserved.why ≢ NoCopy → unserved.table.journal ≡ J.opening) }
 {

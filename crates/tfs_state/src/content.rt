@@ -1,6 +1,7 @@
 //! What the text of a state says.
 
 ghost use Rattle.std.specs.Prelude.{◌≡◌, ◌≢◌, ◌≤◌, ◌<◌, slice_get, Some, Ok, IfOk, IfErr, OnOk, length};
+ghost use Rattle.std.specs.Str.{IsUtf8};
 ghost use Rattle.tfs_json.specs.Tree.{tree_view as view};
 ghost use Rattle.tfs_state.specs.StateText.{first_state_fault, instances_of, content_of};
 ghost use Rattle.tfs_state.specs.Contents.{Keeps, ReadsContent, ReadsInstancesOf};
@@ -53,6 +54,7 @@ pub(crate) fn read_text(
     requires { length bytes.now ≤ 16777216 }
     ensures ok { IfOk result (Keeps bytes.now) }
     ensures err { IfErr result (λ fault. fault ≢ NoMemory → first_state_fault bytes.now ≡ Some fault) }
+    ensures memory { IfErr result (λ fault. fault ≡ NoMemory → IsUtf8 bytes.now) }
 {
     match read_kept(alloc, bytes, scratch) {
         Ok(value) => read_content(alloc, &value),

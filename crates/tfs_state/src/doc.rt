@@ -2,6 +2,7 @@
 
 ghost use Rattle.std.specs.Prelude.{◌≡◌, ◌≢◌, ◌≤◌, ◌<◌, ◌↔◌, ◌==◌, ◌++◌, Some, IfOk, IfErr, IsTrue, length, option_map, string_bytes};
 ghost use Rattle.std.specs.List.{list_any};
+ghost use Rattle.std.specs.Str.{IsUtf8};
 ghost use Rattle.tfs_state.specs.Dependency.{DependsOn, address_of, config_of};
 ghost use Rattle.tfs_state.specs.Digest.{digest_of};
 ghost use Rattle.tfs_state.specs.Numbering.{IsNumbering};
@@ -45,13 +46,14 @@ impl Model for Doc {
 }
 
 impl Doc {
-    /// Reads a state's text, of at most 16 MiB. A refusal is the first fault of the text, in the order of
-    /// [`StateFault`], but for `NoMemory`, which comes wherever a request for memory is refused.
+    /// Reads a state's text, of at most 16 MiB. A refusal is the first fault of the text, in the order of [`StateFault`]. Only `NoMemory`
+    /// is not: it comes if a request for memory is refused. None is made for bytes that aren't UTF-8.
     pub fn read(alloc: Global, bytes: Vec<u8>) -> Result<Doc, StateFault>
         requires { length bytes.items ≤ 16777216 }
         ensures ok { IfOk result (SpellsDocument bytes.items) }
         ensures err { IfErr result (λ fault. fault ≢ NoMemory
             → first_state_fault bytes.items ≡ Some fault) }
+        ensures memory { IfErr result (λ fault. fault ≡ NoMemory → IsUtf8 bytes.items) }
     {
         Doc::read_over(alloc, bytes, &mut Scratch::new(alloc))
     }
@@ -66,6 +68,7 @@ impl Doc {
         ensures ok { IfOk result (SpellsDocument bytes.items) }
         ensures err { IfErr result (λ fault. fault ≢ NoMemory
             → first_state_fault bytes.items ≡ Some fault) }
+        ensures memory { IfErr result (λ fault. fault ≡ NoMemory → IsUtf8 bytes.items) }
     {
         let content = read_text(alloc, bytes.as_slice(), scratch)?;
         Ok(Doc { bytes, content })

@@ -80,6 +80,7 @@ goes_by_grows first now (t ∷ terms) goes =
     let more = goes_by_grows goes.0 now terms goes.3 in
     let all = sum_by-cons (λ (u : Term). accepted_of u.served) t terms in omega (arith, grows, stays, more, all)
 
+-- They report as many positions as changes.
 goes_by_told : (first now : Journal) (terms : List Term) → GoesBy first terms now → length (positions_of_all terms) ≡ accepted_by_all terms
 goes_by_told first now [] goes = refl
 goes_by_told first now (t ∷ terms) goes =
@@ -88,6 +89,7 @@ goes_by_told first now (t ∷ terms) goes =
     let lengths = length-append t.positions (positions_of_all terms) in
     let all = sum_by-cons (λ (u : Term). accepted_of u.served) t terms in omega (arith, one, more, lengths, all)
 
+-- Between the two journals are as many positions as changes were reported.
 pub goes_on_grows : (first now : Journal) (accepted : ℕ) → GoesOn first now accepted → position_of now ≡ position_of first + accepted
 goes_on_grows first now accepted goes =
     let counts = goes.counts in
@@ -101,6 +103,7 @@ goes_by_then first opening next t [] goes term leads =
 goes_by_then first opening next t (u ∷ terms) goes term leads =
     (goes.0, goes.1, goes.2, goes_by_then goes.0 opening next t terms goes.3 term leads)
 
+-- The positions of one more term follow the others.
 positions_then : (t : Term) (terms : List Term) → positions_of_all (terms ++ t ∷ []) ≡ positions_of_all terms ++ t.positions
 positions_then t terms =
     flat_map-append (λ (u : Term). u.positions) terms (t ∷ []) ∙ ap (λ (l : List ℕ). positions_of_all terms ++ l) (append-nil t.positions)
@@ -114,6 +117,7 @@ goes_not_yet first now same = record {
   once = λ p above within. let stays = ap position_of same in absurd (omega (arith, above, within, stays));
 }
 
+-- Without a term a journal leads to itself.
 pub goes_nowhere : (j : Journal) → GoesOn j j 0
 goes_nowhere j = goes_not_yet j j refl
 
@@ -174,13 +178,14 @@ begins_below j earlier begins =
     let base = ap (λ b. b.position) begins.base in
     let shorter = prefix_is_shorter earlier.entries j.entries begins.entries in omega (arith, base, shorter)
 
--- The last journal has all changes that were reported as accepted, and no others if it is the opening one of the next term.
+-- The last journal has all changes that were reported as accepted.
 pub holds_all : (first end : Journal) (before after : ℕ) → EndsOn first end before after → HoldsAll first end before after
 holds_all first end before after ends =
     let counts = ends.counts in
     let grows = goes_on_grows first ends.opening ends.accepted ends.goes in
     let below = begins_below end ends.opening ends.begins in omega (arith, counts, grows, below)
 
+-- It has no others if it is the opening one of the next term.
 pub holds_just : (first opening end : Journal) (accepted before after : ℕ) → GoesOn first opening accepted → end ≡ opening
     → after ≡ before + accepted → HoldsJust first end before after
 holds_just first opening end accepted before after goes same counts =
@@ -215,6 +220,7 @@ grows_then first opening last next served accepted before added now mid after go
 pub ends_now : (first now : Journal) (before after : ℕ) → ((all : ℕ) × GoesOn first now all × (after ≡ before + all)) → EndsOn first now before after
 ends_now first now before after grown = ends_at first now now grown.0 before after grown.1 (begins_with_itself now) grown.2
 
+-- The journal to which terms led has all changes that they reported, and no others.
 pub holds_now : (first now : Journal) (before after : ℕ) → ((all : ℕ) × GoesOn first now all × (after ≡ before + all)) → HoldsJust first now before after
 holds_now first now before after grown = holds_just first now now grown.0 before after grown.1 refl grown.2
 

@@ -1,9 +1,10 @@
--- If each position of a range is told once, and as many are told as the range has, no other position is told.
+-- Positions of ranges that are told once.
 use Rattle.std.proofs.Common.{◌≡◌, ◌+◌, ◌≤◌, ◌<◌, ◌==◌, ℕ, zero, suc, nat_lt, length, List, [], ◌∷◌, ◌++◌, Bool, true, false, cond, refl, sym, ◌∙◌, ap, arith}
 use Rattle.tfs_serve.specs.Told.{times}
 use Rattle.std.proofs.lemmas.Bool.Decides.{nat_tests}
 use Rattle.std.proofs.lemmas.List.Sums.{sum_by-cons, sum_by-append}
 
+-- Occurrences in a list with one more number at its front.
 times_more : (p q : ℕ) (rest : List ℕ) → times p (q ∷ rest) ≡ cond (q == p) 1 0 + times p rest
 times_more p q rest = sum_by-cons (λ (t : ℕ). cond (t == p) 1 0) q rest
 
@@ -12,17 +13,20 @@ abbrev without : ℕ → List ℕ → List ℕ
 without b [] = []
 without b (x ∷ xs) = cond (x == b) (without b xs) (x ∷ without b xs)
 
+-- The length without a number, if the first one is it or isn't.
 length_by : (t : Bool) (b x : ℕ) (xs : List ℕ) → length (without b xs) + times b xs ≡ length xs
     → length (cond t (without b xs) (x ∷ without b xs)) + (cond t 1 0 + times b xs) ≡ suc (length xs)
 length_by true b x xs rest = omega (arith, rest)
 length_by false b x xs rest = omega (arith, rest)
 
+-- The others and the occurrences of a number are all.
 length_without : (b : ℕ) (xs : List ℕ) → length (without b xs) + times b xs ≡ length xs
 length_without b [] = refl
 length_without b (x ∷ xs) =
     let more = times_more b x xs in
     let all = length_by (x == b) b x xs (length_without b xs) in omega (arith, more, all)
 
+-- The occurrences of another number, if the first one is dropped or isn't.
 times_by : (t : Bool) (b q x : ℕ) (xs : List ℕ) → (x == b) ≡ t → (q == b) ≡ false → times q (without b xs) ≡ times q xs
     → times q (cond t (without b xs) (x ∷ without b xs)) ≡ cond (x == q) 1 0 + times q xs
 times_by true b q x xs is apart rest =
@@ -32,6 +36,7 @@ times_by true b q x xs is apart rest =
 times_by false b q x xs is apart rest =
     let more = times_more q x (without b xs) in omega (arith, more, rest)
 
+-- Another number occurs as often without a number.
 times_without : (b q : ℕ) (xs : List ℕ) → (q == b) ≡ false → times q (without b xs) ≡ times q xs
 times_without b q [] apart = refl
 times_without b q (x ∷ xs) apart =
@@ -55,6 +60,7 @@ before_last a n p within =
       | false ↦ λ e. refl
     ] refl
 
+-- If each position of a range is told once, and as many are told as the range has, no other is told.
 pub told_alone : (n a : ℕ) (told : List ℕ) → length told ≡ n → ((p : ℕ) → a < p → p ≤ a + n → times p told ≡ 1)
     → (q : ℕ) → (a < q → q ≤ a + n → ⊥) → times q told ≡ 0
 told_alone zero a [] many each q out = refl

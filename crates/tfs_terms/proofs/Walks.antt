@@ -1,12 +1,8 @@
--- What the walks of `src/tally.rt` share. Assumes `Logic`.
-use types.Logic.{Logic}
-use types.Kit.{Step, step, Item, fpack, feq_i}
-use denote.RattleType.{RattleType, Valss}
-use denote.Struct.Struct.{Struct, within}
+-- What the walks of `src/tally.rt` share.
 pub use Rattle.std.proofs.Common.{List, [], ◌∷◌, ◌++◌, refl}
 pub use Rattle.std.proofs.raw_atomic.Walks.{proved_at}
-pub use seplogic.Ra.Ura.{Ura}
-pub use mir.Val.{Val, vptr, vstruct, vnil}
+pub use Rattle.bytes.proofs.Walks.{none, none_made}
+pub use mir.Val.{Val, vptr}
 pub use contract.Running.{tables}
 pub use types.Kit.{Goal, ‵, raw, ◌⊛◌, prop, ◌$◌, ◌∵◌, !, qed, move, keep, drop, split, fsplit, fjoin, feq_l, regoal, suffices, done}
 pub use types.Part.{agg}
@@ -19,17 +15,3 @@ pub use denote.Steps.{nothing}
 pub use denote.Triple.Entry.{alive}
 pub use denote.Triple.Walked.{says, Stays, stay_dropped, walk_of, ends_at, Goes-dropped}
 pub use prog.Wp.{WpFn}
-
--- The value of a struct without fields, and its type.
-abbrev pub none : Val
-none = vstruct vnil
-
-abbrev pub fieldless : RattleType
-fieldless = Struct (record { name = []; args = []; types = []; fields = [] })
-
--- Such a value is made.
-pub none_made : {M : Type 1} {𝓤 : Ura M} {𝓛 : Logic 𝓤} {K : Type 0} {Γ : List (Item 𝓤)} {G : Goal 𝓤 𝓛.H} → K
-    → Step K 𝓛 (‵ (fieldless.own_val tt (none ∷ [])) ∷ Γ) G Γ G
-none_made t = step (λ s.
-    nothing t $ feq_i t (List Val) (none ∷ []) (none ∷ []) refl $ fjoin t $
-    fpack t (Valss []) (within (record { name = []; args = []; types = []; fields = [] }) tt (none ∷ [])) tt $ s)

@@ -37,10 +37,11 @@ abbrev pub GoesBy : Journal → List Term → Journal → Type 0
 GoesBy first [] now = now ≡ first
 GoesBy first (t ∷ more) now = (next : Journal) × IsTerm first t × LeadsTo t.last next × GoesBy next more now
 
--- How many changes the workers of terms reported as accepted.
+-- How many changes the workers of a term reported as accepted.
 abbrev pub accepted_of : List ServedView → ℕ
 accepted_of = sum_by (λ s. s.accepted)
 
+-- How many changes the workers of terms reported as accepted.
 abbrev pub accepted_by_all : List Term → ℕ
 accepted_by_all = sum_by (λ t. accepted_of t.served)
 

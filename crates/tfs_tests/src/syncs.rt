@@ -19,6 +19,7 @@ struct Disk {
 struct Syncs<'d> {
     disk: &'d Disk,
     calls: u64,
+    has_failed: bool,
 }
 
 impl<'d> Device for Syncs<'d> {
@@ -26,8 +27,11 @@ impl<'d> Device for Syncs<'d> {
 
     ghost synced = { λ _. Unit {0} };
 
+    ghost failed = { λ device. device.has_failed };
+
     fn sync(&mut self, _count: u64) -> Result<(), SyncFault> {
         if self.calls == 0 {
+            self.has_failed = true;
             return Err(SyncFault);
         }
         self.calls -= 1;
@@ -71,6 +75,7 @@ fn run(rt: &(impl Wait + Abort), alloc: Global, appends: u64, syncs: u64) -> (u6
     let device = Syncs {
         disk: &disk,
         calls: syncs,
+        has_failed: false,
     };
     let counted = Counted::new(alloc, Writes(&disk), device).ok();
     let mut out = Out::new(counted.expect(rt, "memory"));

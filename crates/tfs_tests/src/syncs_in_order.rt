@@ -125,12 +125,15 @@ fn reaches(rt: &impl Clock, count: &AtomicU64, least: u64) -> bool {
 struct Told<'s> {
     rt: &'s HostRuntime,
     stage: &'s Stage,
+    has_failed: bool,
 }
 
 impl<'s> Device for Told<'s> {
     ghost written = { λ _. Unit {0} };
 
     ghost synced = { λ _. Unit {0} };
+
+    ghost failed = { λ device. device.has_failed };
 
     fn sync(&mut self, count: u64) -> Result<(), SyncFault> {
         let written = self.stage.written.load(Ordering::SeqCst);
@@ -141,6 +144,7 @@ impl<'s> Device for Told<'s> {
         let number = before.saturating_add(1);
         let may_end = reaches(self.rt, &self.stage.ended, number);
         if !may_end || self.stage.failed.load(Ordering::SeqCst) == number {
+            self.has_failed = true;
             return Err(SyncFault);
         }
         self.stage.left.store(written, Ordering::SeqCst);
@@ -183,7 +187,11 @@ struct Scene<'s> {
 
 /// A scene on which nothing is written.
 fn scene_of<'s>(abort: &impl Abort, rt: &'s HostRuntime, stage: &'s Stage) -> Scene<'s> {
-    let device = Told { rt, stage };
+    let device = Told {
+        rt,
+        stage,
+        has_failed: false,
+    };
     let counted = Counted::new(rt.alloc(), Writes(stage), device).ok();
     let counted = counted.expect(abort, "memory");
     let durable = counted.durable().clone().ok().expect(abort, "memory");
@@ -232,7 +240,7 @@ impl<'s> Scene<'s> {
     /// Waits until this is seen, and then for a moment, in which a thread that has to wait begins to.
     fn wait_until(&self, rt: &(impl Clock + Abort + Alloc<A = Global>), wanted: &str, line: &str) {
         for _turn in 0..100_000 {
-            if is_seen(self.stage.shown(rt).as_str(), wanted) {
+            if self.stage.shown(rt).as_str() == wanted {
                 pause(rt);
                 return;
             }
@@ -258,31 +266,10 @@ impl<'s> Scene<'s> {
     }
 }
 
-/// Whether a sign is wanted.
-fn is_wanted(sign: char, wanted: char) -> bool {
-    match wanted {
-        '?' => sign == '~' || sign == '+',
-        '*' => sign == '+' || sign == '-',
-        _ => sign == wanted,
-    }
-}
-
-/// Whether all that is shown is wanted.
-fn is_seen(shown: &str, wanted: &str) -> bool {
-    let mut rest = wanted.chars();
-    for sign in shown.chars() {
-        match rest.next() {
-            Some(wanted) if is_wanted(sign, wanted) => {}
-            _ => return false,
-        }
-    }
-    rest.next().is_none()
-}
-
 /// After all steps the same is seen as after the last one, and no sync was asked for bytes that weren't written.
 fn expect_end(rt: &(impl Abort + Alloc<A = Global>), stage: &Stage, line: &str) {
     let (_, wanted) = line.rsplit_once(':').expect(rt, "a step");
-    assert!(rt; is_seen(stage.shown(rt).as_str(), wanted), "{line}");
+    assert!(rt; stage.shown(rt).as_str() == wanted, "{line}");
     assert!(rt; stage.unwritten.load(Ordering::SeqCst) == 0, "{line}");
 }
 

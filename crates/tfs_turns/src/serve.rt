@@ -1,6 +1,6 @@
 //! A folder that is served in terms.
 
-ghost use Rattle.std.specs.Prelude.{◌≤◌};
+ghost use Rattle.std.specs.Prelude.{◌≡◌, ◌≤◌};
 ghost use Rattle.tfs_terms.specs.Terms.{EndsOn, HoldsAll};
 
 use crate::fault::end_of;
@@ -13,7 +13,7 @@ use std::sync::{Arc, Mutex, Wait};
 use std::thread::Threads;
 use std::time::Clock;
 use tfs_files::{
-    Fault, FolderLock, JournalSink, PositionFile, Retention, ServedJournal, numbers_here,
+    DurableJournal, Fault, FolderLock, JournalSink, PositionFile, Retention, ServedJournal,
 };
 use tfs_serve::{AcceptFault, AnyListener};
 use tfs_table::Table;
@@ -45,11 +45,12 @@ pub struct Plan<'p> {
     ghost few: { workers ≤ 16 },
 }
 
-/// What a start has made: the listener, whose waits look up, the file of the least position, and the table over the newest journal.
+/// What a start has made: the listener, whose waits look up, the file of the least position, the folder's newest journal, and the table over it.
 #[derive(Drop)]
 pub struct Begun {
     pub listener: AnyListener,
     pub least: Option<PositionFile>,
+    pub journal: DurableJournal,
     pub table: Table<JournalSink>,
 }
 
@@ -78,25 +79,22 @@ pub fn serve_folder<R: AllocGlobal + Threads + Wait + Clock + Sync>(
     let Begun {
         listener,
         least,
+        journal: in_place,
         table,
     } = begun;
-    let Some((number, journal)) = newest(host, plan.folder) else {
-        return Left {
-            table,
-            fault: Fault::CannotRead,
-            accepting: None,
-            reported: Tally::new(),
-        };
+    let Some(journal) = served_journal(host, plan.folder, in_place.number()) else {
+        return unread(table);
     };
     let least = Mutex::new(least);
-    let watch = Watch::new(host, lock, plan);
-    watch.open(number, table.base().position());
+    let watch = Watch::new(host, lock, plan, in_place);
+    watch.open(in_place, table.base().position());
     let mut turning = Turning {
         rt,
         host,
         plan,
         watch: &watch,
         journal,
+        in_place,
         least: &least,
         listener: &listener,
         news: Cell::new(News::First),
@@ -105,13 +103,7 @@ pub fn serve_folder<R: AllocGlobal + Threads + Wait + Clock + Sync>(
         reported: Tally::new(),
     };
     let (table, finish) = serve_terms(rt, rt.alloc(), table, &mut turning);
-    let fault = if lock.is_lost() {
-        Fault::Replaced
-    } else if watch.is_muted() {
-        Fault::SyncFault
-    } else {
-        end_of(finish, table.stopped())
-    };
+    let fault = fault_after(lock, &watch, end_of(finish, table.stopped()));
     let Turning {
         accepting,
         reported,
@@ -125,10 +117,32 @@ pub fn serve_folder<R: AllocGlobal + Threads + Wait + Clock + Sync>(
     }
 }
 
-/// A folder's newest journal, with its number.
-fn newest(host: &HostRuntime, folder: &str) -> Option<(u64, Arc<ServedJournal>)> {
-    let numbers = numbers_here(host, folder).ok()?;
-    let number = numbers.as_slice().last().copied()?;
+/// Returns the table of a folder that can't be read, of which no change was reported.
+fn unread(table: Table<JournalSink>) -> Left
+    ensures table { result.table ≡ table }
+    ensures reported { result.reported.count ≡ 0 }
+{
+    Left {
+        table,
+        fault: Fault::CannotRead,
+        accepting: None,
+        reported: Tally::new(),
+    }
+}
+
+/// Returns the fault that has ended the terms: a lost lock or a failed sync comes before that of the last term.
+fn fault_after(lock: &FolderLock, watch: &Watch<'_>, last: Fault) -> Fault {
+    if lock.is_lost() {
+        Fault::Replaced
+    } else if watch.is_muted() {
+        Fault::SyncFault
+    } else {
+        last
+    }
+}
+
+/// A folder's journal of a number, as it is opened.
+fn served_journal(host: &HostRuntime, folder: &str, number: u64) -> Option<Arc<ServedJournal>> {
     let journal = ServedJournal::named(host, folder, number).ok()?;
-    Some((number, Arc::new(host.alloc(), journal).ok()?))
+    Arc::new(host.alloc(), journal).ok()
 }

@@ -1,12 +1,12 @@
 //! What a folder's terms are served with.
 
-ghost use Rattle.std.specs.Prelude.{◌≡◌, length, IfOk};
+ghost use Rattle.std.specs.Prelude.{◌≡◌, ◌<◌, length, IfOk};
 
 use crate::fault::{TurnFault, fault_of, fault_of_opening};
 use crate::gate::Watching;
 use crate::listening::Listening;
 use crate::news::{News, Turned};
-use crate::placing::{journal_of, length_of, place, remove, sink_of};
+use crate::placing::{journal_of, length_of, name_new, remove, sink_of};
 use crate::serve::Plan;
 use crate::underway::Underway;
 use crate::watch::Watch;
@@ -16,7 +16,7 @@ use std::snapshot::Snapshot;
 use std::sync::atomic::AtomicBool;
 use std::sync::{Arc, Mutex, Wait};
 use tfs_durable::{Durable, FileDevice};
-use tfs_files::{JournalSink, PositionFile, ServedJournal};
+use tfs_files::{DurableJournal, JournalSink, PositionFile, ServedJournal};
 use tfs_serve::{AcceptFault, AnyListener, AnyStream, Served, first_fault};
 use tfs_table::Table;
 use tfs_terms::{Tally, Terms, Unturned};
@@ -29,6 +29,7 @@ pub(crate) struct Turning<'t, R: AllocGlobal + Wait> {
     pub(crate) plan: &'t Plan<'t>,
     pub(crate) watch: &'t Watch<'t>,
     pub(crate) journal: Arc<ServedJournal>,
+    pub(crate) in_place: DurableJournal,
     pub(crate) least: &'t Mutex<Option<PositionFile>>,
     pub(crate) listener: &'t AnyListener,
     pub(crate) news: Cell<News>,
@@ -39,21 +40,27 @@ pub(crate) struct Turning<'t, R: AllocGlobal + Wait> {
 
 impl<'t, R: AllocGlobal + Wait> Turning<'t, R> {
     /// The number of the next journal.
-    fn next_number(&self) -> u64 {
-        self.watch.number().saturating_add(1)
+    fn next_number(&self) -> Result<u64, TurnFault>
+        ensures after { IfOk result (λ number. self.now.in_place.number < number) }
+    {
+        match self.in_place.number().checked_add(1) {
+            Some(number) => Ok(number),
+            None => Err(TurnFault::TooFar),
+        }
     }
 
     /// The journal goes on, since the next one isn't made: what was begun of it goes, and another try is made later.
     fn stay(&self, fault: TurnFault) {
-        let number = self.next_number();
-        let _ = remove(self.host, self.plan.folder, number);
         self.watch.rest();
-        self.news.set(News::Stayed(number, fault_of(fault)));
+        if let Ok(number) = self.next_number() {
+            let _ = remove(self.host, self.plan.folder, number);
+            self.news.set(News::Stayed(number, fault_of(fault)));
+        }
     }
 }
 
 impl<'t, R: AllocGlobal + Wait + Sync> Terms for Turning<'t, R> {
-    ghost use Rattle.std.specs.Prelude.{◌≡◌, ◌≤◌, ◌+◌, [], length, sum_by, IfOk, OnOk, OnErr, IfSome};
+    ghost use Rattle.std.specs.Prelude.{◌≡◌, ◌≤◌, ◌<◌, ◌+◌, [], length, sum_by, IfOk, OnOk, OnErr, IfSome};
 
     type Gate = Watching<'t, R>;
 
@@ -112,23 +119,25 @@ impl<'t, R: AllocGlobal + Wait + Sync> Terms for Turning<'t, R> {
         if !self.watch.holds(&self.journal) {
             return Err(TurnFault::Replaced);
         }
-        sink_of(self.host, self.plan.folder, self.next_number())
+        sink_of(self.host, self.plan.folder, self.next_number()?)
     }
 
-    fn turn(&mut self, next: &Table<JournalSink>) -> Result<(), TurnFault> {
-        let (folder, number) = (self.plan.folder, self.next_number());
+    fn turn(&mut self, next: &Table<JournalSink>) -> Result<(), TurnFault>
+        ensures placed { OnOk result (self.new.placed.value.journal ≡ next.now.journal) }
+        ensures kept { OnErr result (self.new.placed.value.journal ≡ self.old.placed.value.journal) }
+        ensures reported { self.new.reported.count ≡ self.old.reported.count }
+        ensures durable { OnOk result (self.old.in_place.number < self.new.in_place.number) }
+    {
+        let (folder, number) = (self.plan.folder, self.next_number()?);
         let journal = journal_of(self.host, folder, number)?;
         if !self.watch.holds(&self.journal) {
             return Err(TurnFault::Replaced);
         }
-        let before = length_of(self.host, folder, self.watch.number()).unwrap_or(0);
-        match place(self.host, folder, number) {
-            Ok(()) => {}
-            Err(fault) => return Err(fault),
-        }
+        let before = length_of(self.host, folder, self.in_place.number()).unwrap_or(0);
+        self.in_place = name_new(self.host, folder, number)?;
         self.placed = Snapshot::of(next);
         self.journal = journal;
-        self.watch.open(number, next.position());
+        self.watch.open(self.in_place, next.position());
         let (position, names) = (next.position(), next.names());
         let after = self.watch.bytes();
         self.news.set(News::Turned(Turned {

@@ -9,7 +9,7 @@ use clap::{Arg, Command};
 use std::alloc::{AllocError, Global};
 
 /// The version of the file VERSION, and the kit with which the program is proved.
-const VERSION: &str = "0.1.0 (rattle-kit-13f logic dac8208d650f15bf)";
+const VERSION: &str = "0.2.0 (rattle-kit-13f logic dac8208d650f15bf)";
 
 /// What the statuses mean.
 const STATUSES: &str =

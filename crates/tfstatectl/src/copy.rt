@@ -4,9 +4,9 @@ use crate::command::Copying;
 use std::process::ExitCode;
 use std::{fs, io};
 use tfs_files::{
-    End, Fault, FolderLock, Gap, Originals, Place, PositionFile, below, end_by, least_position,
-    lock_folder, mark_copies, name_parts, numbers_here, put_away, raised, read_originals,
-    refuse_other_copies, refuse_other_original, refuse_served, remove_expired, write_parts,
+    DurableJournal, End, Fault, FolderLock, Gap, Originals, Place, PositionFile, end_by,
+    least_position, lock_folder, mark_copies, name_parts, numbers_here, raised, read_originals,
+    refuse_other_copies, refuse_other_original, refuse_served, remove_expired, retire, write_parts,
 };
 use tfs_folder::{Chosen, FolderFile, choose};
 
@@ -149,16 +149,18 @@ fn keep(
     copied: &Copied,
 ) -> Result<(), End> {
     mark_copies(rt, asked.from, asked.to, copied.parts.as_slice())?;
-    name_parts(rt, asked.to, copied.parts.as_slice(), copied.newest.number)?;
-    tidy(rt, asked, copied.newest.number)?;
+    let named = name_parts(rt, asked.to, copied.parts.as_slice(), copied.newest.number)?;
+    if let Some(journal) = named {
+        tidy(rt, asked, journal)?;
+    }
     let _least = raised(rt, least, copied.newest.position)?;
     Ok(())
 }
 
-/// Puts the journals before that of a number away.
-fn tidy(rt: &HostRuntime, asked: &Copying<'_>, number: u64) -> Result<(), End> {
+/// Retires the journals before this one, which continues the last of them.
+fn tidy(rt: &HostRuntime, asked: &Copying<'_>, journal: DurableJournal) -> Result<(), End> {
     let here = numbers_here(rt, asked.to)?;
-    put_away(rt, asked.to, below(here.as_slice(), number))?;
+    retire(rt, asked.to, here.as_slice(), journal)?;
     let _ = remove_expired(rt, asked.to, asked.keep);
     Ok(())
 }

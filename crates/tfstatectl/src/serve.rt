@@ -6,7 +6,7 @@ use std::process::ExitCode;
 use std::sync::Wait;
 use std::thread::Threads;
 use std::time::Clock;
-use tfs_files::{End, Fault, FolderLock, Place, end_by, status_of};
+use tfs_files::{End, Fault, FolderLock, Made, Place, end_by, status_of};
 use tfs_serve::AcceptFault;
 use tfs_turns::{Begun, Left, Plan, serve_folder};
 
@@ -21,11 +21,12 @@ pub(crate) fn run<R: AllocGlobal + Threads + Wait + Clock + Sync>(
         lock,
         listener,
         least,
-        table,
+        made: Made { journal, table },
     } = ready;
     let begun = Begun {
         listener,
         least,
+        journal,
         table,
     };
     serve_begun(rt, host, &lock, asked, begun)

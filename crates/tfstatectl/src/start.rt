@@ -4,20 +4,19 @@ use crate::command::Serving;
 use crate::listening::listen;
 use std::fs;
 use tfs_files::{
-    End, Fault, FolderLock, JournalSink, Place, PositionFile, Start, least_position, lock_folder,
-    raised, refuse_small_stack, started,
+    End, Fault, FolderLock, Made, Place, PositionFile, Start, least_position, lock_folder, raised,
+    refuse_small_stack, started,
 };
 use tfs_serve::AnyListener;
-use tfs_table::Table;
 
-/// A folder that is ready to be served: its lock, the listener, the file of the least position,
-/// and the table over its next journal.
+/// A folder that is ready to be served: its lock, the listener, the file of the least position, its
+/// next journal, and the table over that.
 #[derive(Drop)]
 pub(crate) struct Ready {
     pub(crate) lock: FolderLock,
     pub(crate) listener: AnyListener,
     pub(crate) least: Option<PositionFile>,
-    pub(crate) table: Table<JournalSink>,
+    pub(crate) made: Made,
 }
 
 /// Looks at the stack of threads, takes the lock of a folder and the address, and makes the folder's next journal; or ends by the first
@@ -32,33 +31,29 @@ pub(crate) fn start(rt: &HostRuntime, asked: &Serving<'_>) -> Result<Ready, End>
     }
     let lock = lock_folder(rt, asked.start.folder)?;
     let listener = listen(rt, asked.listen)?;
-    let (least, table) = begun(rt, asked, begins)?;
+    let (least, made) = begun(rt, asked, begins)?;
     Ok(Ready {
         lock,
         listener,
         least,
-        table,
+        made,
     })
 }
 
-/// The file of the least position, which is raised to the table's, and the table over the folder's next journal.
+/// The file of the least position, which is raised to the table's, and the folder's next journal.
 fn begun(
     rt: &HostRuntime,
     asked: &Serving<'_>,
     begins: bool,
-) -> Result<(Option<PositionFile>, Table<JournalSink>), End> {
+) -> Result<(Option<PositionFile>, Made), End> {
     let least = PositionFile::named(rt, asked.least_file, begins)?;
-    let table = started_from(rt, asked, least_position(asked.start.least, &least))?;
-    let least = raised(rt, least, table.position())?;
-    Ok((least, table))
+    let made = started_from(rt, asked, least_position(asked.start.least, &least))?;
+    let least = raised(rt, least, made.table.position())?;
+    Ok((least, made))
 }
 
-/// The table over the folder's next journal, which starts from this position at least.
-fn started_from(
-    rt: &HostRuntime,
-    asked: &Serving<'_>,
-    least: u64,
-) -> Result<Table<JournalSink>, End> {
+/// The folder's next journal, which starts from this position at least.
+fn started_from(rt: &HostRuntime, asked: &Serving<'_>, least: u64) -> Result<Made, End> {
     let start = Start {
         least,
         ..asked.start

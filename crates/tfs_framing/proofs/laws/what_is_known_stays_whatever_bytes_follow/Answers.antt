@@ -1,8 +1,8 @@
 -- The parts of what is known stay one by one.
 use Rattle.tfs_framing.proofs.DecodedLemmas.{decoded_more}
 use Rattle.tfs_framing.proofs.KnownLemmas.{sought_more}
-use Rattle.tfs_framing.proofs.SizedLemmas.{sized_more}
+use Rattle.tfs_framing.proofs.OpensLemmas.{opens_more}
 use Rattle.tfs_framing.proofs.laws.what_is_known_stays_whatever_bytes_follow.Goals as goal
 
 pub returns : goal.returns
-returns c = record { sought = sought_more; sized = sized_more; decoded = decoded_more }
+returns c = record { sought = sought_more; opens = opens_more; decoded = decoded_more }

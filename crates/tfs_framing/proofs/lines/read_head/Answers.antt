@@ -26,6 +26,7 @@ returns-in-Ok-clause-ok c =
         close = c.asks_to_close.ensures
             ∙ ap (λ t. c.in-Some.spans.version == 0 || list_any lists_close (values_named (codes "connection") t)) at.fields
             ∙ ap (λ t. t == 0 || list_any lists_close (values_named (codes "connection") (fields_of h))) at.version;
-        digest = subst (λ t. TellsValues c.values_named.result (values_named (codes "content-md5") t)) at.fields c.values_named.ensures;
+        digest = λ body. c.asked_digest.ensures _ body
+            (subst (λ t. TellsValues c.values_named.result (values_named (codes "content-md5") t)) at.fields c.values_named.ensures);
       },
     )

@@ -8,5 +8,6 @@ use Rattle.tfs_printed.proofs.printed.push_json.Goals as goal
 
 pub returns : goal.returns
 returns c =
-    let end = YieldsList-end (YieldsList-from_chars c.args.text.now c.utf8.text cc) c.loop-c.yielded _ c.loop-c.yielded_by _ _ c.in-None.is c.next.ensures.steps in
+    let end = YieldsList-end (YieldsList-from_chars c.args.text.now c.utf8.text cc) c.loop-c.yielded _ c.loop-c.yielded_by _ _
+    c.in-None.is c.next.ensures.steps in
     c.loop-c.invariant ∙ ap (λ cs. string_bytes c.args.out.now ++ flat_map json cs) (sym (map-id c.loop-c.yielded) ∙ end.0)

@@ -1,0 +1,36 @@
+"""Collects the figures of a run of `make bench` for the page that it prints. A benchmark notes
+rows; the file that the variable FIGURES names gets them, a line each."""
+import json
+import os
+
+
+def note(table, row, *cells):
+    """Adds a row to a table of the page, if there is a page."""
+    if "FIGURES" in os.environ:
+        with open(os.environ["FIGURES"], "a", encoding="utf-8") as file:
+            file.write(json.dumps([table, row, *cells]) + "\n")
+
+
+def rate(value):
+    """Returns a rate as the page has it, with a digit after the point if it is small."""
+    return f"{value:,.0f}" if value >= 100 else f"{value:.1f}"
+
+
+def times_as_fast(own, other):
+    """Returns how many times as high an own rate is as another one."""
+    return f"{own / other:.2f}"
+
+
+def note_rates(what, own, peers):
+    """Adds a row for a rate on each number of connections, with its ratios to each peer's."""
+    ratios = [
+        f"{peer} {', '.join(map(times_as_fast, own, others))}"
+        for peer, others in peers.items()
+        if len(others) == len(own)
+    ]
+    note("rates", what, *(rate(value) for value in own), "; ".join(ratios))
+
+
+def span(values):
+    """Returns the lowest and the highest of some ratios."""
+    return f"{min(values):.2f} to {max(values):.2f}"

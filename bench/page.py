@@ -1,0 +1,60 @@
+"""Makes the page docs/PERFORMANCE.md of the figures that a run of `make bench` noted."""
+import json
+
+INTRODUCTION = """# Performance
+
+One run of `make bench`: {where}. Times vary twofold between machines.
+
+A ratio says how many times as fast tfstated is as what it is compared with: above 1 it is faster. A
+figure is the middle one of three rounds or more, in which what is compared takes turns."""
+PEERS = """nginx serves files and WebDAV's PUT, and syncs nothing. The responder is a C program that
+answers fixed bytes. The bare work is two MD5s of a state, a scan of its JSON, an append, its sync,
+and the responder's time. PostgreSQL changes a row for each name under an advisory lock, and syncs.
+Journals are on disk."""
+ARENAS = """The C library keeps an arena of memory for each worker, and an arena keeps what was
+freed in it. With `MALLOC_ARENA_MAX=1` in the server's environment there is one for all, for which
+large pushes wait."""
+REPEAT = """## How to repeat it
+
+```sh
+make bench
+make bench BENCH=serve
+```
+
+The first prints this page, and what each part measures on standard error. The second prints what
+one part measures. Each part proves and builds its program first: run it twice. PostgreSQL and
+valgrind are left out if they aren't installed. It needs nginx, 30 GB on the disk, and a machine that
+does nothing else."""
+# Each table: its heading, the text before it, and the titles of its columns.
+TABLES = {
+    "rates": ("Requests a second", "", ("What", "1 connection", "4", "16", "Times as fast as")),
+    "times": ("Times and memory", ARENAS, ("What", "Figure", "Compared with", "Times as fast")),
+    "ratios": ("Calls", "", ("What", "Compared with", "Times as fast")),
+    "waits": (
+        "What good clients wait because of bad ones",
+        "Bad clients come back once they are disconnected.",
+        ("Bad clients", "At a time", "Longest wait of 20 good ones", "With nginx"),
+    ),
+}
+
+
+def table(columns, rows):
+    """Returns the lines of a table. A row that is shorter ends with empty cells."""
+    filled = [[*row, *[""] * (len(columns) - len(row))] for row in rows]
+    lines = [f"|{'|'.join(cells)}|" for cells in (columns, *filled)]
+    return "\n".join([lines[0], "|---" * len(columns) + "|", *lines[1:]])
+
+
+def page(where, noted):
+    """Returns the text of the page for rows that are noted, each with the name of its table."""
+    parts = [INTRODUCTION.format(where=where), PEERS]
+    for name, (heading, text, columns) in TABLES.items():
+        rows = [row[1:] for row in noted if row[0] == name]
+        if rows:
+            parts += [f"## {heading}", *([text] if text else []), table(columns, rows)]
+    return "\n\n".join([*parts, REPEAT]) + "\n"
+
+
+def read_noted(path):
+    """Returns the rows of a file."""
+    return [json.loads(line) for line in path.read_text(encoding="utf-8").splitlines()]

@@ -1,6 +1,0 @@
--- Nothing is known of the bytes, which are all there.
-use Rattle.std.proofs.Common.{refl}
-use Rattle.tfs_framing.proofs.state.State.start.Goals as goal
-
-pub returns-clause-at : goal.returns-clause-at
-returns-clause-at c = λ bytes. (refl, c.start.ensures bytes)

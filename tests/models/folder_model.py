@@ -1,0 +1,60 @@
+"""A plain model of a folder of journals: which of them a start of `tfstatectl serve` goes on from, and what it writes. It is written from
+docs/JOURNAL.md, reads each journal whole, and never runs out of memory."""
+import re
+
+from journal_reader import MAX_POSITION, base_text, read_journal
+from replay import replay
+
+NAME = re.compile(r"journal-([0-9]{10})\.tfj")
+
+
+class Fault(Exception):
+    """The name of a fault, and the number of the journal that shows it."""
+
+
+def number_of(name):
+    """The number of a journal's name, or none."""
+    found = NAME.fullmatch(name)
+    return int(found[1]) if found else None
+
+
+def opened(number, data):
+    """The position that a journal ends at, and the rows that it leaves."""
+    form, position, rows, entries, end = read_journal(data)
+    table, unlawful = replay(rows, entries)
+    if end.startswith("damaged"):
+        raise Fault("Damaged", number)
+    if end == "torn 0" or form == 2 and end == "torn 5":
+        raise Fault("TornBase", number)
+    if unlawful:
+        raise Fault("Unlawful", number)
+    left = [(name.encode(), table.holders.get(name, ("", b""))[1], table.states.get(name, ("", 0, b""))[2]) for name in sorted(table.names)]
+    return position + len(entries), left
+
+
+def started(number, data):
+    """The text that a start writes which goes on from a journal."""
+    position, rows = opened(number, data)
+    if position > MAX_POSITION:
+        raise Fault("TooFar", number)
+    return b"TFJ2\n" + base_text(position, rows)
+
+
+def chosen(files, least=0):
+    """The number and the bytes of the journal that a start goes on from, and the number of one that a failed start left, or none."""
+    journals = sorted((number_of(name), data) for name, data in files.items() if number_of(name) is not None)
+    if not journals:
+        raise Fault("NoJournal", None)
+    own, left = journals[-1], None
+    for before, after in zip(journals, journals[1:]):
+        text = started(*before)
+        if not after[1].startswith(text):
+            if after != own or not text.startswith(after[1]):
+                opened(*after)
+                raise Fault("Parted", after[0])
+            own, left = before, after[0]
+            break
+    if opened(*own)[0] < least:
+        raise Fault("NotAtLeast", own[0])
+    started(*own)
+    return *own, left

@@ -1,0 +1,181 @@
+"""A plain model of what `tfstatectl` tells of a folder's past: rows, versions, and faults. It is written from docs/VERSIONS.md and
+docs/JOURNAL.md, reads each journal whole, and never runs out of memory."""
+import json
+import re
+
+from folder_model import Fault
+from impact_model import instances_of
+from journal_reader import read_journal
+from replay import replay
+from stdio_model import document_of, locked_by, members_of
+
+LIMIT = 2**64 - 1
+SERIAL = re.compile(rb'("serial"\s*:\s*)([0-9]+)')
+WORDS = {"who": "Who", "operation": "Operation", "created": "Created"}
+
+
+class Opened:
+    """A journal as it is read: its position, its entries up to the first unlawful one, what they leave, and its fault, or none."""
+
+    def __init__(self, data):
+        form, self.base, self.rows, entries, end = read_journal(data)
+        self.bytes = len(data)
+        self.table, unlawful = replay(self.rows, entries)
+        self.is_cut = end == "torn 0" or form == 2 and end == "torn 5"
+        self.has_base = not self.is_cut and end not in ("damaged 0", "damaged 5")
+        self.read, self.entries = entries, entries[: unlawful - 1] if unlawful else entries
+        self.damage = "Damaged" if end.startswith("damaged") else None
+        self.fault = "TornBase" if self.is_cut else "Unlawful" if unlawful else self.damage
+
+    def has(self, name):
+        return any(name == row[0] for row in self.rows) or any(name == entry[1] for entry in self.read)
+
+
+def opened(files):
+    """The journals by their numbers, rising, but for a newest one that is cut off inside its base."""
+    journals = [(number, Opened(data)) for number, data in sorted(files.items())]
+    return journals[:-1] if len(journals) > 1 and journals[-1][1].is_cut else journals
+
+
+def words_of(info):
+    """What lock information says of itself."""
+    members = members_of(info, "BadLockInfo")
+    return {word: value if isinstance(value := members.get(member), str) else None for word, member in WORDS.items()}
+
+
+def numbers_of(state):
+    """The serial, the instances and the bytes of a state."""
+    top = members_of(state, "BadState")
+    return {"serial": top["serial"], "instances": len(instances_of(top)), "bytes": len(state)}
+
+
+def row_of(position, kind, fields):
+    """The row of an act."""
+    row = {"position": position, "act": kind}
+    if kind == "lock":
+        return {**row, "id": locked_by(fields[0]), **words_of(fields[0])}
+    return {**row, **(numbers_of(fields[1]) if kind == "push" else {}), "id": fields[0].decode() or None}
+
+
+def kept_from(position):
+    """The member of a row that says from which position on versions are kept, unless that is 0."""
+    return {"kept_from": position} if position else {}
+
+
+def history(files, name):
+    """The rows of a name, and the fault behind them with its journal's number, or none."""
+    rows, is_there, reached, least = [], False, 0, 0
+    journals = opened(files)
+    if not journals:
+        raise Fault("NoJournal", None)
+    for number, journal in journals:
+        is_there = is_there or journal.has(name)
+        least = journal.base if reached < journal.base else least
+        reached = reached if journal.is_cut else journal.base + len(journal.entries)
+        rows += [{**row_of(journal.base + place, kind, fields), **kept_from(least)}
+                 for place, (kind, own, fields) in enumerate(journal.entries, 1) if own == name]
+        if journal.fault:
+            if not is_there:
+                raise Fault(journal.fault, number)
+            return rows, (journal.fault, number)
+    if not is_there:
+        raise Fault("NoName", None)
+    return rows, None
+
+
+def state_at(journal, name, position):
+    """The state of a name at a position of a journal, or none."""
+    state = next((row[2] for row in journal.rows if row[0] == name), b"") or None
+    for kind, own, fields in journal.read[: position - journal.base]:
+        if own == name and kind in ("push", "delete"):
+            state = fields[1] if kind == "push" else None
+    return state
+
+
+def version(files, name, position):
+    """The bytes of a version."""
+    journals = opened(files)
+    if not journals:
+        raise Fault("NoJournal", None)
+    for number, journal in reversed(journals):
+        if not journal.has_base:
+            raise Fault(journal.fault, number)
+        if journal.base <= position:
+            if position > journal.base + len(journal.read):
+                newest = number == journals[-1][0]
+                raise Fault(journal.damage or ("BehindNewest" if newest else "NotKept"), number if journal.damage else None)
+            state = state_at(journal, name, position)
+            if state is None:
+                raise Fault("NoState" if journal.has(name) else "NoName", None)
+            return state
+    raise Fault("BeforeOldest", None)
+
+
+def newest(files):
+    """The newest journal of the folder itself."""
+    journals = opened(files)
+    if not journals:
+        raise Fault("NoJournal", None)
+    number, journal = journals[-1]
+    if journal.damage or journal.fault:
+        raise Fault(journal.damage or journal.fault, number)
+    return journal
+
+
+def newest_version(files, name):
+    """The bytes of the newest version."""
+    journal = newest(files)
+    if not journal.has(name):
+        raise Fault("NoName", None)
+    if name not in journal.table.states:
+        raise Fault("NoState", None)
+    return journal.table.states[name][2]
+
+
+def restored(here, files, name, position):
+    """The bytes that bring a version back."""
+    old = version(files, name, position)
+    current = newest(here).table.states.get(name)
+    if not current:
+        return old
+    lineage, serial, _ = document_of(old)[0], current[1], None
+    if lineage != current[0]:
+        raise Fault("LineageDiffers", None)
+    if serial == LIMIT:
+        raise Fault("SerialAtLimit", None)
+    found = list(SERIAL.finditer(old))[-1]
+    return old[: found.start(2)] + b"%d" % (serial + 1) + old[found.end(2) :]
+
+
+def listing(here, whole):
+    """The rows of the names, over all journals."""
+    journal, rows, least = newest(here), [], Opened(whole[min(whole)]).base
+    names = dict.fromkeys([row[0] for row in journal.rows] + [entry[1] for entry in journal.entries])
+    for name in names:
+        state, holder = journal.table.states.get(name), journal.table.holders.get(name)
+        numbers = numbers_of(state[2]) if state else {"serial": None, "instances": None, "bytes": None}
+        words = {"holder": holder[0], **words_of(holder[1])} if holder else {"holder": None, **{word: None for word in WORDS}}
+        rows.append({"name": name, **numbers, **words, **kept_from(least)})
+    return rows
+
+
+def counts(here):
+    """The numbers of what is whole of the newest journal, and the fault behind it with the journal's number, or none."""
+    journals = opened(here)
+    if not journals:
+        raise Fault("NoJournal", None)
+    number, journal = journals[-1]
+    fault = journal.damage or journal.fault
+    if not journal.has_base:
+        raise Fault(fault, number)
+    table, size = journal.table, len(journal.entries)
+    names = {row[0] for row in journal.rows} | {entry[1] for entry in journal.entries}
+    found = {"tfstated_journal_bytes": journal.bytes, "tfstated_journal_entries": size, "tfstated_changes_total": journal.base + size,
+             "tfstated_workspaces": len(names), "tfstated_instances": sum(numbers_of(state[2])["instances"] for state in table.states.values()),
+             "tfstated_locks": len(table.holders)}
+    return found, (fault, number) if fault else None
+
+
+def as_json(rows):
+    """Rows as they are compared with what is printed."""
+    return json.loads(json.dumps(rows))

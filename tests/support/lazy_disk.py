@@ -1,0 +1,62 @@
+"""A lazy disk for the tests (lazy_disk.c), and what a power cut leaves of it."""
+import functools
+import os
+import shutil
+from pathlib import Path
+
+from folders import fresh
+from programs import preloaded
+
+
+@functools.cache
+def shim():
+    """The library of the disk, which is built once."""
+    return preloaded("lazy_disk.c")
+
+
+def slow(**how):
+    """The environment of a program on a disk whose power is never cut."""
+    given = {name: str(value) for name, value in how.items()}
+    return {**os.environ, "LD_PRELOAD": str(shim()), **given}
+
+
+class Disk:
+    """A disk with a folder of journals and a file of the least position, or one of this path."""
+
+    def __init__(self, root=None):
+        shim()
+        self.root, self.kept, self.armed = Path(root or fresh()), None, fresh() / "armed"
+        self.folder, self.least = self.root / "folder", self.root / "least"
+        if root is None:
+            self.folder.mkdir()
+
+    def env(self, **how):
+        """The environment of a program that starts on the disk, which keeps all that is there."""
+        self.kept = fresh()
+        return slow(DISK=self.root, KEPT=self.kept, **how)
+
+    def names(self):
+        """The paths that are kept, directories first, each with the number of its file or 0."""
+        lines = (self.kept / "names").read_text().splitlines()
+        found = [(path, int(number)) for number, _, path in (line.partition(" ") for line in lines)]
+        return sorted(found, key=lambda name: (name[1] > 0, name[0]))
+
+    def kept_bytes(self, path):
+        """The kept bytes of the file of a path."""
+        number = dict(self.names())[str(Path(path).relative_to(self.root))]
+        return (self.kept / str(number)).read_bytes()
+
+    def cut(self):
+        """Cuts the power after the program has ended: the disk has only what was kept. A file is
+        lost with its directory."""
+        names = self.names()
+        shutil.rmtree(self.root)
+        self.root.mkdir()
+        for path, number in names:
+            place = self.root / path
+            if not place.parent.is_dir():
+                continue
+            if number:
+                shutil.copyfile(self.kept / str(number), place)
+            else:
+                place.mkdir()

@@ -1,0 +1,317 @@
+"""Runs `tfstatectl serve` in terms: many in a row under clients, terms that a file asks for, turns on full disks, kills inside turns, and
+Terraform. Nothing that was acknowledged may be missing, and clients that try again as Terraform does see no error."""
+import http.client
+import json
+import os
+import random
+import resource
+import shutil
+import signal
+import socket
+import subprocess
+import threading
+import time
+
+import pytest
+
+from checking import S1, STARTED, expect
+from folder_program import STATUSES, limit_files, run
+from folders import A, B, LOOPBACK, all_of, at_once, fresh, journals, named
+from programs import preloaded
+from pushers import SECONDS, TRIES, Pusher, has_come, newest, serials_of, serving
+from serve_program import reply_of
+from stdio_program import request_text
+
+pytestmark = pytest.mark.usefixtures("tfstatectl")
+SHIM = preloaded("kill_calls.c")
+CHANGES = 500  # of each of 8 clients
+
+
+def expect_all(folder, pushers, about):
+    """Each acknowledged push is in the journals, in order; the one behind them may be there, once more for each try."""
+    serials, _ = serials_of(folder)
+    for pusher in pushers:
+        expect(pusher.failures, [], about)
+        there = serials.get(pusher.name, [])
+        expect(there, sorted(there), f"{about}: the order of {pusher.name}")
+        expect(sorted(set(there))[: pusher.acknowledged], list(range(1, pusher.acknowledged + 1)), f"{about}: {pusher.name}")
+
+
+def expect_served(server, pushers):
+    """A server has the last push of each name, or the one behind it."""
+    for pusher in pushers:
+        if pusher.acknowledged:
+            serial = json.loads(server.ask("GET", f"/state/{pusher.name}")[1])["serial"]
+            expect(serial in (pusher.acknowledged, pusher.acknowledged + 1), True, f"{pusher.name}: {serial}, {pusher.acknowledged}")
+
+
+def work(server, pushers, count):
+    """Has each of some clients push so often, at the same time: the most tries that a push took."""
+    tries = at_once(lambda pusher: max(pusher.push() for _ in range(count)), pushers)
+    for pusher in pushers:
+        pusher.connection.close()
+    return max(tries)
+
+
+def test_many_terms_in_a_row_lose_nothing():
+    folder, least = fresh(), fresh() / "least"
+    least.write_text("0")
+    server = serving(folder, "--compact-entries", str(CHANGES), "--at-least-file", least, workers="8")
+    pushers = [Pusher(server, f"n{k}") for k in range(8)]
+    tries = work(server, pushers, CHANGES)
+    expect_served(server, pushers)
+    lines = server.kill().splitlines()
+    serials, position = serials_of(folder)
+    expect((position >= 8 * CHANGES, newest(folder) > 4, tries <= TRIES), (True, True, True), (position, newest(folder), tries))
+    expect(len(lines), newest(folder), "a line for each term")
+    expect(" bytes in place of " in lines[1] and " 8 names, requests waited " in lines[1], True, lines[1])
+    expect(int(least.read_text()), position, "the least position was raised in each term")
+    expect_all(folder, pushers, "after many terms")
+    expect([serials[pusher.name][-1] for pusher in pushers], [CHANGES] * 8)
+    again = serving(folder)
+    expect_served(again, pushers)
+    again.kill()
+
+
+def test_a_file_asks_for_a_turn():
+    folder = fresh()
+    server = serving(folder)
+    expect(server.ask("POST", "/state/a", S1), (200, b""))
+    expect(server.ask("LOCK", "/state/a", B), (200, b""))
+    (folder / "compact").touch()
+    has_come(lambda: newest(folder) == 2, "a turn comes")
+    expect((server.ask("GET", "/state/a"), server.ask("LOCK", "/state/a", A)), ((200, S1), (423, B)))
+    has_come(lambda: newest(folder / "old") == 1, "the one before is put away")
+    expect(((folder / "compact").exists(), list(journals(folder))), (False, [2]))
+    expect(server.ask("UNLOCK", "/state/a", B), (200, b""))
+    line = server.kill().splitlines()[1]
+    expect(f"{named(2)}.tfj from position 2: " in line and " 1 names, requests waited " in line, True, line)
+    expect(serials_of(folder), ({"a": [1]}, 3))
+
+
+def test_a_term_that_ends_answers_what_has_begun_and_waits_for_nobody():
+    folder, text = fresh(), request_text("GET", "/state/a")
+    # Of four workers one has a request that comes in two parts, one a client that is silent, and two no client.
+    server = serving(folder, workers="4")
+    address, began = (LOOPBACK, server.port), time.monotonic()
+    with socket.create_connection(address, timeout=SECONDS) as begun, socket.create_connection(address, timeout=SECONDS) as silent:
+        begun.sendall(text[:17])
+        time.sleep(0.3)  # in which each has a worker
+        (folder / "compact").touch()
+        expect(silent.recv(1), b"", "who is silent is left")
+        # A file is looked for once a second; without a turn the client is left after two.
+        expect(time.monotonic() - began < 1.8, True, "before its time")
+        time.sleep(0.3)
+        expect(newest(folder), 1, "what has begun is waited for")
+        begun.sendall(text[17:])
+        with begun.makefile("rb") as file:
+            expect((reply_of(file), file.read()), ((404, b'{"error":"NoState"}'), b""), "what has begun is answered")
+    has_come(lambda: newest(folder) == 2, "the next term", 1)
+    expect(server.ask("GET", "/state/a")[0], 404, "in the next term")
+    server.kill()
+
+
+def grows(folder, size, *words, seconds):
+    """Whether a push of so many bytes has the server continue in another journal within a time."""
+    server, before = serving(folder, *words), newest(folder)
+    expect(Pusher(server, "a", b"x" * size).push(), 1)
+    end = time.monotonic() + seconds
+    while time.monotonic() < end and newest(folder) == before:
+        time.sleep(0.05)
+    server.kill()
+    return newest(folder) > before
+
+
+@pytest.mark.parametrize("size, words, wanted", [
+    (2_000, ("--compact-bytes", "2K"), True), (900, ("--compact-bytes=1K",), False), (1_000_000, ("--compact-bytes", "1M"), False),
+    (0, ("--compact-entries", "1"), True), (0, ("--compact-entries=1K", "--compact-bytes=1G"), False)])
+def test_bytes_and_entries_are_bounds(size, words, wanted):
+    expect(grows(fresh(), size, *words, seconds=SECONDS if wanted else 2), wanted)
+
+
+NO_BYTES = ("0", "0K", "x", "K", "-1", "1T", "1k", "1KK", "99999999999G", "18446744073709551616")
+
+
+@pytest.mark.parametrize("words", [
+    *(("--compact-bytes", number) for number in NO_BYTES), *(("--compact-entries", number) for number in ("0", "65001", "64K", "1G", "x")),
+    ("--compact-bytes",), ("--compact-entries=",), ("--compact-bytes=0",)], ids=" ".join)
+def test_wrong_bounds(words):
+    folder = fresh(n1=b"TFJ1\n")
+    status, output, errors = run("serve", folder, *words)
+    expect((status, output, "error: " in errors), (STATUSES["Arguments"], "", True), f"{words}: {errors}")
+    expect(all_of(folder), {f"{named(1)}.tfj": b"TFJ1\n"}, "nothing is changed")
+
+
+def limit(server, size):
+    """Lets the files of a running server grow to a size, or without end."""
+    _, most = resource.prlimit(server.process.pid, resource.RLIMIT_FSIZE)
+    resource.prlimit(server.process.pid, resource.RLIMIT_FSIZE, (most if size is None else size, most))
+
+
+def failed_turn(*words):
+    """A server whose first turn fails, since its files can't grow, and goes on, and its client."""
+    def ignore():
+        signal.signal(signal.SIGXFSZ, signal.SIG_IGN)
+    folder = fresh()
+    server = serving(folder, *words, preexec_fn=ignore)
+    pusher = Pusher(server, "a", b"x" * 10_000)
+    pusher.push()
+    limit(server, 5_000)
+    (folder / "compact").touch()
+    lines = [server.process.stderr.readline().decode() for _ in range(2)]
+    limit(server, None)
+    expect(f"{named(2)}.tfj: CannotWrite" in lines[1], True, lines)
+    expect((folder / "compact").exists(), False, "the file is taken")
+    pusher.push()
+    expect((sorted(path.name for path in folder.glob("*journal*")), pusher.acknowledged), ([f"{named(1)}.tfj"], 2), "the journal goes on")
+    return folder, server, pusher, time.monotonic()
+
+
+@pytest.fixture(scope="module", autouse=True)
+def failed(tfstatectl):
+    """A server whose turn failed before the first test began, which takes its minute meanwhile."""
+    made = failed_turn()
+    STARTED.clear()
+    yield made
+    made[1].process.kill()
+
+
+def test_a_turn_that_fails_goes_on_with_the_old_journal():
+    folder, server, pusher, _ = failed_turn()
+    time.sleep(1.5)
+    pusher.push()
+    expect(server.kill(), "", "there is no other try at once")
+    expect(serials_of(folder), ({"a": [1, 2, 3]}, 3))
+    again = serving(folder)
+    expect_served(again, [pusher])
+    again.kill()
+
+
+def test_a_journal_that_fails_in_a_later_term_ends_the_server():
+    folder = fresh()
+    server = serving(folder, "--compact-entries", "2", preexec_fn=limit_files(2_000))
+    pusher = Pusher(server, "a", b"x" * 400)
+    for _ in range(6):
+        pusher.push()
+    has_come(lambda: newest(folder) > 2, "there are terms before")
+    text = pusher.text(9)[:-2] + b"x" * 2_000 + b'"}'
+    expect(server.ask("POST", "/state/a", text), (500, b'{"error":"JournalFault"}'))
+    status, errors = server.end()
+    expect((status, "JournalFault" in errors), (STATUSES["JournalFault"], True), errors)
+    reads = serving(folder, "--serve-reads", "--compact-entries", "2", preexec_fn=limit_files(2_000))
+    expect(reads.ask("POST", "/state/a", text), (500, b'{"error":"JournalFault"}'))
+    (folder / "compact").touch()
+    time.sleep(1.5)
+    number = newest(folder)
+    expect((reads.ask("POST", "/state/a", text)[0], reads.ask("GET", "/state/a")), (503, (200, pusher.text(6))))
+    expect((newest(folder), reads.process.poll()), (number, None), "there is no turn over a journal that has failed")
+    reads.kill()
+
+
+def killed_at(turn):
+    """Kills a server before the call whose turn it is, while a client pushes; the next start has all that was acknowledged."""
+    folder = fresh()
+    how = {"env": {**os.environ, "LD_PRELOAD": SHIM, "TURN": str(turn)}}
+    server = serving(folder, "--compact-entries", "3", **how)
+    pusher = Pusher(server, "a")
+    pusher.push_until_gone()
+    expect(server.end()[0], -signal.SIGKILL, f"turn {turn}")
+    again = serving(folder)
+    expect_all(folder, [pusher], f"turn {turn}")
+    expect_served(again, [pusher])
+    again.kill()
+    return len(journals(folder / "old"))
+
+
+def test_a_kill_at_each_call_of_turns_loses_nothing():
+    count = fresh() / "count"
+    serving(fresh(), env={**os.environ, "LD_PRELOAD": SHIM, "TURN": "0", "COUNT": str(count)}).kill()
+    first = len(count.read_bytes())
+    olds = at_once(killed_at, range(first + 1, first + 49))
+    expect(max(olds) > 2, True, "some kills came after turns")
+
+
+def kill_once(folder, chance, pushers):
+    """Kills a server at a random moment while clients push, in terms of a few changes."""
+    server = serving(folder, "--compact-entries", str(chance.randrange(5, 60)), workers="4")
+    for pusher in pushers:
+        pusher.server, pusher.connection = server, http.client.HTTPConnection(LOOPBACK, server.port, timeout=SECONDS)
+    expect_served(server, pushers)
+    for pusher in pushers:
+        serial = server.ask("GET", f"/state/{pusher.name}")
+        pusher.acknowledged = json.loads(serial[1])["serial"] if serial[0] == 200 else 0
+    threads = [threading.Thread(target=pusher.push_until_gone) for pusher in pushers]
+    for thread in threads:
+        thread.start()
+    time.sleep(chance.random() * 0.8)
+    server.kill()
+    for thread in threads:
+        thread.join()
+    expect_all(folder, pushers, "after a kill")
+
+
+def kill_often(turns, seed):
+    """Kills a server so often, and checks each time that nothing acknowledged is lost."""
+    folder, chance = fresh(), random.Random(seed)
+    pushers = [Pusher(Nowhere, f"n{k}") for k in range(3)]
+    for _ in range(turns):
+        kill_once(folder, chance, pushers)
+    expect(newest(folder) > turns + 5, True, "there were turns")
+
+
+class Nowhere:
+    """The server of a client that has none yet."""
+
+    port = 1
+
+
+def test_kills_at_random_moments_lose_nothing():
+    kill_often(30, 20261126)
+
+
+BACKEND = """terraform {{
+  backend "http" {{
+    address        = "http://{address}/state/tf"
+    lock_address   = "http://{address}/state/tf"
+    unlock_address = "http://{address}/state/tf"
+  }}
+}}
+resource "terraform_data" "a" {{ input = "{value}" }}
+"""
+
+
+def terraform(folder, *words):
+    """Runs Terraform, which is to end well."""
+    variables = {"CHECKPOINT_DISABLE": "1", "TF_IN_AUTOMATION": "1", "HOME": str(folder), "TF_CLI_CONFIG_FILE": "/dev/null"}
+    ran = subprocess.run(["terraform", *words, "-no-color"], cwd=folder, env={**os.environ, **variables}, stdin=subprocess.DEVNULL,
+                         capture_output=True, timeout=60, check=False)
+    expect(ran.returncode, 0, f"{words}: {(ran.stdout + ran.stderr).decode()}")
+
+
+def test_terraform_sees_no_error():
+    if not shutil.which("terraform"):
+        pytest.skip("terraform isn't installed")
+    folder, project = fresh(), fresh()
+    server = serving(folder, "--compact-entries", "50", workers="8")
+    pushers = [Pusher(server, f"n{k}") for k in range(3)]
+    threads = [threading.Thread(target=pusher.push_until_gone) for pusher in pushers]
+    for thread in threads:
+        thread.start()
+    for value in range(5):
+        (project / "main.tf").write_text(BACKEND.format(address=f"{LOOPBACK}:{server.port}", value=value))
+        terraform(project, *(["apply", "-auto-approve"] if value else ["init"]))
+    kept = json.loads(server.ask("GET", "/state/tf")[1])
+    server.kill()
+    for thread in threads:
+        thread.join()
+    expect((kept["resources"][0]["instances"][0]["attributes"]["input"]["value"], newest(folder) > 3), ("4", True))
+    expect_all(folder, pushers, "beside Terraform")
+
+
+def test_a_turn_that_failed_is_tried_again_after_a_minute(failed):
+    folder, server, pusher, began = failed
+    STARTED.append(server.process)
+    has_come(lambda: newest(folder) == 2, "another try", 75)
+    expect(time.monotonic() - began > 55, True, "not before a minute is over")
+    expect_served(server, [pusher])
+    server.kill()

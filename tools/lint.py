@@ -1,0 +1,91 @@
+"""Reads all Python and shell files of the repository for faults, without running them, and looks
+where the library's code makes faults of memory and of sinks and requests room. The last line is
+`N passed, M failed`, of four: Python, shell, those places, and those requests."""
+import os
+import shutil
+import subprocess
+import sys
+import tempfile
+from pathlib import Path
+
+from fault_places import unlisted
+from repository import TOP
+from room_requests import wrong_requests
+
+MADE = {".git", "out", "__pycache__"}
+
+
+def first_line(path):
+    with open(path, "rb") as file:
+        return file.readline(200).decode(errors="replace")
+
+
+def language(path):
+    """The language of a file, by its ending, or where it has none by its first line."""
+    if path.suffix in (".py", ".sh"):
+        return path.suffix
+    line = first_line(path) if not path.suffix else ""
+    if not line.startswith("#!"):
+        return None
+    return ".py" if "python" in line else ".sh" if "sh" in line else None
+
+
+def files():
+    """The files of both languages, by language; what is made from others is left out."""
+    found = {".py": [], ".sh": []}
+    for folder, folders, names in os.walk(TOP):
+        folders[:] = sorted(set(folders) - MADE)
+        for path in (Path(folder, name) for name in sorted(names)):
+            if path.is_file() and language(path):
+                found[language(path)].append(str(path.relative_to(TOP)))
+    return found
+
+
+def passes(command):
+    """Whether a command ends well; what it writes is passed on."""
+    with tempfile.TemporaryDirectory(prefix="tfstated-lint-") as room:
+        environment = dict(os.environ, PYTHONPYCACHEPREFIX=room)
+        return subprocess.run(command, cwd=TOP, env=environment, stdin=subprocess.DEVNULL, check=False).returncode == 0
+
+
+def passes_linter(name, paths):
+    """Whether a linter has nothing to say about files."""
+    if not shutil.which(name):
+        print(f"lint: FAILED: {name} isn't installed", flush=True)
+        return False
+    return passes([name, *paths])
+
+
+def is_good_python(paths):
+    print(f"lint: {len(paths)} Python files, by py_compile and pyflakes3", flush=True)
+    is_compiled = passes([sys.executable, "-m", "py_compile", *paths])
+    return passes_linter("pyflakes3", paths) and is_compiled
+
+
+def is_good_shell(paths):
+    print(f"lint: {len(paths)} shell files, by bash -n and shellcheck", flush=True)
+    are_parsed = [passes(["bash", "-n", path]) for path in paths]
+    return passes_linter("shellcheck", paths) and all(are_parsed)
+
+
+def makes_listed_faults():
+    wrong = list(unlisted())
+    print("lint: places of faults, by tools/fault_places.txt", *wrong, sep="\n", flush=True)
+    return not wrong
+
+
+def asks_for_plain_room():
+    wrong = list(wrong_requests())
+    print("lint: requests for room, by tools/room_requests.py", *wrong, sep="\n", flush=True)
+    return not wrong
+
+
+def main():
+    found = files()
+    results = [is_good_python(found[".py"]), is_good_shell(found[".sh"]), makes_listed_faults(), asks_for_plain_room()]
+    print(f"{results.count(True)} passed, {results.count(False)} failed", flush=True)
+    return 0 if all(results) else 1
+
+
+if __name__ == "__main__":
+    sys.exit(main())
