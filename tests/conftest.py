@@ -64,7 +64,8 @@ def pytest_runtest_call():
 
 
 def pytest_make_parametrize_id(val):
-    """A short name of a case that is a text or bytes. pytest numbers those of one name."""
+    """A short name of a case that is a text or bytes, in printed ASCII: whoever reads the names of the
+    tests, or a report, finds each on a line of its own. pytest numbers those of one name."""
     if isinstance(val, bytes):
-        val = repr(val)[2:-1]
-    return val[:40] if isinstance(val, str) else None
+        val = val.decode("latin-1")
+    return ascii(val)[1:-1][:40] if isinstance(val, str) else None

@@ -75,6 +75,12 @@ def test_a_run_of_passed_tests_passes(tmp_path, monkeypatch):
     expect(counted(tmp_path, monkeypatch, ["test_good"], REPORT, 0), ((1, 0), []))
 
 
+def test_each_name_of_a_test_is_one_line_of_ascii():
+    names = [name for names in checks.collected().values() for name in names]
+    broken = [name for name in names if not re.fullmatch(r"test_\w+(\[[ -~]*\])?", name, re.A)]
+    expect((len(names) > 1_000, broken), (True, []))
+
+
 def test_the_tests_that_may_be_skipped_are_there():
     named = {name.partition("[")[0] for name in checks.may_be_skipped()}
     texts = [path.read_text(encoding="utf-8") for path in checks.files()]
