@@ -1,4 +1,4 @@
--- Whether a request asks to close (RFC 9112, sections 9.3 and 9.6).
+-- Requests to close the connection (RFC 9112, sections 9.3 and 9.6).
 use Rattle.std.specs.Prelude.{◌==◌, ◌||◌, ℕ, Bool, List, [], ◌∷◌, codes, if◌then◌else◌}
 use Rattle.std.specs.List.{list_any}
 use Rattle.std.specs.Str.{bytes_eq}
@@ -14,19 +14,20 @@ abbrev pub lengthen : ℕ → List (List ℕ) → List (List ℕ)
 lengthen byte [] = (byte ∷ []) ∷ []
 lengthen byte (part ∷ parts) = (byte ∷ part) ∷ parts
 
--- The parts between the commas of a list (RFC 9110, section 5.6.1).
+-- The parts of a comma-separated list (RFC 9110, section 5.6.1).
 unfoldable pub parts_of : List ℕ → List (List ℕ)
 parts_of [] = [] ∷ []
 parts_of (byte ∷ text) = if byte == comma then [] ∷ parts_of text else lengthen byte (parts_of text)
 
--- Returns whether the part is `close`, in any case, within spaces and tabs.
+-- The part is `close`, in any case, with optional spaces and tabs around it.
 abbrev pub is_close : List ℕ → Bool
 is_close part = bytes_eq (lower (trim_ows part)) (codes "close")
 
--- Returns whether the value of a `Connection` field lists `close`.
+-- The value of a `Connection` field lists `close`.
 abbrev pub lists_close : List ℕ → Bool
 lists_close value = list_any is_close (parts_of value)
 
--- Version 1.0 ends after one request, others if asked to (RFC 9112, section 9.3).
+-- The conversation ends after the request: its version is 1.0, or a `Connection` field lists
+-- `close` (RFC 9112, section 9.3).
 abbrev pub asks_to_close : RequestHead → Bool
 asks_to_close h = h.minor == 0 || list_any lists_close (values_named (codes "connection") (fields_of h))

@@ -15,15 +15,16 @@ use Rattle.tfs_framing.specs.declared.progress.SizedBody.{SizedBody}
 use Rattle.tfs_framing.specs.declared.progress.Progress.{Progress}
 use Rattle.tfs_framing.specs.declared.framing.Received.{Received}
 
--- A decoder as its callers see it: bytes that no message took, room for more, undecoded bytes, and
--- the lasting result, if any.
+-- A decoder as its callers see it: the bytes after the last message, the room for more, the number
+-- of undecoded bytes, and the lasting result, if any.
 pub record DecoderValue : Type 0 where
   pub bytes : List ℕ
   pub room : ℕ
   pub unused : ℕ
   pub over : Option (Result Received AllocError)
 
--- The bytes open a sized body, which is kept apart, with room for all of it.
+-- The bytes begin with a request whose body has a known length. Its bytes are in a vector of their
+-- own, with capacity for all of them.
 pub record IsApart (bytes : List ℕ) (s : SizedBody) (unused : List ℕ) : Type 0 where
   pub opens : Opens bytes (Ok s.request) (Sized s.size) s.body.items
   pub none : unused ≡ []
@@ -34,7 +35,7 @@ pub record IsApart (bytes : List ℕ) (s : SizedBody) (unused : List ℕ) : Type
 abbrev pub HasNoRefusal : List ℕ → Type 0
 HasNoRefusal bytes = IsUnfinished bytes ⊎ ((r : RequestValue) × (used : ℕ) × BeginsWith bytes r used)
 
--- The bytes have this refusal; none means lack of memory.
+-- The bytes have this refusal; `None` means lack of memory.
 abbrev pub IsReason : List ℕ → Option Refusal → Type 0
 IsReason bytes (Some refusal) = framing_refusal bytes refusal
 IsReason bytes None = HasNoRefusal bytes
@@ -49,28 +50,28 @@ abbrev pub last_result : Option Refusal → Result Received AllocError
 last_result (Some refusal) = Ok (Received.Refused refusal)
 last_result None = Err alloc_error
 
--- What is known of the bytes, the last of which aren't used.
+-- The progress is right for these bytes; `unused` are the undecoded bytes at their end.
 abbrev pub IsAt : List ℕ → Progress → List ℕ → Type 0
 IsAt bytes (Progress.Head search) unused = (bytes ≡ unused) × IsSought unused search
 IsAt bytes (Progress.Sized s) unused = IsApart bytes s unused
 IsAt bytes (Progress.Chunks c) unused = Decodes bytes (Ok c.request) c.decoded unused
 IsAt bytes (Progress.Over o) unused = IsOver bytes o
 
--- There is room for so many more bytes.
+-- The decoder has room for this many more bytes.
 abbrev pub HasRoomFor : ℕ → Progress → ℕ → Type 0
 HasRoomFor room (Progress.Head search) spare = room ≤ spare
 HasRoomFor room (Progress.Sized s) spare = length s.body.items + room ≤ s.size
 HasRoomFor room (Progress.Chunks c) spare = room ≤ spare
 HasRoomFor room (Progress.Over o) spare = room ≡ 0
 
--- The result from now on, if the decoder has ended.
+-- The result of each further call, if the decoder has ended.
 abbrev pub over_of : Progress → Option (Result Received AllocError)
 over_of (Progress.Head search) = None
 over_of (Progress.Sized s) = None
 over_of (Progress.Chunks c) = None
 over_of (Progress.Over o) = Some (last_result o.reason)
 
--- The outcome of framing, with so many bytes left.
+-- The outcome of framing, with the number of bytes that are left.
 abbrev pub IsFramed : List ℕ → List ℕ → Framed → Type 0
 IsFramed bytes unused (Framed.Message r left) = (after : List ℕ) × EndsWith unused after
     × (left ≡ length after) × (used : ℕ) × BeginsWith bytes r used × (after ≡ drop used bytes)
@@ -79,14 +80,14 @@ IsFramed bytes unused (Framed.More progress left) = IsUnfinished bytes
     × IfOk progress (λ p. (after : List ℕ) × EndsWith unused after
     × (left ≡ length after) × (left < 17408) × IsAt bytes p after × (over_of p ≡ None))
 
--- What `next` returns for the bytes.
+-- The result of `next` for the bytes, and the decoder's new value.
 abbrev pub Gives : List ℕ → DecoderValue → Received → Type 0
 Gives bytes new (Received.More room) = IsUnfinished bytes × (new.bytes ≡ bytes) × (new.room ≡ room) × (0 < room) × (room ≤ 65536)
     × (new.unused < 17408)
 Gives bytes new (Received.Message r) = (used : ℕ) × BeginsWith bytes r used × (new.bytes ≡ drop used bytes)
 Gives bytes new (Received.Refused refusal) = framing_refusal bytes refusal
 
--- The same, in terms of progress and spare room.
+-- The same as `Gives`, in terms of progress and spare room.
 abbrev pub Comes : List ℕ → List ℕ → ℕ → Progress → Received → Type 0
 Comes bytes unused spare progress (Received.More room) = IsUnfinished bytes × IsAt bytes progress unused
     × HasRoomFor room progress spare × (0 < room) × (room ≤ 65536) × (length unused < 17408)

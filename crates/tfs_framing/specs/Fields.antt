@@ -19,7 +19,7 @@ lower text = map to_ascii_lowercase text
 abbrev pub values_named : List ℕ → List (List ℕ × List ℕ) → List (List ℕ)
 values_named name fields = map (λ f. f.1) (filter (λ f. bytes_eq (lower f.0) name) fields)
 
--- These are the values.
+-- The values of type `Values` are these.
 abbrev pub TellsValues : Values → List (List ℕ) → Type 0
 TellsValues Absent values = values ≡ []
 TellsValues (One value) values = values ≡ value.now ∷ []

@@ -11,12 +11,13 @@ StartsWithEmptyLine bytes = (end : LineEnd) × (rest : List ℕ) × (bytes ≡ p
 abbrev pub EndsWithEmptyLine : List ℕ → Type 0
 EndsWithEmptyLine bytes = (front : List ℕ) × (end : LineEnd) × (bytes ≡ front ++ line_feed ∷ print_end end)
 
--- Only the whole of the bytes ends with an empty line.
+-- The bytes end with an empty line, and no shorter prefix of them does.
 pub record IsMessageHead (head : List ℕ) : Type 0 where
   pub ends : EndsWithEmptyLine head
   pub shortest : (part rest : List ℕ) → head ≡ part ++ rest → EndsWithEmptyLine part → rest ≡ []
 
--- The bytes are empty lines, which are skipped, a head, and a rest.
+-- The bytes are empty lines, which are skipped, then a head of at most 16,384 bytes with them, then
+-- a rest.
 pub record HasHead (bytes : List ℕ) (skipped : List LineEnd) (head rest : List ℕ) : Type 0 where
   pub parts : bytes ≡ print_blank skipped ++ (head ++ rest)
   pub starts : ¬ (StartsWithEmptyLine head)
@@ -31,7 +32,7 @@ HasNoHead bytes = (skipped : List LineEnd) (head rest : List ℕ) → ¬ (HasHea
 abbrev pub line_feeds : List ℕ → ℕ
 line_feeds bytes = count_by (λ byte. byte == line_feed) bytes
 
--- The head is valid by `httparse`'s grammar.
+-- The head is valid by the grammar of `httparse`, and has at most 64 fields.
 pub record IsHeadOf (head : List ℕ) (h : RequestHead) : Type 0 where
   pub reads : ReadsRequest head h []
   pub fields : length h.fields ≤ 64

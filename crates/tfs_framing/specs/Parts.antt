@@ -10,7 +10,7 @@ use Rattle.tfs_framing.specs.declared.chunks.Flaw.{Flaw}
 use Rattle.tfs_framing.specs.declared.chunks.Part.{Part}
 use Rattle.tfs_framing.specs.declared.lines.BodyLength.TheVariants.{Chunked}
 
--- The bytes begin with this chunk line.
+-- The bytes begin with this valid chunk line, which has the given length and chunk size.
 pub record IsLineAt (left : List ℕ) (len size : ℕ) (line : ChunkLine) : Type 0 where
   pub is_line : IsShortLine line
   pub after : List ℕ
@@ -18,7 +18,7 @@ pub record IsLineAt (left : List ℕ) (len size : ℕ) (line : ChunkLine) : Type
   pub len_is : len ≡ length (print_chunk_line line)
   pub size_is : size ≡ chunk_size line
 
--- The first bytes, so many, have no line feed.
+-- The first `seen` bytes have no line feed.
 pub record HasNoFeedIn (seen : ℕ) (left : List ℕ) : Type 0 where
   pub front : List ℕ
   pub rest : List ℕ
@@ -26,8 +26,8 @@ pub record HasNoFeedIn (seen : ℕ) (left : List ℕ) : Type 0 where
   pub seen_is : seen ≡ length front
   pub none : (before after : List ℕ) → ¬ (front ≡ before ++ line_feed ∷ after)
 
--- After so many chunks with so many bytes, some bytes of one more were passed, and so many are
--- missing.
+-- After `count` chunks with `total` bytes, a chunk is incomplete: the bytes `seen` have arrived,
+-- and `lacking` are missing.
 pub record IsBegun (count total : ℕ) (line : ChunkLine) (seen : List ℕ) (lacking : ℕ) : Type 0 where
   pub is_line : IsShortLine line
   pub size : chunk_size line ≡ length seen + lacking
@@ -35,7 +35,8 @@ pub record IsBegun (count total : ℕ) (line : ChunkLine) (seen : List ℕ) (lac
   pub few : count < 65536
   pub small : total + chunk_size line ≤ 16777216
 
--- The bytes are these chunks, maybe a piece of one more, and what is left; this is their body.
+-- The bytes `rest` are these chunks, perhaps the beginning of one more, and then `left`. `body` has
+-- the decoded bytes.
 abbrev pub Stands : List ℕ → List Chunk → List ℕ → Ahead → List ℕ → Type 0
 Stands rest chunks body (Ahead.Line seen) left = (rest ≡ print_chunks chunks ++ left) × (body ≡ joined chunks) × HasNoFeedIn seen left
 Stands rest chunks body (Ahead.Bytes lacking) left = (line : ChunkLine) × (seen : List ℕ)
@@ -44,7 +45,7 @@ Stands rest chunks body (Ahead.Bytes lacking) left = (line : ChunkLine) × (seen
 Stands rest chunks body (Ahead.Trailer len passed) left = (rest ≡ print_chunks chunks ++ left) × (body ≡ joined chunks)
     × (line : ChunkLine) × (at : IsLineAt left len 0 line) × HasNoEndYet passed (line_feed ∷ at.after)
 
--- The same for so many chunks.
+-- The same as `Stands`, for some list of `count` valid chunks.
 pub record IsPassed (rest : List ℕ) (count : ℕ) (body : List ℕ) (ahead : Ahead) (left : List ℕ) : Type 0 where
   pub chunks : List Chunk
   pub are : AreChunks chunks
@@ -55,7 +56,7 @@ pub record IsPassed (rest : List ℕ) (count : ℕ) (body : List ℕ) (ahead : A
 abbrev pub EndsWith : List ℕ → List ℕ → Type 0
 EndsWith bytes end = (front : List ℕ) × (bytes ≡ front ++ end)
 
--- The next part. If more bytes are needed, few are left.
+-- The next part. If more bytes are needed, fewer than 17,408 undecoded ones remain.
 abbrev pub IsPart : List ℕ → ℕ → List ℕ → List ℕ → Result Part Flaw → Type 0
 IsPart rest count body left (Ok (Part.Wanted bytes ahead after)) = EndsWith left after.now × IsPassed rest count (body ++ bytes.now) ahead after.now
     × HasNoBody Chunked rest × (length after.now < 17408)

@@ -5,7 +5,8 @@ use Rattle.tfs_framing.specs.Connection.{asks_to_close}
 use Rattle.tfs_framing.specs.Digest.{fits_digest, has_asked}
 use Rattle.tfs_framing.specs.declared.request.OpenRequest.{OpenRequest}
 
--- A request, whether its connection ends, and whether its body fits its digest.
+-- A request, with whether the conversation ends after it, and whether its body has the stated
+-- digest.
 pub record RequestValue : Type 0 where
   pub method : List ℕ
   pub target : List ℕ
@@ -13,12 +14,12 @@ pub record RequestValue : Type 0 where
   pub close : Bool
   pub intact : Bool
 
--- The request of a head and a body.
+-- The request with this head and body.
 abbrev pub request_of : RequestHead → List ℕ → RequestValue
 request_of h body =
     record { method = h.method; target = h.target; body = body; close = asks_to_close h; intact = fits_digest h body }
 
--- The same for a request without its body.
+-- The request with this body, from what was kept of its head.
 abbrev pub completed : OpenRequest → List ℕ → RequestValue
 completed o body = record {
   method = o.method.items;

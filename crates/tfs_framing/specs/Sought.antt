@@ -5,15 +5,15 @@ use Rattle.httparse.specs.Grammar.{LineEnd, print_blank}
 use Rattle.tfs_framing.specs.Head.{StartsWithEmptyLine}
 use Rattle.tfs_framing.specs.declared.head.Search.{Search}
 
--- Of the first bytes, so many, no line feed is followed by an empty line.
+-- No line feed among the first `passed` bytes is followed by an empty line.
 abbrev pub HasNoEndIn : ℕ → List ℕ → Type 0
 HasNoEndIn passed bytes = (before after : List ℕ) → bytes ≡ before ++ line_feed ∷ after → length before < passed → ¬ (StartsWithEmptyLine after)
 
--- Nor will one be, whatever bytes follow.
+-- The same holds whatever bytes follow.
 abbrev pub HasNoEndYet : ℕ → List ℕ → Type 0
 HasNoEndYet passed bytes = (more : List ℕ) → HasNoEndIn passed (bytes ++ more)
 
--- The bytes are empty lines and a text, which was searched so far.
+-- The bytes are empty lines and a text, which is searched up to `search`.
 pub record IsSought (bytes : List ℕ) (search : Search) : Type 0 where
   pub lines : List LineEnd
   pub text : List ℕ

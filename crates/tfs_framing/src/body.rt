@@ -1,4 +1,4 @@
-//! A body in chunks, which is decoded as it comes: its coded bytes needn't be kept.
+//! Decoding of chunked bodies while their bytes arrive, so that the coded bytes needn't be kept.
 
 ghost use Rattle.std.specs.Prelude.{◌≡◌, ◌+◌, ◌++◌, ℕ, IfOk, List, length, false};
 ghost use Rattle.tfs_framing.specs.Decoded.{HasPassed, IsDecoded};
@@ -6,37 +6,37 @@ ghost use Rattle.tfs_framing.specs.Decoded.{HasPassed, IsDecoded};
 use crate::chunks::{Ahead, Flaw, Part, part_at};
 use std::alloc::{AllocError, Global};
 
-/// A body in chunks, of which some bytes were decoded.
+/// A chunked body that is partly decoded.
 #[derive(Drop)]
 pub(crate) struct ChunkedBody {
-    /// So many chunks were decoded.
+    /// The number of chunks that are completely decoded.
     pub(crate) count: usize,
-    /// So many bytes were, with those of a chunk that has begun.
+    /// The number of decoded bytes, including those of an incomplete chunk.
     pub(crate) total: usize,
     pub(crate) body: Joined,
-    /// What is known of what comes next.
+    /// What is known of the next part.
     pub(crate) ahead: Ahead,
 }
 
-/// The bytes of chunks, joined, until memory for more of them is refused.
+/// The joined bytes of the chunks, until memory for more of them is refused.
 #[derive(Drop)]
 pub(crate) struct Joined {
     pub(crate) bytes: Vec<u8>,
-    /// Memory was refused, so that bytes lack.
+    /// True if memory was refused, so that bytes are missing.
     pub(crate) lost: bool,
 }
 
-/// What became of the bytes behind those that were decoded, where nothing is wrong with them.
+/// The outcome of decoding valid bytes.
 #[derive(Drop)]
 pub(crate) enum Decoded {
-    /// More are needed; `left` of those that came aren't decoded.
+    /// More bytes are needed; the last `left` bytes aren't decoded.
     Wanted { decoded: ChunkedBody, left: usize },
-    /// The body is whole, and `left` bytes follow it.
+    /// The body is complete, and `left` bytes follow it.
     Whole { joined: Joined, left: usize },
 }
 
 impl ChunkedBody {
-    /// A body of which nothing was decoded.
+    /// Creates a body without any decoded bytes.
     pub(crate) fn start(alloc: Global) -> ChunkedBody
         ensures { (rest : List ℕ) → HasPassed rest result rest }
     {
@@ -53,7 +53,7 @@ impl ChunkedBody {
 }
 
 impl Joined {
-    /// Puts bytes behind the others, or loses them.
+    /// Appends bytes. If memory for them is refused, drops them and all later ones.
     fn push(&mut self, bytes: &[u8])
         ensures { self.new.lost ≡ false → (self.old.lost ≡ false) × (self.new.bytes.items ≡ self.old.bytes.items ++ bytes.now) }
     {
@@ -65,7 +65,7 @@ impl Joined {
         }
     }
 
-    /// The bytes, with no room for more, if none lacks.
+    /// Returns the bytes without spare capacity, or an error if any are missing.
     pub(crate) fn into_bytes(self) -> Result<Vec<u8>, AllocError>
         ensures { IfOk result (λ bytes. (self.lost ≡ false) × (bytes.items ≡ self.bytes.items)) }
     {
@@ -78,8 +78,8 @@ impl Joined {
     }
 }
 
-/// Decodes what is left, as far as it goes. Where memory for the bytes of chunks is refused, it goes on to what stands behind them, so
-/// that a flaw is told all the same.
+/// Decodes the bytes that are left, as far as possible. If memory for the bytes of chunks is
+/// refused, continues without storing them, so that a later flaw is still reported.
 pub(crate) fn decode_body(decoded: ChunkedBody, left: &[u8]) -> Result<Decoded, Flaw>
     requires { (rest : List ℕ) × HasPassed rest decoded left.now }
     ensures { (rest : List ℕ) → HasPassed rest decoded left.now → IsDecoded rest left.now result }

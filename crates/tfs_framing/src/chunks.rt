@@ -1,4 +1,4 @@
-//! The parts of a body in chunks (RFC 9112, section 7.1), as they come.
+//! The parts of a chunked body (RFC 9112, section 7.1), read while they arrive.
 
 ghost use Rattle.std.specs.Prelude.{◌≡◌, ◌≤◌, ◌<◌, ℕ, List, ◌∷◌, ◌++◌, length, IfSome, IfNone, IfOk, IfErr};
 ghost use Rattle.httparse.specs.Ascii.{line_feed};
@@ -14,45 +14,48 @@ use crate::head::head_len;
 use crate::limits::{MAX_BODY_BYTES, MAX_CHUNK_LINE_BYTES, MAX_CHUNKS, MAX_TRAILER_BYTES};
 use httparse::{Status, parse_chunk_size};
 
-/// Why bytes begin with no body in chunks.
+/// Why bytes don't begin with a chunked body.
 #[derive(Clone, Copy)]
 pub(crate) enum Flaw {
     /// The chunks have more bytes than a body may have.
     TooLarge,
-    /// There is no chunk and no end where one has to be.
+    /// A chunk line, a chunk's end or the trailer is malformed or too long, or there are too many
+    /// chunks.
     Unreadable,
 }
 
-/// What is known of what comes next in a body in chunks.
+/// What is known of the next part of a chunked body.
 #[derive(Clone, Copy)]
 pub(crate) enum Ahead {
-    /// So many first bytes have no line feed.
+    /// A chunk line comes next; its first bytes, this many, have no line feed.
     Line(usize),
-    /// So many bytes of a chunk, behind its line and others of its bytes.
+    /// The line of a chunk was read; this many of the chunk's bytes are missing.
     Bytes(usize),
-    /// The last line comes, of `len` bytes; of the bytes from its line feed on, the first `passed` have no line feed before an empty line.
+    /// The last chunk line comes next, `len` bytes long. In the bytes from its line feed on, none
+    /// of the first `passed` bytes is a line feed followed by an empty line.
     Trailer { len: usize, passed: usize },
 }
 
-/// What comes next in a body in chunks.
+/// The next part of a chunked body.
 #[derive(Clone, Copy)]
 pub(crate) enum Part<'b> {
-    /// Some bytes of a chunk that isn't whole, or none; the bytes after them, and what is known of those.
+    /// More bytes are needed: the available bytes of an incomplete chunk, perhaps none; what is
+    /// known of the next part; and the bytes after those.
     Wanted {
         bytes: &'b [u8],
         ahead: Ahead,
         after: &'b [u8],
     },
-    /// The bytes of a chunk, and the bytes after it.
+    /// The remaining bytes of a chunk that is complete, and the bytes after the chunk.
     Chunk {
         bytes: &'b [u8],
         after: &'b [u8],
     },
-    /// The end of the body, and what is behind it.
+    /// The end of the body, with the bytes after it.
     Last(&'b [u8]),
 }
 
-/// What comes next, behind so many chunks with so many bytes.
+/// Returns the next part after `count` chunks. `total` bytes of the body were decoded.
 pub(crate) fn part_at(
     count: usize,
     total: usize,
@@ -88,7 +91,8 @@ pub(crate) fn part_at(
     rest_of_chunk(behind, size as usize)
 }
 
-/// The length and the size of the chunk line that comes first, in the first 1,024 bytes; so many of them have no line feed.
+/// Finds the chunk line at the start, within the first 1,024 bytes, and returns its length and the
+/// chunk's size; `None` if the line is incomplete. The first `seen` bytes have no line feed.
 fn chunk_line_at(left: &[u8], seen: usize) -> Result<Option<(usize, u64)>, Flaw>
     requires { HasNoFeedIn seen left.now }
     ensures found { IfOk result (λ told. IfSome told (λ at. (line : ChunkLine) × IsLineAt left.now at.0 at.1 line)) }
@@ -109,7 +113,7 @@ fn chunk_line_at(left: &[u8], seen: usize) -> Result<Option<(usize, u64)>, Flaw>
     }
 }
 
-/// The length and the size of the chunk line that the bytes begin with.
+/// Parses the chunk line at the start, and returns its length and the chunk's size.
 fn parse_line(bytes: &[u8]) -> Option<(usize, u64)>
     ensures found { IfSome result (λ told. (line : ChunkLine) × IsChunkLineAt bytes.now told.0 told.1 line) }
     ensures absent { IfNone result (HasNoChunkLine bytes.now) }
@@ -120,7 +124,7 @@ fn parse_line(bytes: &[u8]) -> Option<(usize, u64)>
     }
 }
 
-/// What comes of a chunk of which so many bytes lack.
+/// Reads the last `lacking` bytes of a chunk, and its CR LF.
 fn rest_of_chunk(left: &[u8], lacking: usize) -> Result<Part<'_>, Flaw>
     requires { lacking ≤ 16777216 }
     ensures { (rest : List ℕ) (count : ℕ) (body : List ℕ) → IsPassed rest count body (Bytes lacking) left.now → IsPart rest count body left.now result }
@@ -142,7 +146,7 @@ fn rest_of_chunk(left: &[u8], lacking: usize) -> Result<Part<'_>, Flaw>
     }
 }
 
-/// The bytes behind the CR LF that comes first, if it does.
+/// Returns the bytes after a leading CR LF, or `None` if there is none.
 fn strip_line_end(bytes: &[u8]) -> Option<&[u8]>
     ensures found { IfSome result (λ rest. bytes.now ≡ print_end crlf ++ rest.now) }
     ensures absent { IfNone result ((rest : List ℕ) → ¬ (bytes.now ≡ print_end crlf ++ rest)) }
@@ -153,8 +157,8 @@ fn strip_line_end(bytes: &[u8]) -> Option<&[u8]>
     }
 }
 
-/// The trailer behind the last line, which is so long; the line feed of this line is looked at as the trailer's first byte. So
-/// many bytes from it on were passed over.
+/// Finds the end of the trailer after the last chunk line, which has `len` bytes. The search starts
+/// at this line's line feed; the first `passed` bytes from there were searched before.
 fn last_behind(left: &[u8], len: usize, passed: usize) -> Result<Part<'_>, Flaw>
     requires some { 0 < len }
     requires inside { len ≤ length left.now }

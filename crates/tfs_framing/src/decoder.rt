@@ -1,4 +1,4 @@
-//! What bytes begin with, told of all of them at once, or by a decoder as they come.
+//! Framing of the next message: `take` reads all bytes together, `RequestDecoder` in pieces.
 
 ghost use Rattle.std.specs.Prelude.{◌≡◌, ℕ, List, [], ◌++◌, IfOk, OnErr};
 ghost use Rattle.std.specs.Borrow.{ftrue};
@@ -14,8 +14,9 @@ use bytes::BytesMut;
 use std::alloc::{AllocError, Global};
 use std::marker::Model;
 
-/// What the bytes begin with: a message with its length, its refusal, or neither yet. The answer to a message's own bytes
-/// is that message, whatever comes behind it.
+/// Returns the message at the start of the bytes with its length, or its refusal, or `Need` if
+/// neither is known yet. Bytes that follow a message don't change the result. Fails for lack of
+/// memory only if the bytes begin with a message.
 pub fn take(alloc: Global, bytes: &[u8]) -> Result<Take, AllocError>
     ensures ok { IfOk result (Frames bytes.now) }
     ensures memory { OnErr result ((request : RequestValue) × (used : ℕ) × BeginsWith bytes.now request used) }
@@ -27,13 +28,14 @@ pub fn take(alloc: Global, bytes: &[u8]) -> Result<Take, AllocError>
     }
 }
 
-/// It is fed with the bytes of a connection in any pieces, and gives the messages that they begin with, one after the other.
+/// A decoder of requests. It is fed with the bytes of a connection in pieces of any length, and
+/// returns the messages in order.
 #[derive(Drop)]
 pub struct RequestDecoder {
     progress: Progress,
-    /// The bytes that were fed and aren't used, but for those that are kept there.
+    /// The bytes that were fed and are not decoded; a body of known length is kept in `progress`.
     unused: BytesMut,
-    /// There is room for so many more.
+    /// The number of bytes that the next call of `feed` may pass.
     room: usize,
     fed: Fed,
 }
@@ -59,7 +61,7 @@ impl RequestDecoder {
     ghost use Rattle.std.specs.Prelude.{◌≡◌, ◌≤◌, ◌++◌, ◌==◌, [], length, None, IfOk, IfSome, OnErr};
     ghost use Rattle.tfs_framing.specs.Decoder.{Gives, HasNoRefusal, lasting};
 
-    /// It was fed with no bytes.
+    /// Creates a decoder that was fed with no bytes.
     pub fn new(alloc: Global) -> RequestDecoder
         ensures value { result ≡ record { bytes = []; room = 0; unused = 0; over = None } }
     {
@@ -71,8 +73,9 @@ impl RequestDecoder {
         }
     }
 
-    /// Decodes the next message. If it is incomplete, reserves room for more bytes. After a refusal, or an error for lack of memory, each
-    /// further call returns the same, and no message.
+    /// Decodes the next message. If it is incomplete, reserves room for more bytes. After a
+    /// refusal, or an error for lack of memory, each further call returns the same, and no message.
+    /// A refusal is reported even if memory is refused.
     pub fn next(&mut self, alloc: Global) -> Result<Received, AllocError>
         ensures ok { IfOk result (Gives self.old.bytes self.new) }
         ensures memory { OnErr result (HasNoRefusal self.old.bytes) }
@@ -104,7 +107,7 @@ impl RequestDecoder {
         }
     }
 
-    /// Takes bytes behind the others.
+    /// Appends bytes, at most as many as the last call of `next` made room for.
     pub fn feed(&mut self, bytes: &[u8])
         requires room { length bytes.now ≤ self.old.room }
         ensures bytes { self.new.bytes ≡ self.old.bytes ++ bytes.now }
@@ -115,7 +118,7 @@ impl RequestDecoder {
         self.fed = self.fed.then(&Piece { text: bytes });
     }
 
-    /// Whether no message has begun.
+    /// Returns true if no message has begun.
     pub fn is_empty(&self) -> bool
         ensures value { result ≡ (length self.now.bytes == 0) }
     {
@@ -127,8 +130,8 @@ impl RequestDecoder {
     }
 }
 
-/// The bytes that a decoder was fed with; a clause reads them as `bytes`. Only proofs do: they take no memory, and the methods do
-/// nothing at run time.
+/// The bytes that a decoder was fed with; clauses read them as `bytes`. They exist only in proofs:
+/// they take no memory, and the methods do nothing at run time.
 #[derive(Drop)]
 pub(crate) struct Fed {
     pub(crate) ghost bytes: { List ℕ } by { coded_list coded_ℕ },
@@ -138,14 +141,14 @@ impl Model for Fed {
     ghost also_owns = { λ _. ftrue };
 }
 
-/// Bytes that come behind those.
+/// A piece of bytes for `Fed::then`.
 #[derive(Clone, Copy, Drop)]
 pub(crate) struct Piece<'b> {
     pub(crate) text: &'b [u8],
 }
 
 impl Fed {
-    /// No bytes.
+    /// Creates an empty list of bytes.
     #[inline(always)]
     pub(crate) fn new() -> Fed
         ensures { result.bytes ≡ [] }
@@ -153,7 +156,7 @@ impl Fed {
         Fed {}
     }
 
-    /// The bytes with a piece behind them.
+    /// Returns the bytes with a piece appended.
     #[inline(always)]
     pub(crate) fn then(&self, _piece: &Piece<'_>) -> Fed
         ensures { result.bytes ≡ self.now.bytes ++ _piece.now.text.now }
@@ -161,7 +164,7 @@ impl Fed {
         Fed {}
     }
 
-    /// These bytes.
+    /// Returns these bytes as the fed ones.
     pub(crate) fn of(text: &[u8]) -> Fed
         ensures { result.bytes ≡ text.now }
     {

@@ -1,4 +1,4 @@
-//! The fields of a head: by their names, whether they ask to close, and whether a body has the digest that they tell.
+//! The fields of a head: lookup by name, `Connection: close`, and the digest of the body.
 
 ghost use Rattle.std.specs.Prelude.{◌≡◌, map, length, All, ◌==◌, ◌||◌, ◌<◌, ◌∷◌, [], reverse, codes, IfSome, IfNone, ℕ, List};
 ghost use Rattle.std.specs.Str.{bytes_eq};
@@ -14,18 +14,19 @@ use httparse::spans::HeaderSpan;
 use md5::{Digest, Md5};
 use memchr::memchr;
 
-/// The values of the fields of one name.
+/// The values of the fields with one name.
 #[derive(Clone, Copy)]
 pub(crate) enum Values<'h> {
     /// There is no such field.
     Absent,
-    /// There is one, with this value.
+    /// There is one field, with this value.
     One(&'h [u8]),
-    /// There are several.
+    /// There are several fields.
     Several,
 }
 
-/// The values of the fields of a name, which is given in lower case. The spans of the fields lie in the head.
+/// Returns the values of the fields with a name, which must be in lower case. The spans of the
+/// fields are within the head.
 pub(crate) fn values_named<'h>(head: &'h [u8], fields: &[HeaderSpan], name: &[u8]) -> Values<'h>
     requires within { All (IsHeaderWithin (length head.now)) fields.now }
     requires lower_case { lower name.now ≡ name.now }
@@ -48,7 +49,7 @@ pub(crate) fn values_named<'h>(head: &'h [u8], fields: &[HeaderSpan], name: &[u8
     }
 }
 
-/// Whether the text is this word in any case; the word is given in lower case.
+/// Returns true if the text is the word in any case. The word must be in lower case.
 pub(crate) fn is_word(text: &[u8], word: &[u8]) -> bool
     requires { lower word.now ≡ word.now }
     ensures { result ≡ bytes_eq (lower text.now) word.now }
@@ -56,7 +57,8 @@ pub(crate) fn is_word(text: &[u8], word: &[u8]) -> bool
     text.eq_ignore_ascii_case(word)
 }
 
-/// Whether the version and the fields of a head ask to close. The spans of the fields lie in the head.
+/// Returns true if the version or the fields of a head ask to close the connection. The spans of
+/// the fields are within the head.
 pub(crate) fn asks_to_close(minor: u8, head: &[u8], fields: &[HeaderSpan]) -> bool
     requires { All (IsHeaderWithin (length head.now)) fields.now }
     ensures { result ≡ (minor == 0 || list_any lists_close (values_named (codes "connection") (map (header_bytes head.now) fields.now))) }
@@ -64,7 +66,7 @@ pub(crate) fn asks_to_close(minor: u8, head: &[u8], fields: &[HeaderSpan]) -> bo
     minor == 0 || has_closing_field(head, fields)
 }
 
-/// Whether a `Connection` field lists `close`.
+/// Returns true if a `Connection` field lists `close`.
 fn has_closing_field(head: &[u8], fields: &[HeaderSpan]) -> bool
     requires { All (IsHeaderWithin (length head.now)) fields.now }
     ensures { result ≡ list_any lists_close (values_named (codes "connection") (map (header_bytes head.now) fields.now)) }
@@ -79,7 +81,7 @@ fn has_closing_field(head: &[u8], fields: &[HeaderSpan]) -> bool
     false
 }
 
-/// Whether a part of the value is `close`.
+/// Returns true if a part of the comma-separated value is `close`.
 fn lists_close(value: &[u8]) -> bool
     ensures { result ≡ lists_close value.now }
 {
@@ -93,7 +95,7 @@ fn lists_close(value: &[u8]) -> bool
     is_close(rest)
 }
 
-/// What stands before the first comma and behind it.
+/// Returns the text before the first comma and the text after it, or `None` without a comma.
 fn split_at_comma(text: &[u8]) -> Option<(&[u8], &[u8])>
     ensures found { IfSome result (λ parts. parts_of text.now ≡ parts.0.now ∷ parts_of parts.1.now) }
     ensures less { IfSome result (λ parts. length parts.1.now < length text.now) }
@@ -105,21 +107,21 @@ fn split_at_comma(text: &[u8]) -> Option<(&[u8], &[u8])>
     }
 }
 
-/// Whether the part is `close`, in any case, with spaces and tabs around it.
+/// Returns true if the part is `close`, in any case, with optional spaces and tabs around it.
 fn is_close(part: &[u8]) -> bool
     ensures { result ≡ is_close part.now }
 {
     is_word(trim_ows(part), b"close")
 }
 
-/// The text without the spaces and tabs at its ends.
+/// Returns the text without leading and trailing spaces and tabs.
 fn trim_ows(text: &[u8]) -> &[u8]
     ensures { result.now ≡ trim_ows text.now }
 {
     skip_last_ows(skip_ows(text))
 }
 
-/// The text without the spaces and tabs that come first.
+/// Returns the text without leading spaces and tabs.
 fn skip_ows(text: &[u8]) -> &[u8]
     ensures { result.now ≡ skip_ows text.now }
 {
@@ -130,7 +132,7 @@ fn skip_ows(text: &[u8]) -> &[u8]
     rest
 }
 
-/// The text without the spaces and tabs that come last.
+/// Returns the text without trailing spaces and tabs.
 fn skip_last_ows(text: &[u8]) -> &[u8]
     ensures { result.now ≡ reverse (skip_ows (reverse text.now)) }
 {
@@ -141,21 +143,23 @@ fn skip_last_ows(text: &[u8]) -> &[u8]
     rest
 }
 
-/// The bytes of a digest's text: four for each three of its 16 bytes, the last three padded.
+/// The length of a digest's base64 text: four bytes for each three of its 16 bytes, the last group
+/// padded.
 const DIGEST_TEXT_BYTES: usize = 24;
 
-/// What a head asks of the digest of the body behind it.
+/// The digest that a head requires of its body.
 #[derive(Clone, Copy)]
 pub(crate) enum AskedDigest {
-    /// Nothing: there is no `Content-MD5` field.
+    /// Any digest: there is no `Content-MD5` field.
     Any,
-    /// This text.
+    /// The digest with this base64 text.
     Text([u8; DIGEST_TEXT_BYTES]),
-    /// What no digest is: there are several fields, or the only one has another length.
+    /// No digest matches: there are several fields, or the value of the only one has another
+    /// length.
     Impossible,
 }
 
-/// Reads what the values of the `Content-MD5` fields ask of the digest.
+/// Returns the digest that the values of the `Content-MD5` fields require.
 pub(crate) fn asked_digest(values: Values<'_>) -> AskedDigest
     ensures { (told : List (List ℕ)) (body : List ℕ) → TellsValues values.entry told
         → has_asked result body ≡ fits_values told body }
@@ -167,7 +171,7 @@ pub(crate) fn asked_digest(values: Values<'_>) -> AskedDigest
     }
 }
 
-/// Reads what the only value of `Content-MD5` asks of the digest.
+/// Returns the digest that the value of the only `Content-MD5` field requires.
 fn digest_of_text(value: &[u8]) -> AskedDigest
     ensures { (body : List ℕ) → has_asked result body ≡ bytes_eq value.now (digest_text body) }
 {
@@ -179,7 +183,7 @@ fn digest_of_text(value: &[u8]) -> AskedDigest
     AskedDigest::Text(text)
 }
 
-/// Whether the body has the digest that is asked for.
+/// Returns true if the body has the required digest.
 pub(crate) fn has_asked(asked: &AskedDigest, body: &[u8]) -> bool
     ensures { result ≡ has_asked asked.now body.now }
 {
@@ -190,7 +194,7 @@ pub(crate) fn has_asked(asked: &AskedDigest, body: &[u8]) -> bool
     }
 }
 
-/// Whether the text is that of the body's digest.
+/// Returns true if the text is the base64 text of the body's MD5.
 fn is_digest_of(text: &[u8], body: &[u8]) -> bool
     ensures { result ≡ bytes_eq text.now (digest_text body.now) }
 {

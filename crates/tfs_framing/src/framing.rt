@@ -1,4 +1,4 @@
-//! Where a message ends (RFC 9112, sections 2.2, 3, 5 and 6.2).
+//! Message framing: the end of a message (RFC 9112, sections 2.2, 3, 5 and 6.2).
 
 ghost use Rattle.std.specs.Prelude.{◌≡◌, ℕ, List, IfOk, OnErr};
 ghost use Rattle.tfs_framing.specs.Body.{refusal_of};
@@ -19,29 +19,30 @@ use crate::request::{OpenRequest, Request};
 use std::alloc::{AllocError, Global};
 use tfs_calls::Refusal;
 
-/// What bytes begin with.
+/// The outcome of framing bytes.
 #[derive(Drop)]
 pub enum Take {
     /// Neither a message nor a refusal yet: more bytes are needed.
     Need,
     /// A message, and its length in bytes.
     Got(Request, usize),
-    /// No message, for this reason; where it ends isn't known.
+    /// The message is refused for this reason; its end is unknown.
     Fault(Refusal),
 }
 
-/// What comes of the bytes that a decoder was fed with.
+/// The outcome of decoding the bytes that a decoder was fed with.
 #[derive(Drop)]
 pub enum Received {
-    /// Neither a message nor a refusal yet: more bytes are needed, of which it takes at most so many at once.
+    /// Neither a message nor a refusal yet: more bytes are needed. The decoder accepts up to this
+    /// many in the next call of `feed`.
     More(usize),
-    /// A message. Those behind it are left.
+    /// A message. The bytes after it remain in the decoder.
     Message(Request),
-    /// No message, for this reason; where it ends isn't known.
+    /// The message is refused for this reason; its end is unknown.
     Refused(Refusal),
 }
 
-/// What bytes begin with, and how many of them are left: behind the message, or undecoded.
+/// The outcome of framing, with the number of bytes that are left: after the message, or undecoded.
 #[derive(Drop)]
 pub(crate) enum Framed {
     /// A message.
@@ -49,16 +50,17 @@ pub(crate) enum Framed {
         request: Request,
         left: usize,
     },
-    /// No message, for this reason; where it ends isn't known.
+    /// The message is refused for this reason; its end is unknown.
     Refused(Refusal),
-    /// Neither yet: what is known of the bytes, unless memory for it was refused.
+    /// Neither yet: what is known of the bytes, or an error if memory for it was refused.
     More {
         progress: Result<Progress, AllocError>,
         left: usize,
     },
 }
 
-/// Frames the bytes. The end of the head was sought so far.
+/// Frames the message at the start of the bytes. The search for the end of its head continues from
+/// `search`.
 pub(crate) fn frame(alloc: Global, bytes: &[u8], search: Search) -> Result<Framed, AllocError>
     requires { IsSought bytes.now search }
     ensures ok { IfOk result (IsFramed bytes.now bytes.now) }
@@ -85,7 +87,7 @@ pub(crate) fn frame(alloc: Global, bytes: &[u8], search: Search) -> Result<Frame
     }
 }
 
-/// Frames the body behind a head that was read.
+/// Frames the body that follows a head.
 fn frame_body(
     alloc: Global,
     request: Result<OpenRequest, AllocError>,
@@ -109,7 +111,7 @@ fn frame_body(
     }
 }
 
-/// Frames a body whose length is known.
+/// Frames a body of known length.
 fn frame_sized(
     alloc: Global,
     request: Result<OpenRequest, AllocError>,
@@ -133,7 +135,7 @@ fn frame_sized(
     Ok(Framed::Message { request, left })
 }
 
-/// Frames a body in chunks, of which some bytes were decoded; these are left.
+/// Frames a chunked body that is partly decoded; `left` are the bytes that aren't.
 pub(crate) fn frame_chunks(
     request: Result<OpenRequest, AllocError>,
     decoded: ChunkedBody,
@@ -159,7 +161,7 @@ pub(crate) fn frame_chunks(
     }
 }
 
-/// Returns the refusal of bytes that begin with no body.
+/// Returns the refusal for a flaw of a chunked body.
 fn refusal_of(flaw: Flaw) -> Refusal
     ensures { result ≡ refusal_of flaw }
 {

@@ -1,4 +1,4 @@
-//! Where the head of a message begins and ends.
+//! The search for the head of a message.
 
 ghost use Rattle.std.specs.Prelude.{◌≡◌, ◌≤◌, ◌+◌, ℕ, List, ◌∷◌, ◌++◌, length, take, drop, IfSome, IfNone, IfOk, IfErr, ◌<◌};
 ghost use Rattle.httparse.specs.Grammar.{LineEnd, print_end, print_blank};
@@ -7,17 +7,18 @@ ghost use Rattle.tfs_framing.specs.Sought.{HasNoEndIn, IsSought};
 
 use crate::limits::MAX_HEAD_BYTES;
 
-/// How far the end of a head was sought.
+/// The progress of the search for the end of a head.
 #[derive(Clone, Copy)]
 pub(crate) struct Search {
-    /// So many bytes of empty lines come first.
+    /// The length of the empty lines that come first.
     pub(crate) skipped: usize,
-    /// Behind them come so many bytes of which no line feed has an empty line behind it.
+    /// The number of bytes after them that were searched: none of these is a line feed followed by
+    /// an empty line.
     pub(crate) passed: usize,
 }
 
 impl Search {
-    /// It wasn't sought.
+    /// Starts a search.
     pub(crate) fn start() -> Search
         ensures { (bytes : List ℕ) → IsSought bytes result }
     {
@@ -28,7 +29,8 @@ impl Search {
     }
 }
 
-/// The head of the message, and the bytes behind it; where no head ends in the first 16,384 bytes, how far it was sought.
+/// Returns the head of the message and the bytes after it. If no head ends in the first 16,384
+/// bytes, returns the progress of the search instead.
 pub(crate) fn find_head(bytes: &[u8], search: Search) -> Result<(&[u8], &[u8]), Search>
     requires { IsSought bytes.now search }
     ensures found { IfOk result (λ parts. (skipped : List LineEnd) × HasHead bytes.now skipped parts.0.now parts.1.now) }
@@ -52,7 +54,7 @@ pub(crate) fn find_head(bytes: &[u8], search: Search) -> Result<(&[u8], &[u8]), 
     }
 }
 
-/// The bytes behind the empty lines that come first.
+/// Returns the bytes after the leading empty lines.
 fn skip_empty_lines(bytes: &[u8]) -> &[u8]
     ensures skipped { (skipped : List LineEnd) × (bytes.now ≡ print_blank skipped ++ result.now) }
     ensures rest { ¬ (StartsWithEmptyLine result.now) }
@@ -64,7 +66,8 @@ fn skip_empty_lines(bytes: &[u8]) -> &[u8]
     rest
 }
 
-/// The length of the shortest part that ends with an empty line; so many bytes were passed over before.
+/// Returns the length of the shortest prefix that ends with an empty line. The first `passed` bytes
+/// were searched before.
 pub(crate) fn head_len(bytes: &[u8], passed: usize) -> Option<usize>
     requires { HasNoEndIn passed bytes.now }
     ensures found { IfSome result (λ n. (head : List ℕ) × (rest : List ℕ) × (bytes.now ≡ head ++ rest)
@@ -83,7 +86,7 @@ pub(crate) fn head_len(bytes: &[u8], passed: usize) -> Option<usize>
     None
 }
 
-/// The bytes behind the empty line that comes first, if one does.
+/// Returns the bytes after a leading empty line, or `None` if there is none.
 fn strip_empty_line(bytes: &[u8]) -> Option<&[u8]>
     ensures found { IfSome result (λ rest. (end : LineEnd) × (bytes.now ≡ print_end end ++ rest.now)) }
     ensures absent { IfNone result (¬ (StartsWithEmptyLine bytes.now)) }

@@ -1,4 +1,4 @@
-//! Laws of framing, which hold of all bytes.
+//! Laws of framing, which hold for all bytes.
 
 ghost use Rattle.std.specs.Prelude.{◌≢◌, ◌≡◌, ◌≤◌, ℕ, List, ◌++◌, length, All, Result};
 ghost use Rattle.std.specs.declared.alloc.AllocError.{AllocError};
@@ -16,8 +16,8 @@ ghost use Rattle.tfs_framing.specs.declared.lines.BodyLength.{BodyLength};
 ghost use Rattle.tfs_framing.specs.declared.framing.Take.{Take};
 ghost use Rattle.tfs_framing.specs.declared.framing.Take.TheVariants.{Need};
 
-/// Bytes begin with a message, or are refused, or neither yet; with one of these alone; and a message or a refusal stays
-/// whatever bytes follow.
+/// Bytes begin with a message, are refused, or are unfinished: exactly one of the three. A message
+/// or a refusal stays the same whatever bytes follow.
 pub fn what_bytes_begin_with_is_one_thing_and_stays()
     ensures each { (bytes : List ℕ) → (t : Take) × Frames bytes t }
     ensures once { (bytes : List ℕ) (t u : Take) → Frames bytes t → Frames bytes u → t ≡ u }
@@ -25,7 +25,7 @@ pub fn what_bytes_begin_with_is_one_thing_and_stays()
         → Frames (bytes ++ more) t }
 {}
 
-/// What is known of a message stays whatever bytes follow.
+/// What is known of a message stays true whatever bytes follow.
 pub(crate) fn what_is_known_stays_whatever_bytes_follow()
     ensures sought { (bytes more : List ℕ) (search : Search) → IsSought bytes search → IsSought (bytes ++ more) search }
     ensures opens { (bytes more rest : List ℕ) (request : Result OpenRequest AllocError) (size : BodyLength)
@@ -34,7 +34,7 @@ pub(crate) fn what_is_known_stays_whatever_bytes_follow()
         → Decodes bytes request body left → Decodes (bytes ++ more) request body (left ++ more) }
 {}
 
-/// The crate `http_header` takes each field of a head of the grammar, so that none is refused for it.
+/// The crate `http_header` accepts each field of a valid head, so that it refuses none.
 pub fn each_field_is_one_of_http_header()
     ensures fields { (head : List ℕ) (h : RequestHead) → length head ≤ 16384 → IsHeadOf head h
         → All (λ f. IsFieldName f.name × IsFieldValue (field_value f)) h.fields }

@@ -1,5 +1,5 @@
-//! Where requests of HTTP/1.1 (RFC 9112) begin and end in the bytes of a connection, and what their heads and bodies are.
-//! A body has its length, or comes in chunks.
+//! Framing of HTTP/1.1 requests (RFC 9112): finds the requests in the bytes of a connection, and
+//! reads their heads and bodies. A body has a stated length, or is chunked.
 #![tactic(auto)]
 
 mod body;

@@ -1,4 +1,4 @@
-//! What the lines of a head say (RFC 9112, sections 3, 5 and 6.3): how long the body behind it is, too.
+//! The lines of a head (RFC 9112, sections 3, 5 and 6.3), including the length of the body.
 
 ghost use Rattle.std.specs.Prelude.{◌≡◌, IfOk, IfErr, IfSome, IfNone, ◌&&◌, nat_lt, map, length, codes, All, ℕ, List};
 ghost use Rattle.httparse.specs.Grammar.{RequestHead};
@@ -18,20 +18,20 @@ use httparse::spans::{EMPTY_HEADER_SPAN, HeaderSpan, RequestSpans, parse_request
 use std::str;
 use tfs_calls::Refusal;
 
-/// What a head says.
+/// The content of a head.
 #[derive(Clone, Copy)]
 pub(crate) struct Lines<'h> {
     pub(crate) method: &'h [u8],
     pub(crate) target: &'h [u8],
-    /// How long the body behind it is.
+    /// The length of the body that follows.
     pub(crate) size: BodyLength,
-    /// Whether the conversation is to end after the reply.
+    /// True if the conversation ends after the reply.
     pub(crate) close: bool,
-    /// What the `Content-MD5` fields ask of the body's digest.
+    /// The digest that the `Content-MD5` fields require of the body.
     pub(crate) digest: AskedDigest,
 }
 
-/// Reads a head, or tells its refusal.
+/// Reads a head, or returns its refusal.
 pub(crate) fn read_head(head: &[u8]) -> Result<Lines<'_>, Refusal>
     ensures ok { IfOk result (λ lines. (h : RequestHead) × ReadsHead head.now h lines.size × IsToldBy lines h) }
     ensures err { IfErr result (IsHeadRefused head.now) }
@@ -56,7 +56,7 @@ pub(crate) fn read_head(head: &[u8]) -> Result<Lines<'_>, Refusal>
     }
 }
 
-/// The spans of a head that is one of the grammar, all of it.
+/// Parses a head. Returns `None` unless the whole of it is valid by the grammar.
 fn parse_whole(head: &[u8], fields: &mut [HeaderSpan; MAX_FIELDS]) -> Option<RequestSpans>
     ensures found { IfSome result (λ spans. (h : RequestHead) × IsHeadOf head.now h
         × IsRequestAt head.now fields.new spans h × IsRequestWithin head.now fields.new spans) }
@@ -74,18 +74,19 @@ fn count_line_feeds(head: &[u8]) -> usize
     head.iter().filter(|byte| **byte == b'\n').count()
 }
 
-/// How long a body is.
+/// The length of a body.
 #[derive(Clone, Copy)]
 pub(crate) enum BodyLength {
-    /// There is none.
+    /// There is no body.
     Absent,
-    /// So many bytes.
+    /// The body has this many bytes.
     Sized(usize),
-    /// As many as its chunks have.
+    /// The body is chunked: its chunks give the length.
     Chunked,
 }
 
-/// What the version and the fields of a head say of the body, or the first refusal. The spans of the fields lie in the head.
+/// Returns the length of the body by the version and the fields of a head, or the first refusal.
+/// The spans of the fields are within the head.
 pub(crate) fn body_length(
     minor: u8,
     head: &[u8],
@@ -104,7 +105,7 @@ pub(crate) fn body_length(
     )
 }
 
-/// Whether the values of the `Host` fields are as many as the version asks for.
+/// Returns true if there is one `Host` field, or none in version 1.0.
 fn names_host(minor: u8, hosts: Values<'_>) -> bool
     ensures { (values : List (List ℕ)) → TellsValues hosts.entry values → result ≡ names_host minor values }
 {
@@ -115,7 +116,8 @@ fn names_host(minor: u8, hosts: Values<'_>) -> bool
     }
 }
 
-/// The length, from the version and from the values of the `Content-Length` and of the `Transfer-Encoding` fields.
+/// Returns the length of the body by the version and the values of the `Content-Length` and
+/// `Transfer-Encoding` fields.
 fn length_told(minor: u8, lengths: Values<'_>, codings: Values<'_>) -> Result<BodyLength, Refusal>
     ensures { (texts others : List (List ℕ)) → TellsValues lengths.entry texts → TellsValues codings.entry others → result ≡ length_told minor texts others }
 {
@@ -128,7 +130,7 @@ fn length_told(minor: u8, lengths: Values<'_>, codings: Values<'_>) -> Result<Bo
     }
 }
 
-/// The length that the only transfer coding gives.
+/// Returns the length of the body by the only transfer coding.
 fn length_of_coding(minor: u8, coding: &[u8]) -> Result<BodyLength, Refusal>
     ensures { result ≡ length_of_coding minor coding.now }
 {
@@ -139,7 +141,7 @@ fn length_of_coding(minor: u8, coding: &[u8]) -> Result<BodyLength, Refusal>
     }
 }
 
-/// The length that the text of a `Content-Length` gives.
+/// Returns the length of the body by the text of a `Content-Length` field.
 fn length_of_text(text: &[u8]) -> Result<BodyLength, Refusal>
     ensures { result ≡ length_of_text text.now }
 {

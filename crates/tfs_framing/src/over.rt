@@ -1,4 +1,5 @@
-//! The end of a decoder: after a refusal, or an error for lack of memory, it returns no more messages.
+//! The end of a decoder: after a refusal, or an error for lack of memory, it returns no more
+//! messages.
 
 ghost use Rattle.std.specs.Prelude.{◌≡◌, ℕ, List};
 ghost use Rattle.tfs_framing.specs.Decoder.{IsOver, last_result};
@@ -11,14 +12,14 @@ use tfs_calls::Refusal;
 /// Why a decoder returns no more messages.
 #[derive(Drop)]
 pub(crate) struct Over {
-    /// The refusal; none if memory was refused.
+    /// The refusal, or `None` if memory was refused.
     pub(crate) reason: Option<Refusal>,
-    /// Whether no byte of the message had come.
+    /// True if no byte of the message had arrived.
     pub(crate) is_empty: bool,
 }
 
 impl Over {
-    /// Returns what ended the decoder.
+    /// Returns the result that ended the decoder.
     pub(crate) fn result(&self) -> Result<Received, AllocError>
         ensures { (bytes : List ℕ) → IsOver bytes self.now → result ≡ last_result self.now.reason }
     {
@@ -29,7 +30,7 @@ impl Over {
     }
 }
 
-/// Copies a refusal of a message, which is one of seven.
+/// Copies a refusal by framing, which is one of seven.
 pub(crate) fn copy_of(refusal: &Refusal) -> Refusal
     ensures { (bytes : List ℕ) → framing_refusal bytes refusal.now → result ≡ refusal.now }
 {

@@ -1,4 +1,4 @@
-//! What is known of the message that a decoder is fed with, and what comes of its bytes.
+//! What a decoder knows of the next message, and the steps that decode it.
 
 ghost use Rattle.std.specs.Prelude.{◌≡◌, ◌≤◌, ◌<◌, ◌++◌, ℕ, List, [], length, None, IfOk, IfSome, OnErr};
 ghost use Rattle.tfs_framing.specs.Decoded.{Decodes};
@@ -16,32 +16,33 @@ use bytes::BytesMut;
 use std::alloc::{AllocError, Global};
 use std::mem;
 
-/// The most bytes that a decoder is fed with at once.
+/// The maximum number of bytes that a decoder is fed with in one call.
 const MAX_FED_BYTES: usize = 65_536;
 
-/// What is known of the message that comes.
+/// What is known of the next message.
 #[derive(Drop)]
 pub(crate) enum Progress {
-    /// Its bytes are all among those that aren't used; the end of its head was sought so far.
+    /// Its head is incomplete, and all its bytes are unused; the search for the end of the head got
+    /// this far.
     Head(Search),
-    /// Its head says how long its body is, which is kept apart.
+    /// Its head states the length of its body, which is kept in a separate vector.
     Sized(SizedBody),
-    /// Its head tells chunks, which are decoded as they come.
+    /// Its head states a chunked body, which is decoded while it arrives.
     Chunks(Chunks),
-    /// No message comes any more.
+    /// The decoder has ended: no more messages follow.
     Over(Over),
 }
 
-/// A request whose body has a known length, and what came of the body.
+/// A request whose body has a known length, with the bytes of the body that have arrived.
 #[derive(Drop)]
 pub(crate) struct SizedBody {
     pub(crate) request: OpenRequest,
     pub(crate) size: usize,
-    /// It has room for all of its bytes.
+    /// Has capacity for all `size` bytes.
     pub(crate) body: Vec<u8>,
 }
 
-/// A request whose body comes in chunks, and what was decoded of them.
+/// A request with a chunked body, as far as it is decoded.
 #[derive(Drop)]
 pub(crate) struct Chunks {
     pub(crate) request: OpenRequest,
@@ -49,7 +50,7 @@ pub(crate) struct Chunks {
 }
 
 impl Progress {
-    /// Nothing is known.
+    /// Returns the progress before any byte has arrived.
     pub(crate) fn start() -> Progress
         ensures at { (bytes : List ℕ) → IsAt bytes result bytes }
         ensures room { (spare : ℕ) → HasRoomFor 0 result spare }
@@ -59,7 +60,8 @@ impl Progress {
     }
 }
 
-/// Keeps a request whose body isn't whole, and what came of the body, in a vector with room for all.
+/// Keeps a request with an incomplete body, and copies the body's bytes into a vector with capacity
+/// for all of them.
 pub(crate) fn begin_sized(
     alloc: Global,
     request: Result<OpenRequest, AllocError>,
@@ -82,7 +84,7 @@ pub(crate) fn begin_sized(
     }))
 }
 
-/// Keeps a request whose chunks aren't all there, if none of their bytes was lost.
+/// Keeps a request with incomplete chunks. Fails if bytes of the body were lost for lack of memory.
 pub(crate) fn keep_chunks(
     request: Result<OpenRequest, AllocError>,
     decoded: ChunkedBody,
@@ -98,7 +100,7 @@ pub(crate) fn keep_chunks(
     Ok(Progress::Chunks(Chunks { request, decoded }))
 }
 
-/// Decodes the bytes that aren't used. If more are needed, makes room for them.
+/// Decodes the unused bytes. If more are needed, makes room for them.
 pub(crate) fn step(
     alloc: Global,
     progress: &mut Progress,
@@ -125,7 +127,7 @@ pub(crate) fn step(
     }
 }
 
-/// Completes a request whose body is whole.
+/// Completes a request if its body is complete.
 fn fill(sized: SizedBody) -> Framed
     ensures { (bytes : List ℕ) → IsApart bytes sized [] → IsFramed bytes [] result }
 {
@@ -139,7 +141,7 @@ fn fill(sized: SizedBody) -> Framed
     Framed::Message { request, left: 0 }
 }
 
-/// Keeps what is known, and drops the bytes that were used.
+/// Stores the progress, and drops the bytes that were used.
 fn settle(
     framed: Result<Framed, AllocError>,
     progress: &mut Progress,
@@ -171,7 +173,7 @@ fn settle(
     }
 }
 
-/// Makes room for more bytes of a message that isn't whole, and returns for how many.
+/// Makes room for more bytes of an incomplete message, and returns their maximum number.
 fn make_room(progress: &Progress, unused: &mut BytesMut) -> Result<usize, AllocError>
     requires { (bytes : List ℕ) × IsAt bytes progress.now unused.old.items × IsUnfinished bytes
         × (over_of progress.now ≡ None) }
@@ -188,7 +190,7 @@ fn make_room(progress: &Progress, unused: &mut BytesMut) -> Result<usize, AllocE
     }
 }
 
-/// Puts bytes behind those that are there.
+/// Appends bytes to the body of known length, or to the unused bytes.
 pub(crate) fn put(progress: &mut Progress, unused: &mut BytesMut, bytes: &[u8])
     requires at { (old : List ℕ) × IsAt old progress.old unused.old.items }
     requires room { HasRoomFor (length bytes.now) progress.old unused.old.spare }

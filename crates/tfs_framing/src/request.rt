@@ -1,4 +1,4 @@
-//! A request of a client, and the form that it gives its reply.
+//! Requests of clients, and the form of their replies.
 
 ghost use Rattle.std.specs.Prelude.{◌≡◌, ℕ, List, IfOk, false, true};
 ghost use Rattle.httparse.specs.Grammar.{RequestHead};
@@ -11,8 +11,8 @@ use std::alloc::{AllocError, Global};
 use std::marker::Model;
 use tfs_calls::Bytes;
 
-/// A request: its method, its target and its body, as they came; whether the conversation is to end after the reply; and
-/// whether the body has the digest that the head tells, if it tells one.
+/// A request: its method, target and body as they arrived; whether the conversation ends after the
+/// reply; and whether the body has the digest that the head states, if it states one.
 #[derive(Drop)]
 pub struct Request {
     pub(crate) method: Vec<u8>,
@@ -33,7 +33,8 @@ impl Model for Request {
 impl Request {
     ghost use Rattle.tfs_framing.specs.Form.{form_of};
 
-    /// A request of these parts, after whose reply the conversation goes on, and whose head tells no digest.
+    /// Creates a request from its parts. The conversation continues after its reply, and its head
+    /// states no digest.
     pub fn new(
         alloc: Global,
         method: &[u8],
@@ -51,42 +52,42 @@ impl Request {
         })
     }
 
-    /// The method, byte for byte as it came (RFC 9110, section 9.1).
+    /// Returns the method exactly as it arrived (RFC 9110, section 9.1).
     pub fn method(&self) -> &[u8]
         ensures value { result.now ≡ self.now.method }
     {
         self.method.as_slice()
     }
 
-    /// The target, byte for byte as it came (RFC 9112, section 3.2).
+    /// Returns the target exactly as it arrived (RFC 9112, section 3.2).
     pub fn target(&self) -> &[u8]
         ensures value { result.now ≡ self.now.target }
     {
         self.target.as_slice()
     }
 
-    /// The body; empty where the request has none.
+    /// Returns the body, which is empty if the request has none.
     pub fn body(&self) -> &[u8]
         ensures value { result.now ≡ self.now.body }
     {
         self.body.as_slice()
     }
 
-    /// The body, given out without taking memory.
+    /// Returns the body without allocating memory.
     pub fn into_body(self) -> Bytes
         ensures value { result ≡ self.body }
     {
         Bytes::new(self.body)
     }
 
-    /// Whether the body has the digest that the head tells; also where it tells none.
+    /// Returns true if the body has the digest that the head states, or if the head states none.
     pub fn is_intact(&self) -> bool
         ensures value { result ≡ self.now.intact }
     {
         self.intact
     }
 
-    /// The form that the request gives its reply.
+    /// Returns the form of the reply to the request.
     pub fn form(&self) -> Form
         ensures value { result ≡ form_of self.now }
     {
@@ -97,7 +98,7 @@ impl Request {
     }
 }
 
-/// A request that lacks its body: what its head says, copied.
+/// A request without its body: a copy of what its head says.
 #[derive(Drop)]
 pub(crate) struct OpenRequest {
     pub(crate) method: Vec<u8>,
@@ -107,7 +108,7 @@ pub(crate) struct OpenRequest {
 }
 
 impl OpenRequest {
-    /// Copies what the lines of a head say.
+    /// Copies the content of a head.
     pub(crate) fn new(alloc: Global, lines: &Lines<'_>) -> Result<OpenRequest, AllocError>
         ensures { (h : RequestHead) → IsToldBy lines.now h
             → IfOk result (λ o. (body : List ℕ) → completed o body ≡ request_of h body) }
@@ -120,7 +121,7 @@ impl OpenRequest {
         })
     }
 
-    /// Returns the request with its body, which keeps this very vector.
+    /// Returns the request with its body. The vector is moved into the request, not copied.
     pub(crate) fn complete(self, body: Vec<u8>) -> Request
         ensures { result ≡ completed self body.items }
     {
@@ -135,11 +136,11 @@ impl OpenRequest {
     }
 }
 
-/// What a request asks of the reply's form.
+/// The form of a reply, which the request determines.
 #[derive(Clone, Copy)]
 pub struct Form {
     /// The conversation ends after the reply (RFC 9112, section 9.6).
     pub close: bool,
-    /// The body's bytes are left out (RFC 9110, section 9.3.2).
+    /// The reply is sent without its body (RFC 9110, section 9.3.2).
     pub bare: bool,
 }
