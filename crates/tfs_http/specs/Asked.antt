@@ -1,4 +1,4 @@
--- What a request asks of a state, by its method.
+-- Requests for a state, by their method.
 use Rattle.std.specs.Prelude.{ℕ, List, codes, Option, None}
 use Rattle.tfs_calls.specs.declared.call.Call.{Call}
 use Rattle.tfs_calls.specs.declared.call.Call.TheVariants.{Read, Change}
@@ -15,7 +15,7 @@ method_text Delete = codes "DELETE"
 method_text Lock = codes "LOCK"
 method_text Unlock = codes "UNLOCK"
 
--- The identifier of a request with this method and this target: GET and LOCK take none.
+-- The identifier of a request with this method and target: GET and LOCK take none.
 abbrev pub state_identifier : Method → List ℕ → Option (List ℕ)
 state_identifier Get target = None
 state_identifier Post target = identifier_parameter target
@@ -23,7 +23,7 @@ state_identifier Delete target = identifier_parameter target
 state_identifier Lock target = None
 state_identifier Unlock target = identifier_parameter target
 
--- The call of a method, a name, an identifier and a body.
+-- The call with this method, name, identifier and body.
 abbrev pub state_call : Method → List ℕ → Option (List ℕ) → List ℕ → Call
 state_call Get name id body = Read name
 state_call Post name id body = Change name (raw.Push id body)

@@ -1,4 +1,4 @@
--- The query of a target (RFC 9112, section 3.2.1), read as a form (URL Standard, section 5).
+-- The query of a target (RFC 9112, section 3.2.1), read as form data (URL Standard, section 5).
 use Rattle.std.specs.Prelude.{◌==◌, ℕ, List, [], ◌∷◌, map, filter, codes, Option, Some, None, if◌then◌else◌}
 use Rattle.std.specs.List.{after_first}
 use Rattle.std.specs.Str.{bytes_eq}
@@ -9,15 +9,15 @@ use Rattle.form_urlencoded.specs.Form.{raw_pairs, decode}
 abbrev pub question_mark : ℕ
 question_mark = 63
 
--- What stands behind the first question mark of a target; nothing without one.
+-- The text after the first question mark of a target, or the empty text without one.
 abbrev pub query_of : List ℕ → List ℕ
 query_of target = after_first (λ byte. byte == question_mark) target
 
--- The text that a name or a value of a form stands for; what isn't UTF-8 in it becomes U+FFFD.
+-- The decoded text of a name or a value; parts that aren't UTF-8 become U+FFFD.
 abbrev pub decoded : List ℕ → List ℕ
 decoded bytes = utf8_lossy (decode bytes)
 
--- The value of the first pair with this name.
+-- The decoded value of the first pair with this name.
 unfoldable pub first_value : List ℕ → List (List ℕ × List ℕ) → Option (List ℕ)
 first_value name [] = None
 first_value name (pair ∷ pairs) = if bytes_eq (decoded pair.0) name then Some (decoded pair.1) else first_value name pairs
@@ -26,7 +26,7 @@ first_value name (pair ∷ pairs) = if bytes_eq (decoded pair.0) name then Some 
 abbrev pub identifier_parameter : List ℕ → Option (List ℕ)
 identifier_parameter target = first_value (codes "ID") (raw_pairs (query_of target))
 
--- The values of all pairs with this name, in order.
+-- The decoded values of all pairs with this name, in order.
 abbrev pub all_values : List ℕ → List (List ℕ × List ℕ) → List (List ℕ)
 all_values name pairs = map (λ pair. decoded pair.1) (filter (λ pair. bytes_eq (decoded pair.0) name) pairs)
 

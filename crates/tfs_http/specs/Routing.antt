@@ -1,4 +1,4 @@
--- Routing: which call a request has, or why it has none.
+-- Routing: the call of a request, or the reason why it has none.
 use Rattle.std.specs.Prelude.{◌≡◌, ◌≢◌, ◌⊎◌, ◌==◌, ℕ, true, false, List, [], ◌∷◌, ◌++◌, codes, Contains, Result, Ok, Err}
 use Rattle.std.specs.List.{before_first}
 use Rattle.std.specs.Str.{IsUtf8}
@@ -22,11 +22,12 @@ use Rattle.tfs_http.specs.declared.routes.Served.TheVariants as served
 abbrev pub slash : ℕ
 slash = 47
 
--- The path of a target: what stands before its first question mark, or all of it (RFC 9112, section 3.2.1).
+-- The path of a target: the text before its first question mark, or all of it (RFC 9112, section
+-- 3.2.1).
 abbrev pub path_of : List ℕ → List ℕ
 path_of target = before_first (λ byte. byte == question_mark) target
 
--- A route: what stands before the name and behind it in a path, and the methods that it takes.
+-- A route: the text before and after the name in a path, and the accepted methods.
 pub record Route : Type 0 where
   pub front : List ℕ
   pub back : List ℕ
@@ -36,20 +37,21 @@ pub record Route : Type 0 where
 abbrev pub state_path : Route
 state_path = record { front = codes "/state/"; back = []; methods = methods.State }
 
--- What stands behind the name in the path of a query of this kind.
+-- The text after the name in the path of a query of this kind.
 abbrev pub kind_part : Kind → List ℕ
 kind_part Any = codes "/any"
 kind_part All = codes "/all"
 
--- The routes of queries for the impact of changes, `/impact/{name}/any` and `/impact/{name}/all`.
+-- The route of impact queries of this kind: `/impact/{name}/any` or `/impact/{name}/all`.
 abbrev pub impact_path : Kind → Route
 impact_path kind = record { front = codes "/impact/"; back = kind_part kind; methods = methods.Impact }
 
--- The routes.
+-- All routes.
 abbrev pub routes : List Route
 routes = state_path ∷ impact_path Any ∷ impact_path All ∷ []
 
--- The methods of a route, in the order of their letters (RFC 9110, sections 9.1 and 9.3; Terraform, http backend).
+-- The methods of a route, in alphabetical order (RFC 9110, sections 9.1 and 9.3; Terraform, http
+-- backend).
 abbrev pub methods_of : Methods → List (List ℕ)
 methods_of methods.State = codes "DELETE" ∷ codes "GET" ∷ codes "LOCK" ∷ codes "POST" ∷ codes "UNLOCK" ∷ []
 methods_of methods.Impact = codes "GET" ∷ []
@@ -59,46 +61,48 @@ abbrev pub IsOneOf : List ℕ → List (List ℕ) → Type 0
 IsOneOf text [] = ⊥
 IsOneOf text (first ∷ others) = (text ≡ first) ⊎ IsOneOf text others
 
--- The path is that of a route, with a part that isn't empty and has no slash.
+-- The path matches the route, with a part for the name that isn't empty and has no slash.
 pub record IsPathOf (route : Route) (path part : List ℕ) : Type 0 where
   pub parts : path ≡ route.front ++ (part ++ route.back)
   pub filled : part ≢ []
   pub whole : ¬ (Contains part slash)
 
--- The target, a text, has the path of one of the routes.
+-- The target is UTF-8, and its path matches one of the routes.
 pub record HasRoute (target : List ℕ) (route : Route) (part : List ℕ) : Type 0 where
   pub listed : Contains routes route
   pub text : IsUtf8 target
   pub path : IsPathOf route (path_of target) part
 
--- The target has a route that takes the method.
+-- The target has a route that accepts the method.
 pub record IsTaken (r : RequestValue) (route : Route) (part : List ℕ) : Type 0 where
   pub has_route : HasRoute r.target route part
   pub method : IsOneOf r.method (methods_of route.methods)
 
--- And the part is a name, and the body has the digest that is told, if one is.
+-- The target has a route that accepts the method, the part is a valid name, and the body has the
+-- stated digest, if one is stated.
 pub record IsSound (r : RequestValue) (route : Route) (name : List ℕ) : Type 0 where
   pub taken : IsTaken r route name
   pub is_name : IsName name
   pub intact : r.intact ≡ true
 
--- The request asks for the change: POST makes the body the state, DELETE takes the state away, LOCK takes the lock and
--- UNLOCK gives it back (Terraform, http backend). The identifier is the parameter `ID`, also where it is empty.
+-- The request asks for the change: POST stores the body as the state, DELETE deletes the state,
+-- LOCK takes the lock and UNLOCK releases it (Terraform, http backend). The identifier is the
+-- parameter `ID`, even if it is empty.
 abbrev pub HasChange : RequestValue → Raw → Type 0
 HasChange r (Push id body) = (r.method ≡ codes "POST") × (id ≡ identifier_parameter r.target) × (body ≡ r.body)
 HasChange r (Delete id) = (r.method ≡ codes "DELETE") × (id ≡ identifier_parameter r.target)
 HasChange r (Lock body) = (r.method ≡ codes "LOCK") × (body ≡ r.body)
 HasChange r (Unlock body id) = (r.method ≡ codes "UNLOCK") × (body ≡ r.body) × (id ≡ identifier_parameter r.target)
 
--- The request has the call: GET of a state reads it, the other methods change its workspace, and GET of an impact asks the query
--- of the texts that are the parameters `of`, in order.
+-- The request has the call: GET of a state reads it, the other methods change its workspace, and
+-- GET of an impact makes a query with the parameters `of`, in order.
 abbrev pub HasCall : RequestValue → Call → Type 0
 HasCall r (Read name) = IsSound r state_path name × (r.method ≡ codes "GET")
 HasCall r (Impact name query) = IsSound r (impact_path query.kind) name × (r.method ≡ codes "GET") × (query.texts ≡ texts_parameter r.target)
 HasCall r (Change name raw) = IsSound r state_path name × HasChange r raw
 
--- The first refusal of a request: its target has no route, or the route doesn't take its method, or the part is no name, or
--- the body hasn't the digest that is told.
+-- The first refusal of a request: its target has no route, the route doesn't accept its method, the
+-- part isn't a valid name, or the body doesn't have the stated digest.
 abbrev pub routing_refusal : RequestValue → Refusal → Type 0
 routing_refusal r NoRoute = (route : Route) (part : List ℕ) → ¬ (HasRoute r.target route part)
 routing_refusal r (MethodNotAllowed methods) = (route : Route) × (part : List ℕ) × HasRoute r.target route part × (methods ≡ route.methods)
@@ -107,12 +111,12 @@ routing_refusal r BadName = (route : Route) × (part : List ℕ) × IsTaken r ro
 routing_refusal r BadDigest = (route : Route) × (part : List ℕ) × IsTaken r route part × IsName part × (r.intact ≡ false)
 routing_refusal r _ = ⊥
 
--- What becomes of a request, but for want of memory.
+-- The outcome of routing a request, unless memory is refused.
 abbrev pub RoutesTo : RequestValue → Result Call Refusal → Type 0
 RoutesTo r (Ok call) = HasCall r call
 RoutesTo r (Err refusal) = routing_refusal r refusal
 
--- The route of what is served.
+-- The route that serves this.
 abbrev pub route_of : Served → Route
 route_of served.State = state_path
 route_of (served.Impact kind) = impact_path kind

@@ -1,4 +1,4 @@
--- The routes as `matchit` keeps them.
+-- The routes as `matchit` stores them.
 use Rattle.std.specs.Prelude.{[], ◌∷◌, ◌++◌, codes}
 use Rattle.matchit.specs.Rows.{RowsOf, param_token}
 use Rattle.matchit.specs.Router.{RouteOf}
@@ -8,11 +8,12 @@ use Rattle.tfs_http.specs.Routing.{kind_part}
 use Rattle.tfs_http.specs.declared.routes.Served.{Served}
 use Rattle.tfs_http.specs.declared.routes.Served.TheVariants as served
 
--- The route of a state, with the pattern of `/state/{name}`, where its name stands, and what it serves.
+-- The route of a state: the pattern and the text of `/state/{name}`, the place of its name, and
+-- what it serves.
 abbrev pub state_row : RouteOf Served
 state_row = record { pattern = codes "/state/" ++ param_token ∷ []; text = codes "/state/{name}"; names = (8, 12) ∷ []; value = served.State }
 
--- The same of `/impact/{name}/any` and `/impact/{name}/all`.
+-- The same for `/impact/{name}/any` and `/impact/{name}/all`.
 abbrev pub impact_row : Kind → RouteOf Served
 impact_row kind = record {
   pattern = codes "/impact/" ++ param_token ∷ kind_part kind;

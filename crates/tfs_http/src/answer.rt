@@ -1,4 +1,4 @@
-//! The body of the answer to a query for the impact of changes.
+//! The body of the reply to an impact query.
 
 ghost use Rattle.std.specs.Prelude.{◌≡◌, ◌<◌, length, map, Some, option_map, string_bytes, IfOk};
 ghost use Rattle.std.specs.Arc.{arc_value};
@@ -12,7 +12,8 @@ use std::alloc::{AllocError, Global};
 use tfs_calls::Impact;
 use tfs_state::Doc;
 
-/// The body of an answer: JSON with the addresses of the chosen instances, the position of the journal and the state's serial.
+/// Returns the body of an impact's reply: JSON with the addresses of the chosen instances, the
+/// position of the journal and the state's serial.
 pub(crate) fn impact_body(alloc: Global, answer: &Impact) -> Result<String, AllocError>
     ensures { IfOk result (λ body. string_bytes body
         ≡ impact_body (arc_value answer.now.version) answer.now.chosen answer.now.position) }
@@ -26,7 +27,7 @@ pub(crate) fn impact_body(alloc: Global, answer: &Impact) -> Result<String, Allo
     value.to_string(alloc)
 }
 
-/// The same as a JSON value.
+/// Returns the same as a JSON value.
 fn impact_value(
     alloc: Global,
     doc: &Doc,
@@ -40,7 +41,7 @@ fn impact_value(
     json!(in alloc; {"instances": instances, "position": position, "serial": serial})
 }
 
-/// The addresses of the chosen instances, as JSON texts.
+/// Returns the addresses of the chosen instances as JSON texts. Skips numbers without an instance.
 fn addresses(alloc: Global, doc: &Doc, chosen: &[usize]) -> Result<Vec<Value>, AllocError>
     ensures { IfOk result (λ texts. map view texts.items ≡ address_texts doc.now chosen.now) }
 {
@@ -53,7 +54,7 @@ fn addresses(alloc: Global, doc: &Doc, chosen: &[usize]) -> Result<Vec<Value>, A
     Ok(texts)
 }
 
-/// The address of an instance, as a JSON text.
+/// Returns the address of an instance as a JSON text.
 fn address(alloc: Global, doc: &Doc, number: usize) -> Result<Value, AllocError>
     requires { number < length doc.now.instances }
     ensures { IfOk result (λ text. option_map string (address_of doc.now number) ≡ Some (view text)) }

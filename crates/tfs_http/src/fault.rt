@@ -8,13 +8,13 @@ pub enum ServeFault {
     /// The reader failed.
     #[error("the input could not be read")]
     Read,
-    /// The writer failed, or took no byte.
+    /// The writer failed, or accepted no byte.
     #[error("the output could not be written")]
     Write,
     /// Another read was needed after 1,048,576 of them.
     #[error("the input came in too many reads")]
     TooManyReads,
-    /// A request for memory was refused, for the input or for a reply's text.
+    /// Memory was refused, for the input or for a reply's text.
     #[error("no memory for the conversation")]
     NoMemory,
 }

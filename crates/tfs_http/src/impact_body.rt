@@ -1,4 +1,4 @@
-//! The body of an impact's answer, whose length is counted and which is told in pieces.
+//! The body of an impact's reply. Its length is computed in advance, and it is produced in pieces.
 
 ghost use Rattle.std.specs.Prelude.{◌≡◌, ◌<◌, ◌≤◌, ◌+◌, ◌^◌, ℕ, List, [], ◌++◌, false, IsTrue, IfOk, length, vec_len};
 ghost use Rattle.std.specs.Arc.{arc_value};
@@ -16,15 +16,16 @@ use tfs_escapes::{escaped_len, tell};
 use tfs_index::Version;
 use tfs_state::Doc;
 
-/// Room for what stands behind the addresses: two numbers of at most 20 digits, and their names.
+/// Room for the end of the body, after the addresses: two numbers of at most 20 digits, and their
+/// names.
 const ENDING_BYTES: usize = 80;
 
-/// What is left of the body of an answer. Contracts see its bytes.
+/// The rest of the body of an impact's reply. Contracts see its bytes.
 #[derive(Drop)]
 pub struct ImpactBody<'r> {
     version: &'r Version,
     place: Place<'r>,
-    /// What stands behind the addresses, and how many bytes of it were told.
+    /// The end of the body, after the addresses, and how many bytes of it were produced.
     ending: Vec<u8>,
     told: usize,
 }
@@ -41,7 +42,7 @@ impl<'r> Model for ImpactBody<'r> {
 }
 
 impl<'r> ImpactBody<'r> {
-    /// The whole body. The one memory that it asks for is that of its end, with the position and the serial.
+    /// Creates the whole body. Allocates memory only for its end, with the position and the serial.
     pub fn new(alloc: Global, answer: &'r Impact) -> Result<ImpactBody<'r>, AllocError>
         ensures value { IfOk result (λ body. body
             ≡ impact_body (arc_value answer.now.version) answer.now.chosen answer.now.position) }
@@ -60,7 +61,7 @@ impl<'r> ImpactBody<'r> {
         })
     }
 
-    /// How many bytes are left.
+    /// Returns the number of bytes that are left.
     pub fn len(&self) -> u128
         ensures value { result ≡ length self.now }
         ensures limit { result < 2 ^ 127 + 2 ^ 69 }
@@ -69,8 +70,8 @@ impl<'r> ImpactBody<'r> {
         place_len(self.version.doc(), self.place) + behind.len() as u128
     }
 
-    /// Puts bytes into a vector that has the room, until it has so many, or all that were left, and tells whether they were all. It
-    /// takes no memory.
+    /// Appends bytes to a vector until it has `limit` bytes or none are left, and returns true if
+    /// none are left. The vector must have capacity for `limit` bytes; no memory is allocated.
     pub fn fill(&mut self, limit: usize, out: &mut Vec<u8>) -> bool
         requires { HasRoom out.old limit }
         ensures joined { out.new.items ++ self.new ≡ out.old.items ++ self.old }
@@ -90,7 +91,7 @@ impl<'r> ImpactBody<'r> {
     }
 }
 
-/// How many bytes of the addresses are left.
+/// Returns the number of bytes of the addresses that are left.
 #[tactic(auto, using(crate::proofs::PieceLemmas::place_counted))]
 fn place_len(doc: &Doc, place: Place<'_>) -> u128
     ensures value { result ≡ length (place_text doc.now place.entry) }
@@ -102,7 +103,7 @@ fn place_len(doc: &Doc, place: Place<'_>) -> u128
     begun + addresses_len(doc, place.later, place.numbers)
 }
 
-/// How many bytes of the addresses of these instances are left.
+/// Returns the number of bytes that are left of the addresses of these instances.
 fn addresses_len(doc: &Doc, later: bool, numbers: &[usize]) -> u128
     ensures value { result ≡ length (addresses_left doc.now later numbers.now) }
     ensures limit { result ≤ 2 ^ 127 }
@@ -118,7 +119,7 @@ fn addresses_len(doc: &Doc, later: bool, numbers: &[usize]) -> u128
     if begun { total + 1 } else { total }
 }
 
-/// How many bytes stand for an address, with what stands before it.
+/// Returns the length of an address in the body, with the bytes before it.
 fn address_len(doc: &Doc, later: bool, number: usize) -> u128
     requires { number < length doc.now.instances }
     ensures value { (without behind : List ℕ)
@@ -130,7 +131,7 @@ fn address_len(doc: &Doc, later: bool, number: usize) -> u128
     before + escaped_len(front.as_bytes()) + escaped_len(tail.as_bytes())
 }
 
-/// What stands behind the addresses.
+/// Returns the end of the body, after the addresses.
 fn ending(alloc: Global, position: u64, serial: u64) -> Result<Vec<u8>, AllocError>
     ensures { IfOk result (λ text. text.items ≡ ending_text position serial) }
 {

@@ -1,4 +1,4 @@
-//! Laws of routing and replies, which hold of all requests and all replies.
+//! Laws of routing and replies, which hold for all requests and all replies.
 
 ghost use Rattle.std.specs.Prelude.{◌≡◌, ◌≢◌, ℕ, List, [], Result};
 ghost use Rattle.std.specs.List.{concat};
@@ -11,7 +11,7 @@ ghost use Rattle.tfs_http.specs.Pieces.{IsToldIn};
 ghost use Rattle.tfs_http.specs.ReplyText.{body_of, impact_body, phrase_of, status_of};
 ghost use Rattle.tfs_calls.specs.Reply.{ReplyValue, impact};
 
-/// A request has a call or a refusal, one of them, and not both.
+/// A request has either a call or a refusal: exactly one of them.
 pub fn what_becomes_of_a_request_is_one_thing()
     ensures each { (r : RequestValue) → (x : Result Call Refusal) × RoutesTo r x }
     ensures once { (r : RequestValue) (x y : Result Call Refusal) → RoutesTo r x → RoutesTo r y → x ≡ y }
@@ -22,7 +22,7 @@ pub fn each_status_has_its_phrase()
     ensures phrase { (reply : ReplyValue) → phrase_of (status_of reply) ≢ [] }
 {}
 
-/// The pieces in which the body of an impact's answer is told are, joined, the body of its reply.
+/// The pieces in which the body of an impact's reply is produced are, joined, that body.
 pub fn pieces_of_an_answer_are_its_body()
     ensures joined { (d : Document) (chosen : List ℕ) (position : ℕ) (pieces : List (List ℕ))
         → IsToldIn (impact_body d chosen position) pieces → concat pieces ≡ body_of (impact d chosen position) }

@@ -1,5 +1,6 @@
-//! Tells the call of each request of the state backend, makes the replies (RFC 9112), and writes them to an outlet.
-//! A request reads, pushes or deletes a state, takes or gives back its lock, or asks for the impact of changes.
+//! Maps each request to the state backend to a call, makes the replies (RFC 9112), and writes them.
+//! A request reads, pushes or deletes a state, takes or releases its lock, or queries the impact of
+//! changes.
 #![tactic(auto)]
 
 mod answer;

@@ -1,4 +1,4 @@
-//! Writes texts to an outlet.
+//! Writing of texts to an outlet.
 
 ghost use Rattle.std.specs.Prelude.{◌≡◌, ◌≤◌, ◌+◌, ◌++◌, Err, length, OnOk, IfErr};
 ghost use Rattle.std.specs.Io.KnownBytes.{Appends};
@@ -10,14 +10,14 @@ use crate::fault::ServeFault;
 use crate::impact_body::ImpactBody;
 use crate::lent::Outlet;
 
-/// The most bytes of two texts that are put together before they are written.
+/// The maximum length in bytes of two texts that are joined before they are written.
 pub const JOINED_BYTES: usize = 16_384;
 
-/// The most bytes of a body that are put together before they are written.
+/// The maximum length in bytes of a piece of a body that is assembled before it is written.
 pub const PIECE_BYTES: usize = 65_536;
 
-/// Writes two texts. Where they have at most 16,384 bytes together, the second is added to the first, so that one write can take
-/// both; else it isn't copied.
+/// Writes two texts. If they have at most 16,384 bytes together, appends the second to the first,
+/// so that one write can take both; otherwise writes the second without a copy.
 pub fn write_joined<W: Outlet>(
     writer: &mut W,
     text: &mut Vec<u8>,
@@ -37,7 +37,7 @@ pub fn write_joined<W: Outlet>(
     write_out(writer, text.as_slice())
 }
 
-/// Writes a text, and another one behind it.
+/// Writes a text, and then another one.
 fn write_both<W: Outlet>(writer: &mut W, text: &[u8], more: &[u8]) -> Result<(), ServeFault>
     ensures ok { OnOk result (Appends (W.contents writer.old) (W.contents writer.new) (text.now ++ more.now)) }
     ensures err { IfErr result (λ fault. (fault ≡ WriteFault)
@@ -50,7 +50,8 @@ fn write_both<W: Outlet>(writer: &mut W, text: &[u8], more: &[u8]) -> Result<(),
     write_out(writer, more)
 }
 
-/// Writes all of a text, by single writes. After a fault the writer has a part of the text, and not all of it.
+/// Writes all of a text, with as many single writes as needed. After a fault the writer has a
+/// prefix of the text, and not all of it.
 pub fn write_out<W: Outlet>(writer: &mut W, text: &[u8]) -> Result<(), ServeFault>
     ensures ok { OnOk result (Appends (W.contents writer.old) (W.contents writer.new) text.now) }
     ensures err { IfErr result (λ fault. (fault ≡ WriteFault) × WritesFront (W.contents writer.old) (W.contents writer.new) text.now) }
@@ -69,8 +70,8 @@ pub fn write_out<W: Outlet>(writer: &mut W, text: &[u8]) -> Result<(), ServeFaul
     Ok(())
 }
 
-/// Writes a head, and behind it a body in pieces of at most 65,536 bytes. The first piece is in the text already, and the others are put
-/// together there.
+/// Writes a head, and then a body in pieces of at most 65,536 bytes. `text` has the first bytes of
+/// the body, and the pieces are assembled in it.
 pub fn write_in_pieces<W: Outlet>(
     writer: &mut W,
     head: &[u8],
@@ -89,7 +90,7 @@ pub fn write_in_pieces<W: Outlet>(
     write_pieces(writer, text, left)
 }
 
-/// Writes a text, and what is left of a body, in such pieces.
+/// Writes a text and the rest of a body, in pieces of at most 65,536 bytes.
 fn write_pieces<W: Outlet>(
     writer: &mut W,
     text: &mut Vec<u8>,

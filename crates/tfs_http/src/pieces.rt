@@ -1,4 +1,4 @@
-//! The addresses of an impact's answer, as far as a vector has room for them.
+//! The addresses in the body of an impact's reply, produced as far as a vector has room for them.
 
 ghost use Rattle.std.specs.Prelude.{◌≡◌, ◌≢◌, ◌≤◌, ◌<◌, ◌-◌, [], ◌∷◌, ◌++◌, IfSome, IfNone, Some, length, vec_len};
 ghost use Rattle.json.specs.Print.{escape};
@@ -8,7 +8,8 @@ ghost use Rattle.tfs_http.specs.Pieces.{IsRun, addresses_left, after_addresses, 
 use tfs_escapes::{tell, tell_escaped};
 use tfs_index::Version;
 
-/// What was begun: bytes that are told as they are, and the two parts of an address.
+/// The text that comes next: bytes that are written unchanged, and then the two parts of an
+/// address, which are escaped.
 #[derive(Clone, Copy)]
 pub(crate) struct Begun<'r> {
     pub(crate) plain: &'r [u8],
@@ -16,7 +17,8 @@ pub(crate) struct Begun<'r> {
     pub(crate) tail: &'r [u8],
 }
 
-/// What is left of the addresses: what was begun, whether an address was, and the numbers of the instances behind it.
+/// The rest of the addresses: the text that comes next, whether an address came before, and the
+/// numbers of the remaining instances.
 #[derive(Clone, Copy)]
 pub(crate) struct Place<'r> {
     pub(crate) begun: Begun<'r>,
@@ -25,7 +27,7 @@ pub(crate) struct Place<'r> {
 }
 
 impl<'r> Begun<'r> {
-    /// Bytes alone.
+    /// Creates a text of bytes that are written unchanged.
     pub(crate) fn plain(plain: &'r [u8]) -> Begun<'r>
         ensures { begun_text result ≡ plain.now }
     {
@@ -37,7 +39,7 @@ impl<'r> Begun<'r> {
     }
 }
 
-/// Tells the addresses until the vector has so many bytes.
+/// Appends the addresses until the vector has `limit` bytes, and returns the rest.
 pub(crate) fn tell_addresses<'r>(
     version: &'r Version,
     place: Place<'r>,
@@ -63,7 +65,7 @@ pub(crate) fn tell_addresses<'r>(
     }
 }
 
-/// Tells what was begun.
+/// Appends the text that comes next, and returns its rest.
 fn tell_begun<'r>(begun: Begun<'r>, limit: usize, out: &mut Vec<u8>) -> Begun<'r>
     requires { HasRoom out.old limit }
     ensures joined { out.new.items ++ begun_text result ≡ out.old.items ++ begun_text begun.entry }
@@ -78,7 +80,7 @@ fn tell_begun<'r>(begun: Begun<'r>, limit: usize, out: &mut Vec<u8>) -> Begun<'r
     Begun { plain, ..begun }
 }
 
-/// Tells the two parts of an address.
+/// Appends the two parts of an address, and returns the rest.
 fn tell_parts<'r>(front: &'r [u8], tail: &'r [u8], limit: usize, out: &mut Vec<u8>) -> Begun<'r>
     requires { HasRoom out.old limit }
     ensures joined { out.new.items ++ begun_text result ≡ out.old.items ++ (escape front.now ++ escape tail.now) }
@@ -98,7 +100,8 @@ fn tell_parts<'r>(front: &'r [u8], tail: &'r [u8], limit: usize, out: &mut Vec<u
     }
 }
 
-/// The next address that is begun, or the quote of the last one; nothing where none is left.
+/// Returns the place after the current text: the next address, or the quote that closes the last
+/// one, or `None` if nothing is left.
 fn next_place<'r>(version: &'r Version, later: bool, numbers: &'r [usize]) -> Option<Place<'r>>
     ensures some { IfSome result (λ p. place_text version.now p ≡ addresses_left version.now later numbers.now) }
     ensures smaller { IfSome result (λ p. steps_left p.later p.numbers.now < steps_left later numbers.now) }
@@ -120,7 +123,7 @@ fn next_place<'r>(version: &'r Version, later: bool, numbers: &'r [usize]) -> Op
     None
 }
 
-/// The addresses of the first numbers that follow one another, if the version keeps their text.
+/// Returns the addresses of the first consecutive numbers, if the version keeps their text.
 fn listed_place<'r>(version: &'r Version, later: bool, numbers: &'r [usize]) -> Option<Place<'r>>
     ensures some { IfSome result (λ p. place_text version.now p ≡ addresses_left version.now later numbers.now) }
     ensures smaller { IfSome result (λ p. steps_left p.later p.numbers.now < steps_left later numbers.now) }
@@ -140,7 +143,8 @@ fn listed_place<'r>(version: &'r Version, later: bool, numbers: &'r [usize]) -> 
     })
 }
 
-/// The number behind those that follow one another, from the first one on.
+/// Returns the end of the consecutive numbers that start with `first`: the number after the last
+/// one.
 fn run_end(numbers: &[usize], first: usize) -> usize
     ensures run { IsRun numbers.now first (result - first) }
     ensures within { (first ≤ result) × (result - first ≤ length numbers.now) }
@@ -155,7 +159,7 @@ fn run_end(numbers: &[usize], first: usize) -> usize
     end
 }
 
-/// The address of an instance, if the number has one, before those of further ones.
+/// Returns the address of an instance, if the number has one, followed by the remaining ones.
 fn place_at<'r>(version: &'r Version, later: bool, number: usize, behind: &'r [usize]) -> Place<'r>
     ensures text { place_text version.now result ≡ addresses_left version.now later (number ∷ behind.now) }
     ensures smaller { steps_left result.later result.numbers.now < steps_left later (number ∷ behind.now) }
@@ -180,7 +184,7 @@ fn place_at<'r>(version: &'r Version, later: bool, number: usize, behind: &'r [u
     }
 }
 
-/// What stands before an address.
+/// Returns the bytes before an address.
 fn before_address(later: bool) -> &'static [u8]
     ensures { result.now ≡ before_address later }
 {

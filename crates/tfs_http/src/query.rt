@@ -11,7 +11,8 @@ use form_urlencoded::{RawPairs, decode, raw_pairs};
 use std::alloc::{AllocError, Global};
 use tfs_calls::{Text, Texts};
 
-/// The value of the first parameter `ID` of a target, decoded as the text of a form (URL Standard, section 5).
+/// Returns the value of the first parameter `ID` of a target, decoded as form data (URL Standard,
+/// section 5).
 pub(crate) fn identifier_parameter(
     alloc: Global,
     target: &str,
@@ -21,7 +22,8 @@ pub(crate) fn identifier_parameter(
     first_value(alloc, raw_pairs(query_of(target).as_bytes()), "ID")
 }
 
-/// The values of all parameters `of` of a target, in order, decoded as the texts of a form (URL Standard, section 5).
+/// Returns the values of all parameters `of` of a target, in order, decoded as form data (URL
+/// Standard, section 5).
 pub(crate) fn texts_parameter(alloc: Global, target: &str) -> Result<Texts, AllocError>
     ensures { IfOk result (λ texts. texts ≡ texts_parameter target.now) }
 {
@@ -29,7 +31,7 @@ pub(crate) fn texts_parameter(alloc: Global, target: &str) -> Result<Texts, Allo
     Ok(Texts::new(values))
 }
 
-/// The values of all pairs with this name, decoded.
+/// Returns the values of all pairs with this name, decoded.
 fn all_values(alloc: Global, pairs: RawPairs<'_>, called: &str) -> Result<Vec<Text>, AllocError>
     ensures { IfOk result (λ values. values.items ≡ all_values called.now (raw_pairs_left pairs.entry)) }
 {
@@ -42,7 +44,7 @@ fn all_values(alloc: Global, pairs: RawPairs<'_>, called: &str) -> Result<Vec<Te
     Ok(values)
 }
 
-/// The value of the first pair with this name, decoded.
+/// Returns the value of the first pair with this name, decoded.
 fn first_value(
     alloc: Global,
     pairs: RawPairs<'_>,
@@ -58,21 +60,21 @@ fn first_value(
     Ok(None)
 }
 
-/// Whether the name of a pair stands for this text.
+/// Returns true if the decoded name of a pair is this text.
 fn is_called(alloc: Global, name: &[u8], called: &str) -> Result<bool, AllocError>
     ensures { IfOk result (λ same. same ≡ bytes_eq (decoded name.now) called.now) }
 {
     Ok(decode(alloc, name)?.as_str() == called)
 }
 
-/// The text that the value of a pair stands for.
+/// Decodes the value of a pair.
 fn decoded(alloc: Global, value: &[u8]) -> Result<String, AllocError>
     ensures { IfOk result (λ text. string_bytes text ≡ decoded value.now) }
 {
     decode(alloc, value)?.into_owned(alloc)
 }
 
-/// What stands behind the first question mark.
+/// Returns the text after the first question mark, or an empty text without one.
 fn query_of(target: &str) -> &str
     ensures { result.now ≡ query_of target.now }
 {

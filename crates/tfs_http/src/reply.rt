@@ -14,13 +14,14 @@ use std::borrow::CowSlice;
 use tfs_calls::{Methods, Refusal, Reply};
 use tfs_framing::Form;
 
-/// The status of an answer that is no refusal (RFC 9110, section 15.3.1).
+/// The status of a reply that is no refusal (RFC 9110, section 15.3.1).
 const OK: u16 = 200;
 
 /// Room for JSON with the name of a refusal.
 const NAME_BODY_BYTES: usize = 32;
 
-/// Adds the text of a reply: its head, and its body where the form isn't bare.
+/// Appends the text of a reply: its head, and its body unless the form is bare. If memory is
+/// refused, appends nothing.
 pub fn write_reply(
     alloc: Global,
     reply: &Reply,
@@ -43,8 +44,8 @@ pub fn write_reply(
     Ok(())
 }
 
-/// The body of a reply. That of a state and of a refusal by a lock is lent: the bytes of the state, and the holder's
-/// information as it came.
+/// Returns the body of a reply. The bytes of a state, and the holder's information in a refusal by
+/// a lock, are borrowed and unchanged; other bodies may need memory.
 pub fn body_of<'r>(alloc: Global, reply: &'r Reply) -> Result<CowSlice<'r, u8>, AllocError>
     ensures ok { IfOk result (λ body. cow_slice_items body ≡ body_of (reply_value reply.now)) }
     ensures memory { OnErr result (IsPrinted (reply_value reply.now)) }
@@ -57,7 +58,7 @@ pub fn body_of<'r>(alloc: Global, reply: &'r Reply) -> Result<CowSlice<'r, u8>, 
     }
 }
 
-/// The body of a refusal.
+/// Returns the body of a refusal.
 fn refusal_body<'r>(alloc: Global, refusal: &'r Refusal) -> Result<CowSlice<'r, u8>, AllocError>
     ensures ok { IfOk result (λ body. cow_slice_items body ≡ refusal_body (refusal_value refusal.now)) }
     ensures memory { OnErr result (IsNamed (refusal_value refusal.now)) }
@@ -68,7 +69,7 @@ fn refusal_body<'r>(alloc: Global, refusal: &'r Refusal) -> Result<CowSlice<'r, 
     Ok(CowSlice::Owned(name_body(alloc, refusal)?))
 }
 
-/// JSON with the name of a refusal.
+/// Returns JSON with the name of a refusal.
 fn name_body(alloc: Global, refusal: &Refusal) -> Result<Vec<u8>, AllocError>
     ensures { IfOk result (λ body. body.items ≡ name_body (refusal_value refusal.now)) }
 {
@@ -79,7 +80,7 @@ fn name_body(alloc: Global, refusal: &Refusal) -> Result<Vec<u8>, AllocError>
     Ok(body)
 }
 
-/// Adds the head of a reply in a form, with this body, or nothing.
+/// Appends the head of a reply with this form and body. If memory is refused, appends nothing.
 pub fn write_head(
     reply: &Reply,
     form: Form,
@@ -104,7 +105,8 @@ pub fn write_head(
     added
 }
 
-/// Adds the head of an impact's reply in a form, of whose body these bytes were told, and these are left; or nothing.
+/// Appends the head of an impact's reply in this form. `told` has the first bytes of its body, and
+/// `left` the others. If memory is refused, appends nothing.
 pub fn write_impact_head(
     told: &[u8],
     left: &ImpactBody<'_>,
@@ -122,15 +124,15 @@ pub fn write_impact_head(
     added
 }
 
-/// How many bytes a body has, of which these were told, and these are left.
+/// Returns the length of a body that consists of `told` and `left`.
 fn body_len(told: &[u8], left: &ImpactBody<'_>) -> u128
     ensures { result ≡ length (told.now ++ left.now) }
 {
     told.len() as u128 + left.len()
 }
 
-/// Adds the lines of a head in turn, of a status, a line of methods, a form and the length of a body; where memory is refused, some
-/// bytes of them.
+/// Appends the lines of a head: status, `Allow`, the form and the length of the body. If memory is
+/// refused, some of the bytes may remain appended.
 fn push_head(
     status: u16,
     allow: &str,
@@ -149,7 +151,8 @@ fn push_head(
     Ok(())
 }
 
-/// Adds the version, the status and its phrase; where memory is refused, some bytes of them.
+/// Appends the version, the status and its phrase. If memory is refused, some of the bytes may
+/// remain appended.
 fn push_status_line(status: u16, out: &mut Vec<u8>) -> Result<(), AllocError>
     ensures ok { OnOk result (out.new.items ≡ out.old.items ++ status_line status) }
     ensures err { OnErr result (take (vec_len out.old) out.new.items ≡ out.old.items) }
@@ -160,7 +163,7 @@ fn push_status_line(status: u16, out: &mut Vec<u8>) -> Result<(), AllocError>
     Ok(())
 }
 
-/// Adds three texts one behind another; where memory is refused, some bytes of them.
+/// Appends three texts in order. If memory is refused, some of the bytes may remain appended.
 fn push_three(first: &str, second: &str, third: &str, out: &mut Vec<u8>) -> Result<(), AllocError>
     ensures ok { OnOk result (out.new.items ≡ out.old.items ++ (first.now ++ (second.now ++ third.now))) }
     ensures err { OnErr result (take (vec_len out.old) out.new.items ≡ out.old.items) }
@@ -171,7 +174,7 @@ fn push_three(first: &str, second: &str, third: &str, out: &mut Vec<u8>) -> Resu
     Ok(())
 }
 
-/// The status of a reply.
+/// Returns the status of a reply.
 fn status_of(reply: &Reply) -> u16
     ensures { result ≡ status_of (reply_value reply.now) }
 {
@@ -181,7 +184,7 @@ fn status_of(reply: &Reply) -> u16
     }
 }
 
-/// The phrase of a status; empty for a status that no reply has.
+/// Returns the phrase of a status, or an empty text for a status that no reply has.
 fn phrase(status: u16) -> &'static str
     ensures { result.now ≡ phrase_of status }
 {
@@ -202,7 +205,8 @@ fn phrase(status: u16) -> &'static str
     }
 }
 
-/// The line that lists the methods of the refused request's route.
+/// Returns the `Allow` line of a refused method, with the methods of the route; empty for other
+/// replies.
 fn allow_line(reply: &Reply) -> &'static str
     ensures { result.now ≡ allow_line (reply_value reply.now) }
 {
@@ -215,7 +219,7 @@ fn allow_line(reply: &Reply) -> &'static str
     ""
 }
 
-/// The line that ends the conversation.
+/// Returns the line that announces the end of the conversation, or an empty text.
 fn close_line(form: Form) -> &'static str
     ensures { result.now ≡ close_line form }
 {
@@ -226,7 +230,7 @@ fn close_line(form: Form) -> &'static str
     }
 }
 
-/// The line that tells what a body of so many bytes is, where there is one.
+/// Returns the `Content-Type` line for a body of this length, or an empty text without a body.
 fn type_line(len: u128) -> &'static str
     ensures { (body : List ℕ) → length body ≡ len → result.now ≡ type_line body }
 {

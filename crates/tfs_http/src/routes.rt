@@ -1,4 +1,4 @@
-//! From a request to a call.
+//! Routing of requests to calls.
 
 ghost use Rattle.std.specs.Prelude.{◌≡◌, ◌≢◌, ℕ, List, [], codes, Contains, IfOk, IfErr, IfSome, IfNone, OnOk};
 ghost use Rattle.tfs_calls.specs.declared.call.Call.TheVariants.{Impact};
@@ -25,7 +25,7 @@ use tfs_rules::{Name, is_name};
 pub(crate) enum Served {
     /// The state of a workspace.
     State,
-    /// The impact of changes in it.
+    /// The impact of changes in a workspace.
     Impact(Kind),
 }
 
@@ -48,7 +48,7 @@ impl Model for Routes {
 }
 
 impl Routes {
-    /// The routes, or an error where a request for memory is refused: nothing else is wrong with them.
+    /// Creates the routes. Fails only if memory is refused.
     pub fn new(alloc: Global) -> Result<Routes, AllocError>
         ensures value { IfOk result (λ routes. routes ≡ all_routes) }
     {
@@ -58,7 +58,7 @@ impl Routes {
         }
     }
 
-    /// What the route of a path serves, and what stands for `{name}` in it.
+    /// Finds the route of a path. Returns what it serves, and the part of the path for `{name}`.
     fn find<'p>(&self, path: &'p str) -> Option<(Served, &'p str)>
         ensures found { IfSome result (λ found. IsPathOf (route_of found.0) path.now found.1.now) }
         ensures absent { IfNone result ((route : Route) (part : List ℕ) → Contains all_routes route → ¬ (IsPathOf route path.now part)) }
@@ -73,7 +73,7 @@ impl Routes {
     }
 }
 
-/// A router with the routes.
+/// Creates a router with the routes.
 fn build(alloc: Global) -> Result<Router<Served>, InsertError>
     ensures { IfOk result (λ router. router ≡ route_rows) }
 {
@@ -82,7 +82,7 @@ fn build(alloc: Global) -> Result<Router<Served>, InsertError>
     Ok(router)
 }
 
-/// Adds the routes to a router that has none.
+/// Adds the routes to an empty router.
 fn insert_routes(router: &mut Router<Served>) -> Result<(), InsertError>
     requires { router.old ≡ [] }
     ensures { OnOk result (router.new ≡ route_rows) }
@@ -93,8 +93,8 @@ fn insert_routes(router: &mut Router<Served>) -> Result<(), InsertError>
     Ok(())
 }
 
-/// The call of a request, or its first refusal in the order of their numbers. Memory is asked for only where there is none of these; where
-/// it is refused, so is the request, with `OutOfMemory`.
+/// Returns the call of a request, or its first refusal in numerical order. Allocates memory only if
+/// there is no such refusal; if memory is refused, returns `OutOfMemory`.
 pub fn call_of(alloc: Global, routes: &Routes, request: Request) -> Result<Call, Refusal>
     ensures ok { IfOk result (HasCall request) }
     ensures err { IfErr result (λ refusal. refusal ≢ OutOfMemory → routing_refusal request refusal) }
@@ -114,7 +114,8 @@ pub fn call_of(alloc: Global, routes: &Routes, request: Request) -> Result<Call,
     }
 }
 
-/// What is served at a target, the target, and the part of its path that stands for a name, if it has a route.
+/// Finds the route of a target. Returns what it serves, the target as text, and the part of its
+/// path for the name.
 fn route_target<'t>(routes: &Routes, target: &'t [u8]) -> Option<(Served, &'t str, &'t str)>
     ensures found { IfSome result (λ found. (found.1.now ≡ target.now) × HasRoute target.now (route_of found.0) found.2.now) }
     ensures absent { IfNone result ((route : Route) (part : List ℕ) → ¬ (HasRoute target.now route part)) }
@@ -126,7 +127,7 @@ fn route_target<'t>(routes: &Routes, target: &'t [u8]) -> Option<(Served, &'t st
     Some((served, text, part))
 }
 
-/// What stands before the query.
+/// Returns the text before the query.
 fn path_of(target: &str) -> &str
     ensures { result.now ≡ path_of target.now }
 {
@@ -136,7 +137,7 @@ fn path_of(target: &str) -> &str
     }
 }
 
-/// A method of a state.
+/// A method for a state.
 #[derive(Clone, Copy)]
 enum Method {
     Get,
@@ -146,7 +147,7 @@ enum Method {
     Unlock,
 }
 
-/// The method that the text names, byte for byte (RFC 9110, section 9.1).
+/// Returns the method with exactly this text (RFC 9110, section 9.1).
 fn method_of(text: &[u8]) -> Option<Method>
     ensures found { IfSome result (λ method. text.now ≡ method_text method) }
     ensures absent { IfNone result (¬ (IsOneOf text.now (methods_of State))) }
@@ -161,7 +162,8 @@ fn method_of(text: &[u8]) -> Option<Method>
     }
 }
 
-/// The method that the text names, or, where the route doesn't take it, the methods that it takes.
+/// Returns the method with this text if the route accepts it, or the methods that the route
+/// accepts.
 fn taken_method(served: Served, text: &[u8]) -> Result<Method, Methods>
     ensures ok { IfOk result (λ method. (text.now ≡ method_text method) × IsOneOf text.now (methods_of (route_of served).methods)) }
     ensures err { IfErr result (λ methods. (methods ≡ (route_of served).methods) × ¬ (IsOneOf text.now (methods_of methods))) }
@@ -178,8 +180,9 @@ fn taken_method(served: Served, text: &[u8]) -> Result<Method, Methods>
     }
 }
 
-/// The method of a request whose target has a route. Refuses a method that the route doesn't take, then a part that is no name, then a body
-/// that hasn't the digest that is told. Memory isn't asked for.
+/// Returns the method of a request whose target has a route. Refuses a method that the route
+/// doesn't accept, then a part that isn't a valid name, then a body that doesn't have the stated
+/// digest. Allocates no memory.
 fn sound_method(request: &Request, served: Served, part: &str) -> Result<Method, Refusal>
     requires { HasRoute request.now.target (route_of served) part.now }
     ensures ok { IfOk result (λ method. (request.now.method ≡ method_text method) × IsSound request.now (route_of served) part.now) }
@@ -198,7 +201,8 @@ fn sound_method(request: &Request, served: Served, part: &str) -> Result<Method,
     Ok(method)
 }
 
-/// What is asked of a state, but for the body: the method, the name, and the identifier, where the method takes one.
+/// A request for a state, without its body: the method, the name, and the identifier if the method
+/// takes one.
 #[derive(Drop)]
 struct Asked {
     method: Method,
@@ -207,7 +211,7 @@ struct Asked {
 }
 
 impl Asked {
-    /// The call with this body.
+    /// Returns the call with this body.
     fn with_body(self, body: Bytes) -> Call
         ensures { result ≡ state_call self.method self.name self.id body }
     {
@@ -221,7 +225,7 @@ impl Asked {
     }
 }
 
-/// What is asked of the state of this name with this method, at a target.
+/// Reads the request for the state of this name, with this method and target.
 fn read_asked(alloc: Global, method: Method, target: &str, part: &str) -> Result<Asked, Refusal>
     requires { IsName part.now }
     ensures ok { IfOk result (λ asked. asked ≡ record { method = method; name = part.now; id = state_identifier method target.now }) }
@@ -232,7 +236,7 @@ fn read_asked(alloc: Global, method: Method, target: &str, part: &str) -> Result
     Ok(Asked { method, name, id })
 }
 
-/// The query for the impact of changes in the state of this name, at a target.
+/// Reads the impact query for the state of this name, with this target.
 fn read_query(alloc: Global, kind: Kind, target: &str, part: &str) -> Result<Call, Refusal>
     requires { IsName part.now }
     ensures ok { IfOk result (λ call. call ≡ Impact part.now (record { kind = kind; texts = texts_parameter target.now })) }
@@ -243,7 +247,7 @@ fn read_query(alloc: Global, kind: Kind, target: &str, part: &str) -> Result<Cal
     Ok(Call::Impact(name, Query { kind, texts }))
 }
 
-/// A copy of a part that is a name.
+/// Copies a part that is a valid name.
 fn read_name(alloc: Global, part: &str) -> Result<Name, Refusal>
     requires { IsName part.now }
     ensures ok { IfOk result (λ name. name ≡ part.now) }
@@ -255,7 +259,7 @@ fn read_name(alloc: Global, part: &str) -> Result<Name, Refusal>
     }
 }
 
-/// The parameter `ID` of a target, where the method takes one, as a text of a call; the empty one too.
+/// Returns the parameter `ID` of a target, even if it is empty, or `None` if the method takes none.
 fn read_identifier(alloc: Global, method: Method, target: &str) -> Result<Option<Text>, Refusal>
     ensures ok { IfOk result (λ id. id ≡ state_identifier method target.now) }
     ensures err { IfErr result (λ refusal. refusal ≡ OutOfMemory) }
@@ -270,7 +274,7 @@ fn read_identifier(alloc: Global, method: Method, target: &str) -> Result<Option
     }
 }
 
-/// The parameters `of` of a target, as texts of a query.
+/// Returns the parameters `of` of a target.
 fn read_texts(alloc: Global, target: &str) -> Result<Texts, Refusal>
     ensures ok { IfOk result (λ texts. texts ≡ texts_parameter target.now) }
     ensures err { IfErr result (λ refusal. refusal ≡ OutOfMemory) }
