@@ -1,4 +1,4 @@
--- What locks tell of themselves, and when they were taken.
+-- The content of lock information, and the times at which locks were taken.
 use Rattle.std.specs.Prelude.{◌≡◌, ℕ, ℤ, pos, int_div, ◌≤ℤ◌, List, [], codes, Option, Some, None, option_and_then, option_map}
 use Rattle.std.specs.Int.{int_min}
 use Rattle.std.specs.List.{All, Contains, filter_map}
@@ -9,7 +9,7 @@ use Rattle.tfs_lock.specs.LockInfo.{LockInformation}
 use Rattle.tfs_rules.specs.History.{holder_of}
 use Rattle.tfs_records.specs.Journal.{Journal, acts_of, names_of}
 
--- The text at a member of lock information.
+-- The text of a member of lock information.
 abbrev pub word_at : List ℕ → LockInformation → Option (List ℕ)
 word_at name info = option_and_then (text_at name) (json_value info.bytes)
 
@@ -17,24 +17,24 @@ word_at name info = option_and_then (text_at name) (json_value info.bytes)
 abbrev pub seconds_of : List ℕ → Option ℤ
 seconds_of text = option_map (λ nanoseconds. int_div nanoseconds (pos 1000000000)) (result_ok (parse_timestamp text))
 
--- When a lock was taken, by its `Created`.
+-- When a lock was taken, by the member `Created` of its information.
 abbrev pub created_at : LockInformation → Option ℤ
 created_at info = option_and_then seconds_of (word_at (codes "Created") info)
 
--- When the lock of a name was taken, if it is held and tells that.
+-- When the lock of a name was taken, if it is held and states that.
 abbrev pub taken_at : Journal → List ℕ → Option ℤ
 taken_at j name = option_and_then created_at (holder_of (acts_of name j))
 
--- When the locks were taken that are held and tell that.
+-- When the held locks were taken, for all that state it.
 abbrev pub lock_times : Journal → List ℤ
 lock_times j = filter_map (taken_at j) (names_of j)
 
--- The earliest of some times; none where there is no time.
+-- The earliest of some times, or none if there are no times.
 abbrev pub IsEarliest : List ℤ → Option ℤ → Type 0
 IsEarliest times None = times ≡ []
 IsEarliest times (Some time) = Contains times time × All (λ other. time ≤ℤ other) times
 
--- The earlier of two times, as far as they are known.
+-- The earlier of two times, or the known one if only one is known.
 abbrev pub earlier : Option ℤ → Option ℤ → Option ℤ
 earlier (Some first) (Some second) = Some (int_min first second)
 earlier (Some first) None = Some first

@@ -1,4 +1,4 @@
--- The state that brings an older one back.
+-- The text that restores an older state.
 use Rattle.std.specs.Prelude.{◌≡◌, ◌≢◌, ◌<◌, ◌+◌, ℕ, List, ◌++◌, length, decimal, IsTrue, Option, Some, None}
 use Rattle.std.specs.List.{list_all}
 use Rattle.std.specs.Char.{is_ascii_digit}
@@ -10,7 +10,8 @@ use Rattle.tfs_rules.specs.declared.verdict.Verdict.TheVariants.{Accept}
 use Rattle.tfs_versions.specs.declared.restore.RestoreFault.{RestoreFault}
 use Rattle.tfs_versions.specs.declared.restore.RestoreFault.TheVariants.{LineageDiffers, SerialAtLimit, TooLong, Unplaced, NoMemory}
 
--- A text with a number in the place of some digits of another text. All other bytes are the same.
+-- The new text is the old one with some of its digits replaced by a number. All other bytes are the
+-- same.
 pub record HasNumber (old : List ℕ) (number : ℕ) (new : List ℕ) : Type 0 where
   pub front : List ℕ
   pub digits : List ℕ
@@ -19,15 +20,16 @@ pub record HasNumber (old : List ℕ) (number : ℕ) (new : List ℕ) : Type 0 w
   pub are_digits : IsTrue (list_all is_ascii_digit digits)
   pub after : new ≡ front ++ (decimal number ++ back)
 
--- The text spells a document with this serial and this lineage.
+-- The text is a document with this serial and lineage.
 pub record SpellsSuch (text : List ℕ) (serial : ℕ) (lineage : List ℕ) : Type 0 where
   pub document : Document
   pub spelled : SpellsDocument text document
   pub serial_is : document.serial ≡ serial
   pub lineage_is : document.lineage ≡ lineage
 
--- The text is the version's with the serial behind that of the newest state: it spells a document with that serial and the same lineage,
--- and a push of it is accepted over the newest state while nobody holds the lock.
+-- The text is the version's with a serial one higher than the newest. It is a document with that
+-- serial and the same lineage, and a push of it over the newest state is accepted while the lock
+-- isn't held.
 pub record IsNext (newest version : Document) (text : List ℕ) : Type 0 where
   pub document : Document
   pub spelled : SpellsDocument text document
@@ -36,17 +38,19 @@ pub record IsNext (newest version : Document) (text : List ℕ) : Type 0 where
   pub one_number : HasNumber version.bytes (newest.serial + 1) text
   pub accepted : verdict_over (record { state = Some newest; holder = None }) (push None document) ≡ Accept
 
--- What brings a version back over the newest state: its own text where there is no state.
+-- The text that restores a version over the newest state, if there is one; otherwise the version's
+-- own text.
 abbrev pub IsRestored : Option Document → Document → List ℕ → Type 0
 IsRestored None version text = text ≡ version.bytes
 IsRestored (Some newest) version text = IsNext newest version text
 
--- Both are of one history, and there is a serial behind the newest.
+-- Both have the same lineage, and the newest serial isn't the highest possible one.
 abbrev pub HasNext : Document → Document → Type 0
 HasNext newest version = (newest.lineage ≡ version.lineage) × (newest.serial < 18446744073709551615)
 
--- Why a version isn't brought back over the newest state. Unplaced comes where no digits were found in whose place the serial makes a text
--- that reads as the version's next: what is printed is read back first.
+-- Why a version can't be restored over the newest state. `Unplaced` means that no digits were found
+-- whose replacement makes a text that reads as the next state: the text is read back before it is
+-- returned.
 abbrev pub IsKeptFor : Document → Document → RestoreFault → Type 0
 IsKeptFor newest version LineageDiffers = newest.lineage ≢ version.lineage
 IsKeptFor newest version SerialAtLimit = (newest.lineage ≡ version.lineage) × (newest.serial ≡ 18446744073709551615)
@@ -55,7 +59,8 @@ IsKeptFor newest version TooLong = HasNext newest version
 IsKeptFor newest version Unplaced = HasNext newest version
 IsKeptFor newest version NoMemory = Unit {0}
 
--- The same where there may be no state: then only memory can be wanting.
+-- The same as `IsKeptFor`, if there is a newest state. Without one, the only possible fault is lack
+-- of memory.
 abbrev pub IsUnrestoredFor : Option Document → Document → RestoreFault → Type 0
 IsUnrestoredFor None version why = why ≡ NoMemory
 IsUnrestoredFor (Some newest) version why = IsKeptFor newest version why

@@ -1,4 +1,4 @@
-//! Numbers of a journal that a monitor watches.
+//! Metrics of a journal, for monitoring.
 
 ghost use Rattle.std.specs.Prelude.{◌≡◌, ◌≤◌, slice_get, IfOk};
 ghost use Rattle.std.specs.Option.{option_map_or};
@@ -11,21 +11,22 @@ use tfs_records::Sink;
 use tfs_rules::Name;
 use tfs_table::Table;
 
-/// The numbers of a journal.
+/// The metrics of a journal.
 #[derive(Drop)]
 pub struct Measures {
-    /// The bytes of its file.
+    /// The size of its file in bytes.
     pub bytes: usize,
     pub entries: usize,
     pub position: u64,
     pub names: usize,
     pub instances: usize,
     pub locks: usize,
-    /// When the lock was taken that is held longest, in seconds since 1970, as far as lock information tells that.
+    /// When the lock that has been held longest was taken, in seconds since 1970; only locks whose
+    /// information states a time count.
     pub oldest_lock: Option<i64>,
 }
 
-/// The numbers of a table whose journal's file has so many bytes.
+/// Returns the metrics of a table whose journal has a file of `bytes` bytes.
 pub fn measured<K: Sink>(
     alloc: Global,
     bytes: usize,
@@ -44,7 +45,7 @@ pub fn measured<K: Sink>(
     })
 }
 
-/// How many instances the states of all names of a table have.
+/// Returns the number of instances in the states of all names of a table.
 fn instances<K: Sink>(table: &Table<K>) -> usize
     ensures value { result ≡ instances_of table.now.journal }
 {
@@ -56,7 +57,8 @@ fn instances<K: Sink>(table: &Table<K>) -> usize
     count
 }
 
-/// How many instances the state of the name of a number has.
+/// Returns the number of instances in the state of the name with this number, or 0 without such a
+/// name.
 fn instances_numbered<K: Sink>(table: &Table<K>, number: usize) -> usize
     ensures value { result ≡ option_map_or (instances_at table.now.journal) (slice_get (names_of table.now.journal) number) 0 }
     ensures most { result ≤ 4096 }
@@ -67,7 +69,7 @@ fn instances_numbered<K: Sink>(table: &Table<K>, number: usize) -> usize
     }
 }
 
-/// How many instances the state of a name has.
+/// Returns the number of instances in the state of a name, or 0 without a state.
 fn instances_at<K: Sink>(table: &Table<K>, name: &Name) -> usize
     ensures value { result ≡ instances_at table.now.journal name.now }
     ensures most { result ≤ 4096 }
@@ -78,7 +80,7 @@ fn instances_at<K: Sink>(table: &Table<K>, name: &Name) -> usize
     }
 }
 
-/// How many locks of a table are held.
+/// Returns the number of locks of a table that are held.
 fn locks<K: Sink>(table: &Table<K>) -> usize
     ensures value { result ≡ locks_of table.now.journal }
 {
@@ -90,7 +92,7 @@ fn locks<K: Sink>(table: &Table<K>) -> usize
     count
 }
 
-/// 1 where the lock of the name of a number is held, 0 where it isn't.
+/// Returns 1 if the lock of the name with this number is held, and 0 otherwise.
 fn lock_numbered<K: Sink>(table: &Table<K>, number: usize) -> usize
     ensures value { result ≡ option_map_or (lock_at table.now.journal) (slice_get (names_of table.now.journal) number) 0 }
     ensures most { result ≤ 1 }
@@ -101,7 +103,7 @@ fn lock_numbered<K: Sink>(table: &Table<K>, number: usize) -> usize
     }
 }
 
-/// 1 for a name whose lock is held, 0 for another.
+/// Returns 1 if the lock of a name is held, and 0 otherwise.
 fn lock_at<K: Sink>(table: &Table<K>, name: &Name) -> usize
     ensures value { result ≡ lock_at table.now.journal name.now }
     ensures most { result ≤ 1 }

@@ -1,4 +1,4 @@
-//! A picture of what depends on what, in the language DOT of Graphviz.
+//! Pictures of dependencies, in the language DOT of Graphviz.
 
 ghost use Rattle.std.specs.Prelude.{◌≡◌, ◌<◌, ◌++◌, All, length, filter, nat_lt, IfOk, OnOk};
 ghost use Rattle.std.specs.List.{flat_map};
@@ -8,8 +8,9 @@ ghost use Rattle.tfs_versions.specs.Picture.{picture_text, pair_of, pairs_from, 
 use std::alloc::{AllocError, Global};
 use tfs_state::Doc;
 
-/// The picture of some instances of a document, by their numbers: a line for each, which is filled where it is one of those that were
-/// chosen, and a line for each pair of which the first depends on the second. Numbers beyond the last instance are left out.
+/// Returns the picture of some instances of a document, which are given by their numbers: a line
+/// for each instance, filled if it is chosen, and a line for each pair of them whose first depends
+/// on the second. Numbers beyond the last instance are left out.
 pub fn picture(
     alloc: Global,
     doc: &Doc,
@@ -28,7 +29,7 @@ pub fn picture(
     Ok(text)
 }
 
-/// Those numbers that an instance has.
+/// Returns the numbers that belong to an instance.
 fn within(alloc: Global, doc: &Doc, numbers: &[usize]) -> Result<Vec<usize>, AllocError>
     ensures value { IfOk result (λ own. own.items ≡ filter (λ u. nat_lt u (length doc.now.instances)) numbers.now) }
     ensures within { IfOk result (λ own. All (λ u. u < length doc.now.instances) own.items) }
@@ -42,7 +43,7 @@ fn within(alloc: Global, doc: &Doc, numbers: &[usize]) -> Result<Vec<usize>, All
     Ok(own)
 }
 
-/// The pairs of these instances of which the first depends on the second.
+/// Returns the pairs of these instances whose first depends on the second.
 fn pairs_among(alloc: Global, doc: &Doc, among: &[usize]) -> Result<Vec<(usize, usize)>, AllocError>
     requires { All (λ u. u < length doc.now.instances) among.now }
     ensures value { IfOk result (λ pairs. pairs.items ≡ pairs_among doc.now among.now) }
@@ -55,7 +56,7 @@ fn pairs_among(alloc: Global, doc: &Doc, among: &[usize]) -> Result<Vec<(usize, 
     Ok(pairs)
 }
 
-/// Adds the pairs of an instance and those that it depends on.
+/// Appends the pairs of an instance and each of `among` that it depends on.
 fn push_pairs(
     pairs: &mut Vec<(usize, usize)>,
     doc: &Doc,
@@ -74,7 +75,7 @@ fn push_pairs(
     Ok(())
 }
 
-/// Adds the pair of two instances, if the first depends on the second.
+/// Appends the pair of two instances if the first depends on the second.
 fn push_pair(
     pairs: &mut Vec<(usize, usize)>,
     doc: &Doc,
@@ -93,7 +94,7 @@ fn push_pair(
     Ok(())
 }
 
-/// Whether an instance depends on another.
+/// Returns true if instance `u` depends on instance `v`.
 fn depends(doc: &Doc, u: usize, v: usize) -> bool
     requires u { u < length doc.now.instances }
     requires v { v < length doc.now.instances }
@@ -102,7 +103,7 @@ fn depends(doc: &Doc, u: usize, v: usize) -> bool
     doc.depends(u, v)
 }
 
-/// Adds the lines of instances.
+/// Appends the lines of instances.
 fn push_nodes(
     text: &mut Vec<u8>,
     doc: &Doc,
@@ -118,7 +119,7 @@ fn push_nodes(
     Ok(())
 }
 
-/// Adds the line of an instance.
+/// Appends the line of an instance.
 fn push_node(text: &mut Vec<u8>, doc: &Doc, u: usize, chosen: &[usize]) -> Result<(), AllocError>
     requires { u < length doc.now.instances }
     ensures { OnOk result (text.new.items ≡ text.old.items ++ node_line doc.now chosen.now u) }
@@ -132,7 +133,7 @@ fn push_node(text: &mut Vec<u8>, doc: &Doc, u: usize, chosen: &[usize]) -> Resul
     }
 }
 
-/// Adds the lines of pairs.
+/// Appends the lines of pairs.
 fn push_edges(text: &mut Vec<u8>, doc: &Doc, pairs: &[(usize, usize)]) -> Result<(), AllocError>
     requires { All (λ p. (p.0 < length doc.now.instances) × (p.1 < length doc.now.instances)) pairs.now }
     ensures { OnOk result (text.new.items ≡ text.old.items ++ flat_map (edge_line doc.now) pairs.now) }
@@ -143,7 +144,7 @@ fn push_edges(text: &mut Vec<u8>, doc: &Doc, pairs: &[(usize, usize)]) -> Result
     Ok(())
 }
 
-/// Adds the line of a pair.
+/// Appends the line of a pair.
 fn push_edge(text: &mut Vec<u8>, doc: &Doc, u: usize, v: usize) -> Result<(), AllocError>
     requires u { u < length doc.now.instances }
     requires v { v < length doc.now.instances }
@@ -156,7 +157,7 @@ fn push_edge(text: &mut Vec<u8>, doc: &Doc, u: usize, v: usize) -> Result<(), Al
     text.extend_from_slice(b";\n")
 }
 
-/// Adds the address of an instance between quotes.
+/// Appends the address of an instance in quotes.
 fn push_quoted(text: &mut Vec<u8>, doc: &Doc, u: usize) -> Result<(), AllocError>
     requires { u < length doc.now.instances }
     ensures { OnOk result (text.new.items ≡ text.old.items ++ quoted doc.now u) }
@@ -170,7 +171,7 @@ fn push_quoted(text: &mut Vec<u8>, doc: &Doc, u: usize) -> Result<(), AllocError
     Ok(())
 }
 
-/// Adds bytes, of which quotes, backslashes and ends of lines are escaped.
+/// Appends bytes, with quotes, backslashes and line feeds escaped.
 fn push_escaped(text: &mut Vec<u8>, bytes: &[u8]) -> Result<(), AllocError>
     ensures { OnOk result (text.new.items ≡ text.old.items ++ flat_map escaped bytes.now) }
 {
@@ -180,7 +181,7 @@ fn push_escaped(text: &mut Vec<u8>, bytes: &[u8]) -> Result<(), AllocError>
     Ok(())
 }
 
-/// Adds a byte, escaped where it has to be.
+/// Appends a byte, escaped if necessary.
 fn push_byte(text: &mut Vec<u8>, byte: u8) -> Result<(), AllocError>
     ensures { OnOk result (text.new.items ≡ text.old.items ++ escaped byte) }
 {

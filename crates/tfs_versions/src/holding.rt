@@ -1,4 +1,4 @@
-//! What locks tell of themselves, and when they were taken.
+//! The content of lock information, and the times at which locks were taken.
 
 ghost use Rattle.std.specs.Prelude.{◌≡◌, Some, option_and_then, slice_get, IfOk};
 ghost use Rattle.serde_json.specs.View.{view};
@@ -15,18 +15,19 @@ use tfs_records::Sink;
 use tfs_rules::Name;
 use tfs_table::Table;
 
-/// What lock information says, as JSON.
+/// Returns the content of lock information as a JSON value.
 pub fn words_of(alloc: Global, info: &LockInfo) -> Result<Value, AllocError>
     ensures value { IfOk result (λ words. json_value info.now.bytes ≡ Some (view words)) }
 {
     match Value::from_slice(alloc, info.bytes()) {
         Ok(words) => Ok(words),
-        // Lock information is JSON, so that only memory can be wanting.
+        // Lock information is valid JSON, so the only possible error is lack of memory.
         Err(_) => Err(AllocError),
     }
 }
 
-/// When the lock was taken that is held longest, as far as lock information tells that.
+/// Returns when the lock that has been held longest was taken; only locks whose information states
+/// a time count.
 pub(crate) fn oldest_lock<K: Sink>(
     alloc: Global,
     table: &Table<K>,
@@ -40,7 +41,7 @@ pub(crate) fn oldest_lock<K: Sink>(
     Ok(oldest)
 }
 
-/// The earlier of two times, as far as they are known.
+/// Returns the earlier of two times, or the known one if only one is known.
 fn earlier(one: Option<i64>, other: Option<i64>) -> Option<i64>
     ensures { result ≡ earlier one other }
 {
@@ -51,7 +52,7 @@ fn earlier(one: Option<i64>, other: Option<i64>) -> Option<i64>
     }
 }
 
-/// When the lock of the name of a number was taken, if it is held and tells that.
+/// Returns when the lock of the name with this number was taken, if it is held and states that.
 fn time_numbered<K: Sink>(
     alloc: Global,
     table: &Table<K>,
@@ -66,7 +67,7 @@ fn time_numbered<K: Sink>(
     }
 }
 
-/// When the lock of a name was taken, if it is held and tells that.
+/// Returns when the lock of a name was taken, if it is held and states that.
 fn taken_at<K: Sink>(
     alloc: Global,
     table: &Table<K>,
@@ -80,7 +81,7 @@ fn taken_at<K: Sink>(
     }
 }
 
-/// When a lock was taken, by its `Created`.
+/// Returns when a lock was taken, by the member `Created` of its information.
 fn created_at(alloc: Global, info: &LockInfo) -> Result<Option<i64>, AllocError>
     ensures { IfOk result (λ time. time ≡ created_at info.now) }
 {
@@ -91,7 +92,7 @@ fn created_at(alloc: Global, info: &LockInfo) -> Result<Option<i64>, AllocError>
     }
 }
 
-/// The whole seconds since 1970 of a time (RFC 3339).
+/// Returns the whole seconds since 1970 of a time (RFC 3339).
 fn seconds_of(text: &str) -> Option<i64>
     ensures { result ≡ seconds_of text.now }
 {

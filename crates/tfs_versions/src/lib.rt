@@ -1,5 +1,5 @@
-//! What journals tell of a name's past: its acts with their positions, its state at a position, and the state that brings an older one
-//! back.
+//! The past of a name in journals: its acts with their positions, its state at a position, and the
+//! text that restores an older state.
 #![tactic(auto)]
 
 mod counts;

@@ -1,4 +1,4 @@
-//! A number in the place of another in a text.
+//! Replacement of a number in a text.
 
 ghost use Rattle.std.specs.Prelude.{◌≡◌, ◌++◌, decimal, IfOk, IfSome};
 ghost use Rattle.std.specs.List.{list_all};
@@ -9,7 +9,8 @@ use crate::place::Place;
 use itoa::Buffer;
 use std::alloc::{AllocError, Global};
 
-/// A text with a number in the place of the digits that stand between two places; none where no digits alone stand there.
+/// Returns the text with the digits at `place` replaced by a number. Returns `None` if the place is
+/// outside the text or has bytes other than digits.
 pub(crate) fn with_number(
     alloc: Global,
     text: &[u8],
@@ -30,7 +31,7 @@ pub(crate) fn with_number(
     Ok(Some(joined(alloc, front, number, back)?))
 }
 
-/// A text, a number in decimal, and another text.
+/// Returns a text, a number in decimal, and another text, joined.
 fn joined(alloc: Global, front: &[u8], number: u64, back: &[u8]) -> Result<Vec<u8>, AllocError>
     ensures { IfOk result (λ text. text.items ≡ front.now ++ (decimal number ++ back.now)) }
 {
@@ -41,7 +42,7 @@ fn joined(alloc: Global, front: &[u8], number: u64, back: &[u8]) -> Result<Vec<u
     Ok(text)
 }
 
-/// Whether all bytes are decimal digits.
+/// Returns true if all bytes are decimal digits.
 fn are_digits(bytes: &[u8]) -> bool
     ensures { result ≡ list_all is_ascii_digit bytes.now }
 {

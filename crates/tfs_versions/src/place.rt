@@ -1,22 +1,22 @@
-//! Where the serial of a state stands in its text.
+//! The place of the serial in the text of a state.
 
 ghost use Rattle.std.specs.Prelude.{◌≡◌};
 
 use json::{Invalid, Reader, Scratch};
 use std::alloc::{AllocError, Global};
 
-/// How deep the values in a state may nest.
+/// The maximum nesting depth of the values in a state.
 const MAX_DEPTH: usize = 126;
 
-/// Some bytes of a text.
+/// A part of a text.
 #[derive(Clone, Copy, Debug, PartialEq, Eq)]
 pub(crate) struct Place {
     pub(crate) start: usize,
     pub(crate) len: usize,
 }
 
-/// Where the digits of the serial stand: those of the last member `serial` of the text's object. What stands there is looked at by the
-/// caller: nothing is promised of it.
+/// Returns the place of the serial's digits: those of the last member `serial` of the text's
+/// object. Nothing is promised of the place, so the caller must check it.
 pub(crate) fn serial_place(alloc: Global, text: &str) -> Result<Option<Place>, AllocError> {
     let mut scratch = Scratch::new(alloc);
     let mut reader = Reader::new(text, &mut scratch)?;
@@ -27,7 +27,7 @@ pub(crate) fn serial_place(alloc: Global, text: &str) -> Result<Option<Place>, A
     }
 }
 
-/// Where the reader stands behind the value of the last member `serial`.
+/// Returns the offset of the reader after the value of the last member `serial`.
 fn last_serial_end(reader: &mut Reader<'_>) -> Result<Option<usize>, Invalid> {
     let mut end = None;
     'members: while let Some(name) = reader.next_key()? {
@@ -39,7 +39,8 @@ fn last_serial_end(reader: &mut Reader<'_>) -> Result<Option<usize>, Invalid> {
     Ok(end)
 }
 
-/// The last digits of a text before a place, and before blanks and a comma there.
+/// Returns the place of the last sequence of digits before `end`. Other bytes between them and
+/// `end`, such as blanks and a comma, are skipped.
 fn digits_before(text: &[u8], end: usize) -> Option<Place> {
     let text = text.get(..end)?;
     let end = text.iter().rposition(|byte| byte.is_ascii_digit())? + 1;

@@ -10,22 +10,23 @@ use std::alloc::{AllocError, Global};
 use tfs_state::{Doc, MAX_STATE_BYTES, StateFault};
 use thiserror::Error;
 
-/// Why an older state isn't brought back. The variants stand in the order in which faults are looked for.
+/// Why an older state can't be restored. `LineageDiffers` is checked first, then `SerialAtLimit`.
 #[derive(Clone, Copy, Debug, PartialEq, Eq, Error)]
 pub enum RestoreFault {
-    /// The newest state belongs to another history.
+    /// The newest state has another lineage.
     #[error("LineageDiffers")]
     LineageDiffers,
-    /// The newest state's serial is 18446744073709551615: no higher one can be told.
+    /// The newest state's serial is 18446744073709551615, so there is no higher one.
     #[error("SerialAtLimit")]
     SerialAtLimit,
     /// With the new serial the text is longer than a state may be.
     #[error("TooLong")]
     TooLong,
-    /// The serial's place in the text wasn't found.
+    /// The serial's place in the text wasn't found: no digits there can be replaced so that the
+    /// text reads as a state with the new serial and the same lineage.
     #[error("Unplaced")]
     Unplaced,
-    /// A request for memory was refused.
+    /// Memory was refused.
     #[error("OutOfMemory")]
     NoMemory,
 }
@@ -38,8 +39,9 @@ impl From<AllocError> for RestoreFault {
     }
 }
 
-/// The text that brings a version of a state back over the newest state, if there is one: the version's own with a serial one higher than
-/// the newest's, or just the version's own.
+/// Returns the text that restores a version of a state. If there is a newest state, it is the
+/// version's text with a serial one higher than the newest; otherwise it is the version's text
+/// unchanged.
 pub fn restored(alloc: Global, newest: Option<&Doc>, version: &Doc) -> Result<Vec<u8>, RestoreFault>
     ensures ok { IfOk result (λ text. IsRestored (option_map (λ doc. doc.now) newest.entry) version.now text.items) }
     ensures err { IfErr result (IsUnrestoredFor (option_map (λ doc. doc.now) newest.entry) version.now) }
@@ -50,7 +52,7 @@ pub fn restored(alloc: Global, newest: Option<&Doc>, version: &Doc) -> Result<Ve
     }
 }
 
-/// The text of a version with a serial one higher than the newest's.
+/// Returns the text of a version with a serial one higher than the newest.
 fn next_text(alloc: Global, newest: &Doc, version: &Doc) -> Result<Vec<u8>, RestoreFault>
     ensures ok { IfOk result (λ text. IsNext newest.now version.now text.items) }
     ensures err { IfErr result (IsKeptFor newest.now version.now) }
@@ -69,7 +71,7 @@ fn next_text(alloc: Global, newest: &Doc, version: &Doc) -> Result<Vec<u8>, Rest
     }
 }
 
-/// A state's text with another number in the place of its serial.
+/// Returns a state's text with its serial replaced by another number.
 fn text_with(alloc: Global, bytes: &[u8], serial: u64) -> Result<Vec<u8>, RestoreFault>
     ensures ok { IfOk result (λ text. HasNumber bytes.now serial text.items) }
     ensures short { IfOk result (λ text. length text.items ≤ 16777216) }
@@ -94,7 +96,7 @@ fn text_with(alloc: Global, bytes: &[u8], serial: u64) -> Result<Vec<u8>, Restor
     }
 }
 
-/// Whether a text spells a state with this serial and a version's lineage.
+/// Returns true if the text is a state with this serial and the version's lineage.
 fn is_version_with(
     alloc: Global,
     text: &[u8],
