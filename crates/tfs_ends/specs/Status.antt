@@ -7,14 +7,14 @@ use Rattle.tfs_conversation.specs.declared.check.RunFault.TheVariants.{Write, No
 use Rattle.tfs_table.specs.declared.fault.OpenFault.{OpenFault}
 use Rattle.tfs_table.specs.declared.fault.OpenFault.TheVariants as open_fault
 
--- The status by how the conversation ended, where no fault ended it.
+-- The status for the end of a conversation that no fault ended.
 abbrev pub status_of : Ended → ℕ
 status_of Clean = 0
 status_of Asked = 0
 status_of Cut = 3
 status_of Refused = 4
 
--- The status by why no table is made.
+-- The status for the reason why no table was opened.
 abbrev pub opening_status : OpenFault → ℕ
 opening_status open_fault.TornBase = 3
 opening_status (open_fault.Damaged at) = 4
@@ -23,7 +23,7 @@ opening_status open_fault.SinkFault = 1
 opening_status open_fault.NoMemory = 1
 opening_status open_fault.TooFar = 1
 
--- The status by the fault of a command that reads a journal.
+-- The status for a fault of a command that reads a journal.
 abbrev pub fault_status : RunFault → ℕ
 fault_status Write = 1
 fault_status NoMemory = 1

@@ -1,13 +1,14 @@
-//! The faults that the program tells.
+//! The faults that the program reports.
 
 use tfs_conversation::{RunFault, ServeFault};
 use tfs_table::OpenFault;
 use thiserror::Error;
 
-/// Why a command ended before its work was done. Its text is the one that docs/PROTOCOL.md (The program) names.
+/// Why a command ended before its work was done. Its text is the name in docs/PROTOCOL.md (The
+/// program).
 #[derive(Clone, Copy, Debug, PartialEq, Eq, Error)]
 pub enum Fault {
-    /// A request for memory was refused.
+    /// Memory was refused.
     #[error("NoMemory")]
     NoMemory,
     /// The input of a conversation could not be read.
@@ -22,10 +23,10 @@ pub enum Fault {
     /// The file of a journal could not be read.
     #[error("CannotRead")]
     CannotRead,
-    /// The file of the new journal could not be made.
+    /// The file of the new journal could not be created.
     #[error("CannotCreate")]
     CannotCreate,
-    /// The bytes of the old journal are no journal's.
+    /// The bytes of the old journal aren't a journal.
     #[error("Damaged")]
     Damaged,
     /// The old journal ends inside its base.
@@ -40,13 +41,13 @@ pub enum Fault {
     /// The file of the new journal could not be written.
     #[error("SinkFault")]
     SinkFault,
-    /// No place was there for a session to read at.
+    /// No place for reading snapshots was available for a session.
     #[error("NoPlace")]
     NoPlace,
-    /// The address could not be listened at.
+    /// The server could not listen at the address.
     #[error("CannotBind")]
     CannotBind,
-    /// The listener gave no connection.
+    /// The listener accepted no connection.
     #[error("AcceptFault")]
     AcceptFault,
 }

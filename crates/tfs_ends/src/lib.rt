@@ -1,5 +1,5 @@
-//! How the commands of the program `tfstated` end: the faults that they tell on standard error, and the exit statuses of all ends.
-//! It opens nothing and prints nothing.
+//! The ends of the commands of `tfstated`: the faults that they report on standard error, and all
+//! exit statuses. This crate opens nothing and prints nothing.
 #![tactic(auto)]
 
 mod fault;

@@ -6,7 +6,7 @@ ghost use Rattle.tfs_ends.specs.Status.{fault_status, status_of};
 use tfs_conversation::{Ended, RunFault};
 use tfs_table::OpenFault;
 
-/// The status for the end of a conversation.
+/// Returns the exit status for the end of a conversation.
 pub fn status_of(ended: Ended) -> u8
     ensures status { result ≡ status_of ended }
 {
@@ -17,7 +17,7 @@ pub fn status_of(ended: Ended) -> u8
     }
 }
 
-/// The status for a fault of a command that reads a journal.
+/// Returns the exit status for a fault of a command that reads a journal.
 pub fn fault_status(fault: RunFault) -> u8
     ensures status { result ≡ fault_status fault }
 {
