@@ -164,7 +164,7 @@ impl Fed {
         Fed {}
     }
 
-    /// Returns these bytes as the fed ones.
+    /// Creates a list of these bytes.
     pub(crate) fn of(text: &[u8]) -> Fed
         ensures { result.bytes ≡ text.now }
     {

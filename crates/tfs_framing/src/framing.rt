@@ -135,7 +135,7 @@ fn frame_sized(
     Ok(Framed::Message { request, left })
 }
 
-/// Frames a chunked body that is partly decoded; `left` are the bytes that aren't.
+/// Frames a chunked body that is partly decoded; `left` has the undecoded bytes.
 pub(crate) fn frame_chunks(
     request: Result<OpenRequest, AllocError>,
     decoded: ChunkedBody,

@@ -34,7 +34,7 @@ pub(crate) fn what_is_known_stays_whatever_bytes_follow()
         → Decodes bytes request body left → Decodes (bytes ++ more) request body (left ++ more) }
 {}
 
-/// The crate `http_header` accepts each field of a valid head, so that it refuses none.
+/// The crate `http_header` accepts each field of a valid head of at most 16,384 bytes.
 pub fn each_field_is_one_of_http_header()
     ensures fields { (head : List ℕ) (h : RequestHead) → length head ≤ 16384 → IsHeadOf head h
         → All (λ f. IsFieldName f.name × IsFieldValue (field_value f)) h.fields }
