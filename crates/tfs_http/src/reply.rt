@@ -131,8 +131,8 @@ fn body_len(told: &[u8], left: &ImpactBody<'_>) -> u128
     told.len() as u128 + left.len()
 }
 
-/// Appends the lines of a head: status, `Allow`, the form and the length of the body. If memory is
-/// refused, some of the bytes may remain appended.
+/// Appends the lines of a head with this status, `Allow` line, form and length of the body. If
+/// memory is refused, some of the bytes may remain appended.
 fn push_head(
     status: u16,
     allow: &str,
