@@ -17,15 +17,16 @@ word_at name info = option_and_then (text_at name) (json_value info.bytes)
 abbrev pub seconds_of : List ℕ → Option ℤ
 seconds_of text = option_map (λ nanoseconds. int_div nanoseconds (pos 1000000000)) (result_ok (parse_timestamp text))
 
--- When a lock was taken, by the member `Created` of its information.
+-- The time at which a lock was taken, by the member `Created` of its information.
 abbrev pub created_at : LockInformation → Option ℤ
 created_at info = option_and_then seconds_of (word_at (codes "Created") info)
 
--- When the lock of a name was taken, if it is held and states that.
+-- The time at which the lock of a name was taken, if it is held and its information states a valid
+-- time.
 abbrev pub taken_at : Journal → List ℕ → Option ℤ
 taken_at j name = option_and_then created_at (holder_of (acts_of name j))
 
--- When the held locks were taken, for all that state it.
+-- The times at which the held locks were taken, for all whose information states a valid time.
 abbrev pub lock_times : Journal → List ℤ
 lock_times j = filter_map (taken_at j) (names_of j)
 

@@ -21,8 +21,8 @@ pub struct Measures {
     pub names: usize,
     pub instances: usize,
     pub locks: usize,
-    /// When the lock that has been held longest was taken, in seconds since 1970; only locks whose
-    /// information states a time count.
+    /// The earliest time at which a lock that is held was taken, in seconds since 1970. Lock
+    /// information without a valid time is ignored.
     pub oldest_lock: Option<i64>,
 }
 

@@ -26,8 +26,8 @@ pub fn words_of(alloc: Global, info: &LockInfo) -> Result<Value, AllocError>
     }
 }
 
-/// Returns when the lock that has been held longest was taken; only locks whose information states
-/// a time count.
+/// Returns the earliest time at which a lock that is held was taken. Lock information without a
+/// valid time is ignored.
 pub(crate) fn oldest_lock<K: Sink>(
     alloc: Global,
     table: &Table<K>,
@@ -52,7 +52,8 @@ fn earlier(one: Option<i64>, other: Option<i64>) -> Option<i64>
     }
 }
 
-/// Returns when the lock of the name with this number was taken, if it is held and states that.
+/// Returns the time at which the lock of the name with this number was taken, if it is held and its
+/// information states a valid time.
 fn time_numbered<K: Sink>(
     alloc: Global,
     table: &Table<K>,
@@ -67,7 +68,8 @@ fn time_numbered<K: Sink>(
     }
 }
 
-/// Returns when the lock of a name was taken, if it is held and states that.
+/// Returns the time at which the lock of a name was taken, if it is held and its information states
+/// a valid time.
 fn taken_at<K: Sink>(
     alloc: Global,
     table: &Table<K>,
@@ -81,7 +83,7 @@ fn taken_at<K: Sink>(
     }
 }
 
-/// Returns when a lock was taken, by the member `Created` of its information.
+/// Returns the time at which a lock was taken, by the member `Created` of its information.
 fn created_at(alloc: Global, info: &LockInfo) -> Result<Option<i64>, AllocError>
     ensures { IfOk result (λ time. time ≡ created_at info.now) }
 {
