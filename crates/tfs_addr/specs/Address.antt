@@ -110,7 +110,7 @@ pub record StopsAt (text : List ℕ) (c at : ℕ) : Type 0 where
   pub begins : BeginsWithPieces text at (c ∷ rest)
   pub longest : (size : ℕ) (more : List ℕ) → BeginsWithPieces text size more → size ≤ at
 
--- The character c is at the first position where no piece begins.
+-- The character c is at the first position at which no piece begins.
 abbrev pub StopsBefore : List ℕ → ℕ → Type 0
 StopsBefore text c = (at : ℕ) × StopsAt text c at
 
