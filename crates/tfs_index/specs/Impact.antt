@@ -71,7 +71,7 @@ pub record IsReachedByEach (d : Document) (texts : List (List ℕ)) (u : ℕ) : 
   pub within : u < length d.instances
   pub reached : (text : List ℕ) → Contains texts text → IsReached d text u
 
--- The numbers are exactly those that satisfy a property, each once, in ascending order.
+-- The list has each number that satisfies the property, once and in ascending order, and no other.
 pub record IsRisingListOf (IsThere : ℕ → Type 0) (numbers : List ℕ) : Type 0 where
   pub rises : IsStrictlyIncreasing numbers
   pub members : (u : ℕ) → Contains numbers u ↔ IsThere u

@@ -7,7 +7,7 @@ ghost use Rattle.tfs_state.specs.Digest.{digest_of, digest_with};
 /// The digest of no bytes.
 const OFFSET_BASIS: u64 = 14_695_981_039_346_656_037;
 
-/// The factor by which a digest is multiplied for each byte.
+/// The factor that a digest is multiplied by for each byte.
 const PRIME: u64 = 1_099_511_628_211;
 
 /// Returns the digest of a text. Different texts may have the same digest, and anyone can construct
