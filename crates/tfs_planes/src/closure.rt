@@ -17,8 +17,8 @@ use crate::placing::close_in_order;
 /// The number of rows in a block.
 const BLOCK: usize = 64;
 
-/// The largest number of rows for which the small order is used. It stays in the cache together
-/// with the rows.
+/// The largest number of rows for which the small order is used. The small order stays in the cache
+/// together with the rows.
 const FEW: usize = 512;
 
 /// Unites a row with another if its bit `column` is set.

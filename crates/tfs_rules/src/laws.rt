@@ -33,9 +33,9 @@ pub fn histories_are_accepted_act_by_act()
         ↔ (IsAccepted h × (verdict_of h act ≡ Accept)) }
 {}
 
-/// States that a history is accepted if and only if it keeps the history laws, if locks with the
-/// same text have the same identifier. Locks that were read do. The laws refer to positions and to
-/// no verdict.
+/// States that a history in which locks with the same text have the same identifier is accepted if
+/// and only if it keeps the history laws. Locks that were read have this property. The laws refer
+/// to positions and to no verdict.
 pub fn histories_are_accepted_where_they_keep_the_history_laws()
     ensures accepted { (h : History) → LocksOfOneTextHaveOneIdentifier h
         → (IsAccepted h ↔ KeepsHistoryLaws h) }
