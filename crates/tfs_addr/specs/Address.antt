@@ -1,6 +1,7 @@
--- Terraform's addresses of resource instances (Terraform documentation: resource address reference):
--- a text in pieces, what is left of it without its keys, and the addresses of a configuration block
--- and of one instance. A text is its bytes in UTF-8, and pieces are of characters, each its code.
+-- Terraform's addresses of resource instances (Terraform documentation: resource address
+-- reference): a text as a list of pieces, the text without its keys, and the addresses of a
+-- configuration block and of its instances. A text is its bytes in UTF-8; pieces consist of
+-- characters, each represented by its code.
 use Rattle.std.specs.Prelude.{◌≡◌, ◌≢◌, ℕ, zero, suc, ◌<◌, ◌≤◌, true, ◌==◌, if◌then◌else◌, List, [], ◌∷◌, ◌++◌, length, take, drop, flat_map, Option, Some, None, IsSome, option_map, option_and_then, chars, encode_utf8_all, Result, Ok, Err, String, string_bytes, codes, decimal, ⊤}
 use Rattle.std.specs.List.{AllByRecursion, prefix_len}
 use Rattle.std.specs.Char.{is_ascii_digit}
@@ -55,76 +56,78 @@ print_piece (text_key units) = opening ∷ quote ∷ (flat_map print_unit units 
 abbrev pub print_pieces : List Piece → List ℕ
 print_pieces pieces = flat_map print_piece pieces
 
--- A quote and a backslash stand in a key only after a backslash.
+-- A valid unit: a quote or a backslash occurs in a key only after a backslash.
 abbrev pub IsUnit : KeyUnit → Type 0
 IsUnit (plain c) = (c ≢ quote) × (c ≢ backslash)
 IsUnit (escaped c) = ⊤
 
--- Brackets stand in keys alone, and a number has one or more ASCII digits.
+-- A valid piece: brackets occur only in keys, and a number has one or more ASCII digits.
 abbrev pub IsPiece : Piece → Type 0
 IsPiece (character c) = (c ≢ opening) × (c ≢ closing)
 IsPiece (number_key digits) = (0 < length digits) × AllByRecursion (λ c. is_ascii_digit c ≡ true) digits
 IsPiece (text_key units) = AllByRecursion IsUnit units
 
--- The text is these pieces.
+-- The text reads as these pieces.
 pub record ReadsPieces (text : List ℕ) (pieces : List Piece) : Type 0 where
   pub valid : AllByRecursion IsPiece pieces
   pub printed : text ≡ encode_utf8_all (print_pieces pieces)
 
--- The character, where the piece is no key.
+-- The character of a piece that isn't a key; nothing for a key.
 abbrev pub bare_part : Piece → List ℕ
 bare_part (character c) = c ∷ []
 bare_part (number_key digits) = []
 bare_part (text_key units) = []
 
--- The characters of the pieces that are no keys.
+-- The characters of the pieces that aren't keys.
 abbrev pub without_keys : List Piece → List ℕ
 without_keys pieces = flat_map bare_part pieces
 
--- The text reads in pieces, and bare is its characters without the keys.
+-- The text reads as pieces, and `bare` consists of its characters without the keys.
 abbrev pub IsStripped : List ℕ → List ℕ → Type 0
 IsStripped text bare =
     (pieces : List Piece) × ReadsPieces text pieces × (bare ≡ encode_utf8_all (without_keys pieces))
 
--- The text is no list of pieces.
+-- The text doesn't read as pieces.
 abbrev pub HasNoReading : List ℕ → Type 0
 HasNoReading text = (pieces : List Piece) → ¬ (ReadsPieces text pieces)
 
--- No piece stands at the front.
+-- No piece begins with the first of these characters.
 abbrev pub BeginsNoPiece : List ℕ → Type 0
 BeginsNoPiece cs = (piece : Piece) (rest : List ℕ) → IsPiece piece → cs ≢ print_piece piece ++ rest
 
--- The text begins with a sequence of pieces that has this many bytes, and these characters follow.
+-- The text begins with a sequence of pieces that has `size` bytes, and the characters `rest`
+-- follow.
 pub record BeginsWithPieces (text : List ℕ) (size : ℕ) (rest : List ℕ) : Type 0 where
   pub pieces : List Piece
   pub valid : AllByRecursion IsPiece pieces
   pub printed : text ≡ encode_utf8_all (print_pieces pieces ++ rest)
   pub bytes : size ≡ length (encode_utf8_all (print_pieces pieces))
 
--- The longest sequence of pieces that the text begins with has `at` bytes, and the character c follows.
+-- The longest sequence of pieces at the beginning of the text has `at` bytes, and the character c
+-- follows.
 pub record StopsAt (text : List ℕ) (c at : ℕ) : Type 0 where
   pub rest : List ℕ
   pub begins : BeginsWithPieces text at (c ∷ rest)
   pub longest : (size : ℕ) (more : List ℕ) → BeginsWithPieces text size more → size ≤ at
 
--- The character c stands at the first place where no piece begins.
+-- The character c is at the first position at which no piece begins.
 abbrev pub StopsBefore : List ℕ → ℕ → Type 0
 StopsBefore text c = (at : ℕ) × StopsAt text c at
 
--- ---- the same as functions: each gives what stands at the front, and what follows it
+-- ---- The same as functions: each returns the first part of the characters and the rest.
 
--- The key, where its bracket comes next.
+-- The key, if its closing bracket comes next.
 abbrev pub close_key : Piece → List ℕ → Option (Piece × List ℕ)
 close_key key [] = None
 close_key key (c ∷ cs) = if c == closing then Some (key, cs) else None
 
--- The digits, of which there is one at least.
+-- The digits at the beginning, if there is at least one.
 unfoldable pub first_digits : List ℕ → Option (List ℕ × List ℕ)
 first_digits cs =
     let count = prefix_len is_ascii_digit cs in
     if count == 0 then None else Some (take count cs, drop count cs)
 
--- One unit more.
+-- The units with one more in front.
 abbrev pub put_unit : KeyUnit → Option (List KeyUnit × List ℕ) → Option (List KeyUnit × List ℕ)
 put_unit unit others = option_map (λ r. (unit ∷ r.0, r.1)) others
 
@@ -136,56 +139,58 @@ first_units (c ∷ d ∷ cs) =
     if c == quote then Some ([], d ∷ cs)
     else (if c == backslash then put_unit (escaped d) (first_units cs) else put_unit (plain c) (first_units (d ∷ cs)))
 
--- The key, after its opening bracket.
+-- The key whose opening bracket precedes these characters.
 abbrev pub first_key : List ℕ → Option (Piece × List ℕ)
 first_key [] = None
 first_key (c ∷ cs) =
     if c == quote then option_and_then (λ r. close_key (text_key r.0) r.1) (first_units cs)
     else option_and_then (λ r. close_key (number_key r.0) r.1) (first_digits (c ∷ cs))
 
--- The piece.
+-- The first piece.
 unfoldable pub first_piece : List ℕ → Option (Piece × List ℕ)
 first_piece [] = None
 first_piece (c ∷ cs) =
     if c == opening then first_key cs else (if c == closing then None else Some (character c, cs))
 
--- All of the pieces, if they are no more than this.
+-- All pieces, if there are at most `limit`.
 unfoldable pub pieces_within : ℕ → List ℕ → Option (List Piece)
 pieces_within limit [] = Some []
 pieces_within zero (c ∷ cs) = None
 pieces_within (suc limit) (c ∷ cs) =
     option_and_then (λ r. option_map (λ others. r.0 ∷ others) (pieces_within limit r.1)) (first_piece (c ∷ cs))
 
--- The text without its keys: a piece has a character, so there are no more pieces than characters.
+-- The text without its keys. Each piece has at least one character, so there are at most as many
+-- pieces as characters.
 unfoldable pub stripped_text : List ℕ → Option (List ℕ)
 stripped_text text =
     option_map (λ pieces. encode_utf8_all (without_keys pieces)) (pieces_within (length (chars text)) (chars text))
 
--- A text that was returned is this one, at a fault there is none, and where memory ran out there is one.
+-- A result agrees with the expected text: a returned text equals it, an error in the text means
+-- that there is none, and NoMemory means that there is one.
 abbrev pub GivesText : {A : Type 0} → Result (String A) AddrFault → Option (List ℕ) → Type 0
 GivesText (Ok s) text = text ≡ Some (string_bytes s)
 GivesText (Err NoMemory) text = IsSome text
 GivesText (Err Unclosed) text = text ≡ None
 GivesText (Err StrayBracket) text = text ≡ None
 
--- ---- the addresses of a resource
+-- ---- The addresses of a resource.
 
--- The key of one instance among those of its block.
+-- The key that distinguishes an instance from the others of its configuration block.
 pub data InstanceKey : Type 0 where
   by_number : ℕ → InstanceKey
   by_text : List ℕ → InstanceKey
 
--- A key without where its text lies in memory.
+-- A key without the location of its text in memory.
 abbrev pub key_of : Key → InstanceKey
 key_of (Number n) = by_number n
 key_of (Text t) = by_text t.now
 
--- What is printed of a module's path, and a dot; nothing of the root, whose path is empty.
+-- The printed form of a module's path and a dot; nothing for the root module, whose path is empty.
 abbrev pub module_part : List ℕ → List ℕ → List ℕ
 module_part [] printed = []
 module_part (b ∷ path) printed = printed ++ codes "."
 
--- The word before a resource that Terraform only reads.
+-- The prefix of a resource that Terraform only reads.
 abbrev pub mode_part : Mode → List ℕ
 mode_part Managed = []
 mode_part DataSource = codes "data."
@@ -205,7 +210,7 @@ abbrev pub deposed_part : Option (List ℕ) → List ℕ
 deposed_part None = []
 deposed_part (Some key) = codes " (deposed " ++ key ++ codes ")"
 
--- The address of the configuration block, where the module's path reads in pieces.
+-- The address of the configuration block, if the module's path reads as pieces.
 abbrev pub configuration_address : List ℕ → Mode → List ℕ → List ℕ → Option (List ℕ)
 configuration_address path mode kind name =
     option_map (λ bare. module_part path bare ++ resource_part mode kind name) (stripped_text path)

@@ -1,3 +1,3 @@
--- The definitions that contracts of this crate cite.
+-- The definitions that this crate's contracts cite.
 pub mod Address
 pub mod Steps

@@ -1,4 +1,4 @@
-//! The addresses of a configuration block and of one of its instances.
+//! The addresses of a configuration block and of its instances.
 
 ghost use Rattle.std.specs.Prelude.{◌≡◌, ◌++◌, Some, IfOk, OnOk, string_bytes, option_map, option_copied};
 ghost use Rattle.tfs_addr.specs.Address.{opening, closing, StopsBefore, GivesText, configuration_address, instance_address, key_of, module_part, resource_part, key_part, deposed_part};
@@ -12,13 +12,14 @@ use std::alloc::{AllocError, Global};
 /// The length of two dots and of `data.`.
 const DOTS_AND_MODE: usize = 7;
 
-/// The address of a configuration block, which `dependencies` name: the module's path without keys
-/// and a dot, `data.` before a data source, and the resource's type (`kind`) and name with a dot
-/// between them. The root module's path is empty, and has no dot. Type and name stay as they came.
+/// Returns the address of a configuration block, as `dependencies` name it: the module's path
+/// without keys and a dot, `data.` for a data source, and the resource's type (`kind`) and name
+/// with a dot between them. The root module's path is empty and has no dot. Type and name are
+/// copied unchanged.
 ///
 /// # Errors
 ///
-/// Those of `strip` for the module's path.
+/// Returns the errors of `strip` for the module's path.
 pub fn config_text(
     alloc: Global,
     module: &str,
@@ -38,13 +39,13 @@ pub fn config_text(
     Ok(text)
 }
 
-/// The address of one instance: the module's path as it came and a dot, `data.` before a data
-/// source, type and name, the instance's key in brackets, and ` (deposed KEY)` for a deposed object.
-/// A number is written in decimal, and a text as JSON (RFC 8259, section 7). It fails only where
-/// memory runs out.
+/// Returns the address of one instance: the unchanged module's path and a dot, `data.` for a data
+/// source, type and name, the instance's key in brackets, and ` (deposed KEY)` for a deposed
+/// object. A number is written in decimal and a text as JSON (RFC 8259, section 7). Fails only if
+/// memory is exhausted.
 ///
-/// A deposed key that is empty is printed too, as `t.n (deposed )`: whoever reads states, in which
-/// an empty text stands for no deposed object, passes `None` for it.
+/// An empty deposed key is printed too, as `t.n (deposed )`. In states an empty text means that the
+/// object isn't deposed, so a caller that reads states passes `None` for it.
 pub fn instance_text(
     alloc: Global,
     module: &str,
@@ -63,8 +64,9 @@ pub fn instance_text(
     Ok(text)
 }
 
-/// What the addresses of a resource's instances begin with: the module's path as it came and a dot,
-/// `data.` before a data source, type and name. It has no room to spare, but for seven bytes at most.
+/// Returns the beginning of the addresses of a resource's instances: the unchanged module's path
+/// and a dot, `data.` for a data source, type and name. Reserves at most seven bytes more than
+/// that.
 pub fn front_text(
     alloc: Global,
     module: &str,
@@ -89,8 +91,8 @@ pub fn front_text(
     Ok(text)
 }
 
-/// What the address of an instance ends with: its key in brackets, and ` (deposed KEY)` for a deposed
-/// object. It has no room to spare, unless a smaller place is refused.
+/// Returns the end of an instance's address: its key in brackets, and ` (deposed KEY)` for a
+/// deposed object. The text has no spare capacity unless the allocator refuses to shrink it.
 pub fn tail_text(
     alloc: Global,
     key: Option<Key>,
@@ -105,7 +107,7 @@ pub fn tail_text(
     Ok(text)
 }
 
-/// Appends the key in brackets, and the key of a deposed object.
+/// Appends the key in brackets and the key of a deposed object.
 fn push_tail(text: &mut String, key: Option<Key>, deposed: Option<&str>) -> Result<(), AllocError>
     ensures { OnOk result (string_bytes text.new ≡ string_bytes text.old
         ++ key_part (option_map key_of key.entry) ++ deposed_part (option_copied deposed.entry)) }

@@ -1,5 +1,5 @@
-//! The first of two bytes, where it is often near: before a search of any length the next bytes are
-//! looked at in one step.
+//! A search for the first of two bytes that is often near: the next bytes are compared in one step
+//! before a search of any length.
 
 ghost use Rattle.std.specs.Prelude.{◌≤◌, length};
 ghost use Rattle.memchr.specs.Find.{IsFirst, IsFirstByte, Passes, is_byte2};
@@ -7,11 +7,11 @@ ghost use Rattle.memchr.specs.Find.{IsFirst, IsFirstByte, Passes, is_byte2};
 use memchr::memchr2;
 use std::simd::prelude::*;
 
-/// How many bytes are looked at in one step.
+/// The number of bytes that are compared in one step.
 const NEAR: usize = 16;
 
-/// The index of the first byte that is one of the two. A byte in front is found by a jump alone, on
-/// which nothing waits.
+/// Returns the index of the first byte that equals one of the two. A match at the first byte is
+/// found by a branch alone, on which no other instruction depends.
 #[inline(always)]
 pub(crate) fn find_either(bytes: &[u8], first: u8, second: u8) -> Option<usize>
     ensures { IsFirstByte (is_byte2 first second) bytes.now result }
@@ -29,7 +29,7 @@ pub(crate) fn find_either(bytes: &[u8], first: u8, second: u8) -> Option<usize>
     Some(NEAR + beyond)
 }
 
-/// The index among the near bytes.
+/// Returns the index of the first match among the near bytes.
 #[inline(always)]
 fn find_near(bytes: &[u8], first: u8, second: u8) -> Option<usize>
     requires { NEAR ≤ length bytes.now }
@@ -44,7 +44,7 @@ fn find_near(bytes: &[u8], first: u8, second: u8) -> Option<usize>
     Some(mask.trailing_zeros() as usize)
 }
 
-/// The same among bytes that are too few for one step.
+/// Returns the index of the first match among bytes that are too few for one step.
 #[inline(never)]
 fn find_in_few(bytes: &[u8], first: u8, second: u8) -> Option<usize>
     ensures { IsFirstByte (is_byte2 first second) bytes.now result }

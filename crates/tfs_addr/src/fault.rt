@@ -1,4 +1,4 @@
-//! Why a text has no address.
+//! The reasons why a text has no address.
 
 ghost use Rattle.std.specs.Prelude.{◌≡◌};
 ghost use Rattle.tfs_addr.specs.declared.fault.AddrFault.TheVariants.{NoMemory};
@@ -6,8 +6,8 @@ ghost use Rattle.tfs_addr.specs.declared.fault.AddrFault.TheVariants.{NoMemory};
 use std::alloc::AllocError;
 use thiserror::Error;
 
-/// Why a text isn't stripped. A fault of the text is told by its first bracket that belongs to no
-/// key, and comes before want of memory.
+/// The reason why a text isn't stripped. An error in the text is determined by its first bracket
+/// that belongs to no key, and takes precedence over `NoMemory`.
 #[derive(Clone, Copy, Debug, PartialEq, Eq, Error)]
 pub enum AddrFault {
     /// That bracket is a `[`, which begins no key.
@@ -16,7 +16,7 @@ pub enum AddrFault {
     /// That bracket is a `]`, which ends no key.
     #[error("a bracket is closed, and was not opened")]
     StrayBracket,
-    /// Memory ran out.
+    /// Memory was exhausted.
     #[error("out of memory")]
     NoMemory,
 }

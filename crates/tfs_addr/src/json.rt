@@ -1,4 +1,4 @@
-//! A text as JSON, written where it is wanted.
+//! Writes a text as JSON at the end of another.
 
 ghost use Rattle.std.specs.Prelude.{◌≡◌, ◌<◌, ◌/◌, ◌%◌, [], ◌∷◌, ◌++◌, ℕ, List, OnOk, string_bytes, encode_utf8};
 ghost use Rattle.std.specs.Char.{digit_char};
@@ -20,7 +20,7 @@ pub(crate) fn push_json(out: &mut String, text: &str) -> Result<(), AllocError>
     out.push('"')
 }
 
-/// Appends a character as it stands in a JSON text.
+/// Appends a character in the form that it has in a JSON text.
 fn push_escaped(out: &mut String, c: char) -> Result<(), AllocError>
     ensures { OnOk result ((rest : List ℕ) → string_bytes out.new ++ after_quote rest
         ≡ string_bytes out.old ++ after_quote (encode_utf8 c ++ rest)) }
@@ -38,7 +38,7 @@ fn push_escaped(out: &mut String, c: char) -> Result<(), AllocError>
     }
 }
 
-/// Appends the escape of a character by its code, of which two hex digits are enough.
+/// Appends the escape of a character by its code, for which two hex digits suffice.
 fn push_code(out: &mut String, code: u32) -> Result<(), AllocError>
     requires { code < 32 }
     ensures { OnOk result (string_bytes out.new ≡ string_bytes out.old
@@ -49,7 +49,7 @@ fn push_code(out: &mut String, code: u32) -> Result<(), AllocError>
     out.push(hex_digit(code % 16))
 }
 
-/// The lower-case hex digit.
+/// Returns the lower-case hex digit.
 fn hex_digit(digit: u32) -> char
     requires { digit < 16 }
     ensures { result ≡ digit_char digit }

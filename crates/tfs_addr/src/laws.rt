@@ -1,16 +1,16 @@
-//! Laws of the definitions. Each function does nothing, and its contract is the law.
+//! Laws of the definitions. Each function has an empty body; its contract is the law.
 
 ghost use Rattle.std.specs.Prelude.{◌≡◌, ◌⊎◌, ◌↔◌, ◌∷◌, ℕ, List, Some, None, IsUtf8};
 ghost use Rattle.tfs_addr.specs.Address.{opening, closing, Piece, ReadsPieces, HasNoReading, IsStripped, BeginsNoPiece, StopsAt, stripped_text};
 
-/// A text has at most one reading in pieces.
+/// States that a text has at most one reading as pieces.
 pub fn reads_once()
     ensures unique { (text : List ℕ) (first second : List Piece) → ReadsPieces text first → ReadsPieces text second
         → first ≡ second }
 {}
 
-/// A text reads in pieces, or there is one place where it stops: no piece begins there, and it has a
-/// bracket.
+/// States that a text either reads as pieces, or has exactly one position at which reading stops: a
+/// bracket is there, and no piece begins with it.
 pub fn reads_or_stops()
     ensures either { (text : List ℕ) → IsUtf8 text → ((bare : List ℕ) × IsStripped text bare)
         ⊎ (((at : ℕ) × StopsAt text opening at) ⊎ ((at : ℕ) × StopsAt text closing at)) }
@@ -21,14 +21,14 @@ pub fn reads_or_stops()
         → BeginsNoPiece (c ∷ stop.rest) }
 {}
 
-/// The function of the text and the relation over its pieces say the same.
+/// States that the function on texts agrees with the relation over their pieces.
 pub fn stripped_text_agrees()
     ensures some { (text bare : List ℕ) → IsUtf8 text
         → ((stripped_text text ≡ Some bare) ↔ IsStripped text bare) }
     ensures none { (text : List ℕ) → IsUtf8 text → ((stripped_text text ≡ None) ↔ HasNoReading text) }
 {}
 
-/// What was stripped has no keys left.
+/// States that a stripped text has no keys left.
 pub fn strips_once()
     ensures stays { (text bare : List ℕ) → IsStripped text bare → IsStripped bare bare }
 {}

@@ -1,5 +1,5 @@
 //! Terraform's addresses: a text without its instance keys, and the addresses of a configuration
-//! block and of one of its instances.
+//! block and of its instances.
 #![tactic(auto)]
 
 mod address;

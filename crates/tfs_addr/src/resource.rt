@@ -1,19 +1,19 @@
-//! What an instance's address is made of, beside its names.
+//! The parts of an instance's address other than its names.
 
 /// Whether Terraform manages a resource or only reads it.
 #[derive(Clone, Copy, Debug, PartialEq, Eq)]
 pub enum Mode {
-    /// The state's `managed`.
+    /// `managed` in a state.
     Managed,
-    /// The state's `data`.
+    /// `data` in a state.
     DataSource,
 }
 
-/// The key of one instance among those of its configuration block.
+/// The key that distinguishes an instance from the others of its configuration block.
 #[derive(Clone, Copy, Debug)]
 pub enum Key<'a> {
     /// An index of `count`.
     Number(u64),
-    /// A text of `for_each`.
+    /// A key of `for_each`.
     Text(&'a str),
 }

@@ -1,5 +1,5 @@
-//! A text without its instance keys. The steps of a key take a few nanoseconds each, so they are
-//! compiled into the loops that take them.
+//! Removes instance keys from a text. The steps for one key take a few nanoseconds each, so they
+//! are inlined into the loops that call them.
 
 ghost use Rattle.std.specs.Prelude.{◌≡◌, ◌≢◌, ◌++◌, ◌*◌, ◌+◌, ◌<◌, ◌≤◌, ℕ, List, [], length, chars, IsUtf8, option_copied, IfOk, IfErr, IsOk, OnOk, OnErr, IfSome, Ok, string_bytes, string_len, string_capacity, true, false};
 ghost use Rattle.tfs_addr.specs.Address.{opening, closing, IsStripped, StopsBefore, HasNoReading, BeginsNoPiece, GivesText, stripped_text, quote, backslash};
@@ -9,18 +9,18 @@ use crate::either::find_either;
 use crate::fault::AddrFault;
 use std::alloc::{AllocError, Global};
 
-/// The text without its instance keys, as `a.b` of `a[0].b["k"]` (Terraform documentation: resource
-/// address reference).
+/// Returns the text without its instance keys, such as `a.b` for `a[0].b["k"]` (Terraform
+/// documentation: resource address reference).
 ///
-/// A key is `[`, one or more ASCII digits and `]`, or `["`, characters and `"]`, where a backslash
-/// takes the character after it. Every other character but a bracket stays. The time is linear in
-/// the text.
+/// A key is `[`, one or more ASCII digits and `]`, or `["`, characters and `"]`, in which a
+/// backslash escapes the character after it. All other characters except brackets are kept. Takes
+/// time linear in the text's length.
 ///
 /// # Errors
 ///
-/// At the first place where neither a key nor another character stands, `Unclosed` for a `[` and
-/// `StrayBracket` for a `]`. `NoMemory` where the new text gets no memory; a fault of the text
-/// comes first.
+/// Returns `Unclosed` if the first bracket that belongs to no key is a `[`, and `StrayBracket` if
+/// it is a `]`. Returns `NoMemory` if memory for the new text is refused; an error in the text
+/// takes precedence.
 pub fn strip(alloc: Global, text: &str) -> Result<String, AddrFault>
     ensures ok { IfOk result (λ bare. IsStripped text.now (string_bytes bare)) }
     ensures room { IfOk result (λ bare. 4 * string_capacity bare ≤ 5 * string_len bare) }
@@ -34,7 +34,7 @@ pub fn strip(alloc: Global, text: &str) -> Result<String, AddrFault>
     bare_text(alloc, text, len)
 }
 
-/// The text without its keys, which has this many bytes.
+/// Returns the text without its keys, which has `len` bytes.
 fn bare_text(alloc: Global, text: &str, len: usize) -> Result<String, AddrFault>
     ensures ok { IfOk result (λ bare. IsStripped text.now (string_bytes bare)) }
     ensures room { IfOk result (λ bare. 4 * string_capacity bare ≤ 5 * string_len bare) }
@@ -53,7 +53,7 @@ fn bare_text(alloc: Global, text: &str, len: usize) -> Result<String, AddrFault>
     }
 }
 
-/// Appends what stands before a key, which is often nothing.
+/// Appends the text before a key, which is often empty.
 #[inline(always)]
 fn keep(bare: &mut String, front: &str) -> Result<(), AllocError>
     ensures bytes { OnOk result (string_bytes bare.new ≡ string_bytes bare.old ++ front.now) }
@@ -66,8 +66,9 @@ fn keep(bare: &mut String, front: &str) -> Result<(), AllocError>
     bare.push_str(front)
 }
 
-/// The text with little room to spare. One that was made with room for its length stays where it is; an error comes only where the
-/// allocator gave a text much more room, and takes none back.
+/// Returns the text with little spare capacity. A text that was created with capacity for its
+/// length isn't moved. Fails only if the allocator gave the text much more capacity and takes none
+/// back.
 fn fitted(mut text: String) -> Result<String, AllocError>
     ensures kept { IfOk result (λ fit. string_bytes fit ≡ string_bytes text) }
     ensures room { IfOk result (λ fit. 4 * string_capacity fit ≤ 5 * string_len fit) }
@@ -83,7 +84,7 @@ fn fitted(mut text: String) -> Result<String, AllocError>
     Ok(text)
 }
 
-/// Whether the text keeps room for more than 1.25 times its length.
+/// Returns true if the text's capacity is more than 1.25 times its length.
 fn has_much_room(text: &String) -> bool
     ensures no { result ≡ false → 4 * string_capacity text.now ≤ 5 * string_len text.now }
     ensures yes { result ≡ true → 5 * string_len text.now < 4 * string_capacity text.now }
@@ -92,7 +93,7 @@ fn has_much_room(text: &String) -> bool
     text.capacity() - text.len() > text.len() / 4
 }
 
-/// How many bytes the text has without its keys.
+/// Returns the number of bytes in the text without its keys.
 fn bare_len(text: &str) -> Result<usize, AddrFault>
     ensures ok { IfOk result (λ len. (bare : List ℕ) × IsStripped text.now bare × (len ≡ length bare)) }
     ensures err { IfErr result (FaultOf text.now) }
@@ -110,7 +111,7 @@ fn bare_len(text: &str) -> Result<usize, AddrFault>
     }
 }
 
-/// The text up to its first bracket, and the text from there.
+/// Splits the text before its first bracket.
 #[inline(always)]
 fn split_at_bracket(text: &str) -> (&str, &str)
     ensures texts { IsUtf8 result.0.now × IsUtf8 result.1.now }
@@ -122,7 +123,8 @@ fn split_at_bracket(text: &str) -> (&str, &str)
     text.split_at(at)
 }
 
-/// What follows the key that the text begins with, or else the fault of its bracket.
+/// Returns the text after the key at its beginning, or the error of its bracket if no key begins
+/// there.
 #[inline(always)]
 fn after_key(text: &str) -> Result<&str, AddrFault>
     requires some { 0 < length text.now }
@@ -140,7 +142,7 @@ fn after_key(text: &str) -> Result<&str, AddrFault>
     after_long_key(text)
 }
 
-/// What follows a key of one digit, as most keys are.
+/// Returns the text after a key of one digit, the most common form.
 #[inline(always)]
 fn after_digit_key(text: &str) -> Option<&str>
     ensures { IfSome result (λ rest. IsKeyThen (chars text.now) (chars rest.now)) }
@@ -151,7 +153,7 @@ fn after_digit_key(text: &str) -> Option<&str>
     }
 }
 
-/// What follows a key of one byte in quotes.
+/// Returns the text after a key of one byte in quotes.
 #[inline(always)]
 fn after_letter_key(text: &str) -> Option<&str>
     ensures { IfSome result (λ rest. IsKeyThen (chars text.now) (chars rest.now)) }
@@ -164,7 +166,7 @@ fn after_letter_key(text: &str) -> Option<&str>
     }
 }
 
-/// The same as `after_key`, for a key of any length.
+/// Does the same as `after_key`, for a key of any length.
 #[inline(always)]
 fn after_long_key(text: &str) -> Result<&str, AddrFault>
     requires some { 0 < length text.now }
@@ -182,7 +184,7 @@ fn after_long_key(text: &str) -> Result<&str, AddrFault>
     }
 }
 
-/// What follows the key whose opening bracket stands before these bytes.
+/// Returns the bytes after a key whose opening bracket precedes `bytes`.
 #[inline(always)]
 fn after_opening(bytes: &[u8]) -> Option<&[u8]>
     ensures { option_copied result ≡ key_rest bytes.now }
@@ -196,7 +198,7 @@ fn after_opening(bytes: &[u8]) -> Option<&[u8]>
     after_closing(end)
 }
 
-/// What follows the closing bracket in front.
+/// Returns the bytes after the closing bracket at the beginning.
 #[inline(always)]
 fn after_closing(bytes: &[u8]) -> Option<&[u8]>
     ensures { option_copied result ≡ rest_after closing bytes.now }
@@ -207,8 +209,9 @@ fn after_closing(bytes: &[u8]) -> Option<&[u8]>
     }
 }
 
-/// What follows the quote that ends the units. A backslash takes a character, of which the first
-/// byte is enough: the others are neither quote nor backslash.
+/// Returns the bytes after the quote that ends the units. A backslash escapes a character, and
+/// skipping that character's first byte suffices: its other bytes are neither quotes nor
+/// backslashes.
 #[inline(always)]
 fn after_units(bytes: &[u8]) -> Option<&[u8]>
     ensures { option_copied result ≡ units_rest bytes.now }
@@ -223,7 +226,7 @@ fn after_units(bytes: &[u8]) -> Option<&[u8]>
     }
 }
 
-/// The bytes from the first quote or backslash on.
+/// Returns the bytes from the first quote or backslash on.
 #[inline(always)]
 fn from_mark(bytes: &[u8]) -> &[u8]
     ensures same { units_rest bytes.now ≡ units_rest result.now }
@@ -234,7 +237,7 @@ fn from_mark(bytes: &[u8]) -> &[u8]
     &bytes[mark..]
 }
 
-/// What follows the digits in front.
+/// Returns the bytes after the digits at the beginning.
 #[inline(always)]
 fn after_digits(bytes: &[u8]) -> &[u8]
     ensures { result.now ≡ without_digits bytes.now }

@@ -2,7 +2,7 @@
 use Rattle.std.specs.Prelude.{◌≡◌, ℕ, ◌*◌, ◌/◌, List, length, take, drop}
 use Rattle.md5.specs.Md5.{padded_message, hash_after}
 
--- How many blocks a text has once it is padded.
+-- The number of blocks of a text once it is padded.
 unfoldable pub block_count : List ℕ → ℕ
 block_count m = length (padded_message m) / 64
 
@@ -10,11 +10,11 @@ block_count m = length (padded_message m) / 64
 unfoldable pub block_of : List ℕ → ℕ → List ℕ
 block_of m i = take 64 (drop (i * 64) (padded_message m))
 
--- What stands behind a text's whole blocks once it is padded.
+-- The bytes after a text's whole blocks once it is padded.
 unfoldable pub end_of : List ℕ → List ℕ
 end_of m = drop (length m / 64 * 64) (padded_message m)
 
--- Bytes begin with a text's end.
+-- The bytes begin with a text's end.
 abbrev pub BeginsWithEnd : List ℕ → List ℕ → Type 0
 BeginsWithEnd m e = take (length (end_of m)) e ≡ end_of m
 

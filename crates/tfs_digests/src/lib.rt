@@ -1,4 +1,4 @@
-//! The MD5 (RFC 1321) of four texts at once.
+//! The MD5 digests (RFC 1321) of four texts, computed together.
 #![tactic(auto)]
 
 mod lanes;

@@ -1,14 +1,14 @@
-//! A text as the blocks that MD5 takes in (RFC 1321, sections 3.1 and 3.2).
+//! A text as the blocks that MD5 processes (RFC 1321, sections 3.1 and 3.2).
 
 ghost use Rattle.std.specs.Prelude.{◌≡◌, ◌≤◌, ◌<◌, ◌+◌, ◌-◌, ◌/◌, ℕ, List, ◌∷◌, ◌++◌, length, replicate};
 ghost use Rattle.tfs_digests.specs.Blocks.{BeginsWithEnd, block_count, block_of};
 
 use std::marker::Model;
 
-/// How many bytes a block has.
+/// The number of bytes in a block.
 const BLOCK_BYTES: usize = 64;
 
-/// A text, and its end: what stands behind its whole blocks once it is padded.
+/// A text and its end: the bytes after its whole blocks once it is padded.
 #[derive(Drop)]
 pub(crate) struct Message<'a> {
     text: &'a [u8],
@@ -24,7 +24,7 @@ impl<'a> Model for Message<'a> {
 }
 
 impl<'a> Message<'a> {
-    /// The message of a text.
+    /// Creates the message of a text.
     pub(crate) fn new(text: &'a [u8]) -> Message<'a>
         ensures { result ≡ text.now }
     {
@@ -34,14 +34,14 @@ impl<'a> Message<'a> {
         }
     }
 
-    /// How many blocks there are.
+    /// Returns the number of blocks.
     pub(crate) fn blocks(&self) -> usize
         ensures { result ≡ block_count self.now }
     {
         self.text.len() / BLOCK_BYTES + end_blocks(self.text)
     }
 
-    /// A block; behind the last any 64 bytes.
+    /// Returns block `i`. If there is no block `i`, returns 64 unspecified bytes.
     pub(crate) fn block(&self, i: usize) -> &[u8]
         ensures size { length result.now ≡ 64 }
         ensures bytes { i < block_count self.now → result.now ≡ block_of self.now i }
@@ -57,7 +57,7 @@ impl<'a> Message<'a> {
     }
 }
 
-/// How many blocks the end takes: a second where the text's length doesn't fit the first.
+/// Returns the number of blocks in the end: two if the text's length doesn't fit into the first.
 fn end_blocks(text: &[u8]) -> usize
     ensures count { block_count text.now ≡ length text.now / 64 + result }
     ensures few { result ≤ 2 }
@@ -65,7 +65,7 @@ fn end_blocks(text: &[u8]) -> usize
     if text.len() % BLOCK_BYTES < 56 { 1 } else { 2 }
 }
 
-/// What stands behind a text's whole blocks once it is padded.
+/// Returns the bytes after a text's whole blocks once it is padded.
 fn end_of(text: &[u8]) -> [u8; 128]
     ensures { BeginsWithEnd text.now result }
 {
@@ -77,7 +77,7 @@ fn end_of(text: &[u8]) -> [u8; 128]
     end
 }
 
-/// Fewer bytes than a block, and the padding's first byte, before zeros.
+/// Returns `left`, which is shorter than a block, followed by the padding's first byte and zeros.
 fn marked(left: &[u8]) -> [u8; 128]
     requires { length left.now < 64 }
     ensures { result ≡ left.now ++ 0x80 ∷ replicate (127 - length left.now) 0 }

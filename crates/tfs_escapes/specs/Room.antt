@@ -1,8 +1,8 @@
--- The room of a vector.
+-- The capacity of a vector.
 use Rattle.std.specs.Prelude.{◌≤◌, ℕ, vec_len, vec_capacity}
 use Rattle.std.specs.Prelude.{Vec}
 
--- The vector has room for so many bytes, and no more than these.
+-- The vector has at most `limit` bytes, and capacity for `limit` bytes.
 pub record HasRoom {Z : Type 0} (out : Vec ℕ Z) (limit : ℕ) : Type 0 where
   pub within : vec_len out ≤ limit
   pub room : limit ≤ vec_capacity out

@@ -1,4 +1,4 @@
-//! What stands for a text between the quotes of JSON (RFC 8259, section 7).
+//! The escaped form of a text between the quotes of JSON (RFC 8259, section 7).
 
 ghost use Rattle.std.specs.Prelude.{◌≡◌, ◌≤◌, ◌<◌, ◌*◌, ◌^◌, [], ◌∷◌, ◌++◌, IfSome, IfNone, OnOk, length, take};
 ghost use Rattle.json.specs.Print.{escape, escape_byte};
@@ -6,7 +6,7 @@ ghost use Rattle.json.specs.Print.{escape, escape_byte};
 use crate::plain::is_plain;
 use std::alloc::AllocError;
 
-/// What stands for a byte, if it doesn't stand for itself.
+/// Returns the escape of a byte, or `None` if the byte is written unchanged.
 #[tactic(auto, unfolding(json::specs::Print::escape_byte))]
 fn escape_of(byte: u8) -> Option<&'static str>
     ensures some { IfSome result (λ text. text.now ≡ escape_byte byte) }
@@ -53,7 +53,7 @@ fn escape_of(byte: u8) -> Option<&'static str>
     Some(text)
 }
 
-/// How many bytes stand for a text.
+/// Returns the number of bytes in the escaped form of a text.
 pub fn escaped_len(text: &[u8]) -> u128
     ensures value { result ≡ length (escape text.now) }
     ensures limit { result < 6 * 2 ^ 63 }
@@ -64,7 +64,7 @@ pub fn escaped_len(text: &[u8]) -> u128
     sum_of_widths(text)
 }
 
-/// The same, byte by byte.
+/// Does the same as `escaped_len`, byte by byte.
 fn sum_of_widths(text: &[u8]) -> u128
     ensures value { result ≡ length (escape text.now) }
     ensures limit { result < 6 * 2 ^ 63 }
@@ -76,7 +76,7 @@ fn sum_of_widths(text: &[u8]) -> u128
     len
 }
 
-/// How many bytes stand for a byte.
+/// Returns the number of bytes in the escaped form of a byte.
 fn width(byte: u8) -> u128
     ensures value { result ≡ length (escape_byte byte) }
     ensures limit { result ≤ 6 }
@@ -87,7 +87,7 @@ fn width(byte: u8) -> u128
     }
 }
 
-/// How many bytes of a text stand for themselves, before the first that doesn't.
+/// Returns the number of bytes before the first one that needs an escape.
 fn plain_len(text: &[u8]) -> usize
     ensures bound { result ≤ length text.now }
     ensures plain { escape (take result text.now) ≡ take result text.now }
@@ -99,7 +99,7 @@ fn plain_len(text: &[u8]) -> usize
     count
 }
 
-/// Appends what stands for a text. Its one error is want of memory.
+/// Appends the escaped form of a text. Fails only if memory is exhausted.
 pub fn push_escaped(out: &mut Vec<u8>, text: &[u8]) -> Result<(), AllocError>
     ensures { OnOk result (out.new.items ≡ out.old.items ++ escape text.now) }
 {
@@ -112,7 +112,7 @@ pub fn push_escaped(out: &mut Vec<u8>, text: &[u8]) -> Result<(), AllocError>
     Ok(())
 }
 
-/// What stands for the first bytes of a text, and the text behind them.
+/// Returns the escaped form of the first bytes of a text, and the text after them.
 #[tactic(auto, using(crate::proofs::EscapedLemmas::plain_told))]
 pub(crate) fn first_run<'t>(text: &'t [u8]) -> (&'t [u8], &'t [u8])
     ensures joined { result.0.now ++ escape result.1.now ≡ escape text.now }

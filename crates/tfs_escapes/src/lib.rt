@@ -1,4 +1,5 @@
-//! Texts as they stand between the quotes of JSON (RFC 8259, section 7): how long they are, and how they are put into a vector.
+//! Texts escaped for the inside of a JSON string (RFC 8259, section 7): their length, and appending
+//! them to a vector.
 #![tactic(auto)]
 
 mod escaped;

@@ -1,5 +1,5 @@
-//! Whether a text stands for itself between the quotes of JSON (RFC 8259, section 7): it has no quote, no backslash and no control
-//! character.
+//! Detection of texts that need no escape between the quotes of JSON (RFC 8259, section 7): they
+//! have no quote, no backslash and no control character.
 
 ghost use Rattle.std.specs.Prelude.{◌≡◌, ◌+◌, ◌≤◌, length};
 ghost use Rattle.std.specs.Bool.{OnTrue};
@@ -8,10 +8,10 @@ ghost use Rattle.json.specs.Written.{PlainBetween};
 
 use std::simd::prelude::*;
 
-/// How many bytes are looked at together.
+/// The number of bytes that are compared in one step.
 const BLOCK: usize = 16;
 
-/// Whether a text stands for itself.
+/// Returns true if a text needs no escape.
 pub(crate) fn is_plain(text: &[u8]) -> bool
     ensures { OnTrue result (escape text.now ≡ text.now) }
 {
@@ -22,7 +22,7 @@ pub(crate) fn is_plain(text: &[u8]) -> bool
     }
 }
 
-/// The same, byte by byte.
+/// Does the same as `is_plain`, byte by byte.
 fn are_plain(text: &[u8]) -> bool
     ensures { OnTrue result (PlainBetween text.now 0 (length text.now)) }
 {
@@ -34,7 +34,8 @@ fn are_plain(text: &[u8]) -> bool
     true
 }
 
-/// The same, block by block. The last block begins where 16 bytes are left, so that some bytes may be looked at twice.
+/// Does the same as `is_plain`, block by block. The last block is the last 16 bytes of the text, so
+/// some bytes may be checked twice.
 fn blocks_are_plain(text: &[u8]) -> bool
     requires { 16 ≤ length text.now }
     ensures { OnTrue result (PlainBetween text.now 0 (length text.now)) }
@@ -50,7 +51,7 @@ fn blocks_are_plain(text: &[u8]) -> bool
     block_is_plain(text, last)
 }
 
-/// Whether none of the 16 bytes of a text from one on has another text that stands for it.
+/// Returns true if none of the 16 bytes from `at` on needs an escape.
 fn block_is_plain(text: &[u8], at: usize) -> bool
     requires { at + 16 ≤ length text.now }
     ensures { OnTrue result (PlainBetween text.now at (at + 16)) }

@@ -1,4 +1,4 @@
-//! Texts that are put into a vector as far as it has room.
+//! Appends texts to a vector up to a limit that its capacity covers.
 
 ghost use Rattle.std.specs.Prelude.{◌≡◌, ◌≢◌, ◌<◌, ◌-◌, [], ◌++◌, length, drop, vec_len};
 ghost use Rattle.json.specs.Print.{escape};
@@ -6,7 +6,7 @@ ghost use Rattle.tfs_escapes.specs.Room.{HasRoom};
 
 use crate::escaped::first_run;
 
-/// Puts bytes into a vector until it has so many, and gives those that are left.
+/// Appends bytes to a vector until it has `limit` bytes, and returns the remaining ones.
 pub fn tell<'t>(bytes: &'t [u8], limit: usize, out: &mut Vec<u8>) -> &'t [u8]
     requires { HasRoom out.old limit }
     ensures joined { out.new.items ++ result.now ≡ out.old.items ++ bytes.now }
@@ -16,13 +16,14 @@ pub fn tell<'t>(bytes: &'t [u8], limit: usize, out: &mut Vec<u8>) -> &'t [u8]
 {
     let room = limit - out.len();
     let (now, later) = bytes.split_at(bytes.len().min(room));
-    // The vector has the room, so that this doesn't fail.
+    // The vector has enough capacity, so this doesn't fail.
     let _ = out.extend_from_slice(now);
     later
 }
 
-/// Puts what stands for a text into a vector until it has so many bytes. Gives the bytes of an escape, or of the text, that are left
-/// to be told as they are, and the text behind them.
+/// Appends the escaped form of a text to a vector until it has `limit` bytes. Returns the remaining
+/// bytes of an escape or of unescaped text, which are to be appended unchanged, and the text after
+/// them.
 pub fn tell_escaped<'t>(text: &'t [u8], limit: usize, out: &mut Vec<u8>) -> (&'t [u8], &'t [u8])
     requires { HasRoom out.old limit }
     ensures joined { out.new.items ++ (result.0.now ++ escape result.1.now) ≡ out.old.items ++ escape text.now }
@@ -38,7 +39,8 @@ pub fn tell_escaped<'t>(text: &'t [u8], limit: usize, out: &mut Vec<u8>) -> (&'t
     (left, rest)
 }
 
-/// The same of the first bytes of a text that stand for themselves, or of the first byte that doesn't.
+/// Does the same as `tell_escaped` for the first bytes of a text that need no escape, or for a
+/// first byte that needs one.
 fn tell_run<'t>(text: &'t [u8], limit: usize, out: &mut Vec<u8>) -> (&'t [u8], &'t [u8])
     requires { HasRoom out.old limit }
     ensures joined { out.new.items ++ (result.0.now ++ escape result.1.now) ≡ out.old.items ++ escape text.now }

@@ -1,4 +1,4 @@
-//! Where the instances stand that a text may name.
+//! Lookup of the instances that a text may name.
 
 ghost use Rattle.std.specs.Prelude.{◌≡◌, ◌≤◌, ◌<◌, ◌^◌, IfOk, length, bit_and};
 ghost use Rattle.tfs_index.specs.Directory.{IsDirectory, AreBuckets, bucket_of};
@@ -8,8 +8,8 @@ use crate::links::Links;
 use std::alloc::{AllocError, Global};
 use tfs_state::{Doc, text_digest};
 
-/// A document's instances in buckets, by the digests of their addresses and by those of their configuration addresses. The
-/// mask has the bits that choose the bucket.
+/// A document's instances in buckets, by the digests of their addresses and by the digests of their
+/// configuration addresses. The mask selects the bits of a digest that choose the bucket.
 #[derive(Drop)]
 pub(crate) struct Directory {
     pub(crate) mask: u32,
@@ -18,7 +18,7 @@ pub(crate) struct Directory {
 }
 
 impl Directory {
-    /// The directory of a document, with about as many buckets as there are instances.
+    /// Creates the directory of a document, with about as many buckets as instances.
     pub(crate) fn new(alloc: Global, doc: &Doc) -> Result<Directory, AllocError>
         ensures { IfOk result (IsDirectory doc.now) }
     {
@@ -32,7 +32,7 @@ impl Directory {
         })
     }
 
-    /// The bucket of a text.
+    /// Returns the bucket of a text.
     pub(crate) fn bucket(&self, text: &str) -> u32
         ensures { result ≡ bucket_of self.now.mask text.now }
     {
@@ -40,14 +40,14 @@ impl Directory {
     }
 }
 
-/// The bits of a digest that the mask has.
+/// Returns the bits of a digest that the mask selects.
 fn masked(digest: u64, mask: u32) -> u32
     ensures { result ≡ bit_and digest mask }
 {
     (digest & u64::from(mask)) as u32
 }
 
-/// The buckets of the instances' addresses.
+/// Returns the buckets of the instances' addresses.
 fn address_buckets(alloc: Global, doc: &Doc, mask: u32) -> Result<Vec<u32>, AllocError>
     ensures len { IfOk result (λ numbers. length numbers.items ≡ length doc.now.instances) }
     ensures buckets { IfOk result (λ numbers. AreBuckets mask (address_of doc.now) numbers.items) }
@@ -59,7 +59,7 @@ fn address_buckets(alloc: Global, doc: &Doc, mask: u32) -> Result<Vec<u32>, Allo
     Ok(numbers)
 }
 
-/// The buckets of the instances' configuration addresses.
+/// Returns the buckets of the instances' configuration addresses.
 fn config_buckets(alloc: Global, doc: &Doc, mask: u32) -> Result<Vec<u32>, AllocError>
     ensures len { IfOk result (λ numbers. length numbers.items ≡ length doc.now.instances) }
     ensures buckets { IfOk result (λ numbers. AreBuckets mask (config_of doc.now) numbers.items) }

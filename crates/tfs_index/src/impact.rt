@@ -1,4 +1,4 @@
-//! The instances that those reach which the texts of a query name, as rows.
+//! The instances that are reached from the instances that a query's texts name, as rows.
 
 ghost use Rattle.std.specs.Prelude.{◌≡◌, ℕ, ◌<◌, ◌||◌, ◌&&◌, IfOk, length};
 ghost use Rattle.std.specs.FinSet as set;
@@ -14,7 +14,7 @@ use std::alloc::{AllocError, Global};
 use tfs_planes::{Plane, Row};
 use tfs_state::Doc;
 
-/// Adds to a row the instances that those of a bucket reach which a text names.
+/// Adds to a row the instances that are reached from the instances of a bucket that the text names.
 fn unite_bucket(doc: &Doc, plane: &Plane, links: &Links, bucket: u32, text: &str, row: &mut Row)
     requires plane { HasReached doc.now plane.now }
     requires links { length links.now ≡ length doc.now.instances }
@@ -32,8 +32,8 @@ fn unite_bucket(doc: &Doc, plane: &Plane, links: &Links, bucket: u32, text: &str
     }
 }
 
-/// Adds to a row the instances that those reach which a text names. Instances with one configuration address reach the same,
-/// so one of them is enough.
+/// Adds to a row the instances that are reached from the instances that the text names. Instances
+/// with the same configuration address reach the same instances, so one of them is enough.
 fn unite(doc: &Doc, index: &Index, text: &str, row: &mut Row)
     requires index { IsIndex doc.now index.now }
     requires size { row.old.size ≡ index.now.plane.size }
@@ -49,7 +49,8 @@ fn unite(doc: &Doc, index: &Index, text: &str, row: &mut Row)
     }
 }
 
-/// Keeps in a row the instances that those reach which a text names. The other row is of use while this is found.
+/// Keeps in a row only the instances that are reached from an instance that the text names. `other`
+/// is a working row and is overwritten.
 fn meet(doc: &Doc, index: &Index, text: &str, row: &mut Row, other: &mut Row)
     requires index { IsIndex doc.now index.now }
     requires size { row.old.size ≡ index.now.plane.size }
@@ -64,7 +65,7 @@ fn meet(doc: &Doc, index: &Index, text: &str, row: &mut Row, other: &mut Row)
     row.meet_with(other);
 }
 
-/// The instances that those reach which some of the texts names.
+/// Returns the instances that are reached from an instance that any of the texts names.
 pub(crate) fn any_row(
     alloc: Global,
     doc: &Doc,
@@ -83,7 +84,7 @@ pub(crate) fn any_row(
     Ok(row)
 }
 
-/// The instances for which each text names one that reaches them.
+/// Returns the instances that are reached, for each text, from an instance that it names.
 pub(crate) fn all_row(
     alloc: Global,
     doc: &Doc,

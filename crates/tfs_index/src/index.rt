@@ -12,7 +12,8 @@ use std::alloc::{AllocError, Global};
 use tfs_planes::Plane;
 use tfs_state::{Doc, Numbers};
 
-/// The plane relates each instance to those that it reaches; the directory finds the instances that a text names.
+/// The plane relates each instance to the instances that it reaches; the directory finds the
+/// instances that a text names.
 #[derive(Drop)]
 pub(crate) struct Index {
     pub(crate) plane: Plane,
@@ -20,7 +21,7 @@ pub(crate) struct Index {
 }
 
 impl Index {
-    /// The index of a document.
+    /// Builds the index of a document.
     pub(crate) fn new(alloc: Global, doc: &Doc) -> Result<Index, AllocError>
         ensures { IfOk result (IsIndex doc.now) }
     {
@@ -30,7 +31,7 @@ impl Index {
     }
 }
 
-/// The plane that relates each instance to those that it reaches.
+/// Returns the plane that relates each instance to the instances that it reaches.
 fn reach_plane(alloc: Global, doc: &Doc) -> Result<Plane, AllocError>
     ensures { IfOk result (HasReached doc.now) }
 {
@@ -40,7 +41,7 @@ fn reach_plane(alloc: Global, doc: &Doc) -> Result<Plane, AllocError>
     Ok(plane)
 }
 
-/// Relates each instance to those that depend on it.
+/// Relates each instance to the instances that depend on it.
 fn relate(alloc: Global, doc: &Doc, plane: &mut Plane) -> Result<(), AllocError>
     requires size { plane.old.size ≡ length doc.now.instances }
     requires empty { plane.old.pairs ≡ set.empty }
@@ -54,7 +55,7 @@ fn relate(alloc: Global, doc: &Doc, plane: &mut Plane) -> Result<(), AllocError>
     Ok(())
 }
 
-/// The numbers of the configuration addresses of so many instances.
+/// Returns the numbers of the configuration addresses of `len` instances.
 fn config_numbers(alloc: Global, numbers: &Numbers, len: usize) -> Result<Vec<u32>, AllocError>
     requires { len ≡ length numbers.now.configs }
     ensures { IfOk result (λ list. list.items ≡ numbers.now.configs) }
@@ -66,7 +67,7 @@ fn config_numbers(alloc: Global, numbers: &Numbers, len: usize) -> Result<Vec<u3
     Ok(list)
 }
 
-/// Relates the instances with these numbers to instance u.
+/// Relates the instances with these numbers to instance `u`.
 fn relate_all(plane: &mut Plane, links: &Links, numbers: &[u32], u: usize)
     requires size { plane.old.size ≡ length links.now }
     requires u { u < plane.old.size }
@@ -79,7 +80,7 @@ fn relate_all(plane: &mut Plane, links: &Links, numbers: &[u32], u: usize)
     }
 }
 
-/// Relates the instances with a number to instance u.
+/// Relates the instances with one number to instance `u`.
 fn relate_each(plane: &mut Plane, links: &Links, number: u32, u: usize)
     requires size { plane.old.size ≡ length links.now }
     requires u { u < plane.old.size }

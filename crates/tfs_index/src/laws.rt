@@ -1,4 +1,4 @@
-//! Laws of reach and impact, which hold whoever asks.
+//! Laws of reach and impact. They hold for any query.
 
 ghost use Rattle.std.specs.Prelude.{ℕ, ◌↔◌, List, Contains, IsTrue};
 ghost use Rattle.std.specs.List.Sorted.{IsStrictlyIncreasing};
@@ -6,7 +6,8 @@ ghost use Rattle.tfs_index.specs.Impact.{named_by, any_impact, all_impact, Names
 ghost use Rattle.tfs_index.specs.Reach.{reaches, Reaches};
 ghost use Rattle.tfs_state.specs.Document.{Document};
 
-/// What the definitions compute are facts of names and walks, and lists of impact rise.
+/// States that the computed definitions agree with the relations over names and walks, and that
+/// lists of impact are in ascending order.
 pub fn impact_follows_names_and_walks()
     ensures reach { (d : Document) (v u : ℕ) → IsTrue (reaches d v u) ↔ Reaches d v u }
     ensures named { (d : Document) (text : List ℕ) (v : ℕ)

@@ -1,5 +1,5 @@
-//! The impact index of state documents: which resource instances a change of an instance reaches, by walks of dependencies,
-//! and the answers to queries by address.
+//! The impact index of state documents: the resource instances that a change of an instance
+//! reaches, by walks of dependencies, and the answers to queries by address.
 #![tactic(auto)]
 
 mod directory;

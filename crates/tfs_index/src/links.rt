@@ -1,4 +1,4 @@
-//! Instances by numbers.
+//! Instances grouped by number.
 
 ghost use Rattle.std.specs.Prelude.{◌≡◌, ℕ, ◌<◌, ◌≤◌, ◌==◌, length, slice_get, slice_index, if◌then◌else◌, replicate, IfOk, OnOk, Some};
 ghost use Rattle.tfs_index.specs.Links.{IsBehindLast};
@@ -7,7 +7,8 @@ use std::alloc::{AllocError, Global};
 use std::marker::Model;
 use std::mem;
 
-/// The instances with each number, linked from the last to the first. A place is one more than an instance's number; 0 is none.
+/// The instances with each number, linked from the last to the first. A place is an instance's
+/// number plus 1, or 0 for no instance.
 #[derive(Drop)]
 pub(crate) struct Links {
     numbers: Vec<u32>,
@@ -27,7 +28,7 @@ impl Model for Links {
 }
 
 impl Links {
-    /// The links of instances with these numbers.
+    /// Creates the links of instances with these numbers.
     pub(crate) fn new(alloc: Global, numbers: Vec<u32>) -> Result<Links, AllocError>
         requires { length numbers.items ≤ 4096 }
         ensures { IfOk result (λ links. links ≡ numbers.items) }
@@ -45,14 +46,14 @@ impl Links {
         })
     }
 
-    /// The place of the last instance with a number.
+    /// Returns the place of the last instance with a number.
     pub(crate) fn last(&self, number: u32) -> usize
         ensures { IsBehindLast self.now number (length self.now) result }
     {
         self.lasts.get(number as usize).copied().unwrap_or(0) as usize
     }
 
-    /// The place of the instance before v that has its number.
+    /// Returns the place of the last instance before `v` that has the same number as `v`.
     pub(crate) fn before(&self, v: usize) -> usize
         requires { v < length self.now }
         ensures { (number : ℕ) → slice_get self.now v ≡ Some number
@@ -62,14 +63,15 @@ impl Links {
     }
 }
 
-/// So many zeros.
+/// Returns a list of `count` zeros.
 fn zeros(alloc: Global, count: usize) -> Result<Vec<u32>, AllocError>
     ensures { IfOk result (λ list. list.items ≡ replicate count 0) }
 {
     vec![in alloc; 0; count]
 }
 
-/// Puts a value at a place, and gives what was there. What lies past the end is 0.
+/// Replaces the value at an index and returns the previous one. Values past the end of the list
+/// count as 0.
 fn exchange(list: &mut Vec<u32>, place: u32, value: u32) -> Result<u32, AllocError>
     ensures was { IfOk result (λ was. was ≡ slice_index list.old.items place) }
     ensures now { OnOk result ((k : ℕ) → slice_index list.new.items k

@@ -1,4 +1,4 @@
-//! The addresses of instances as they stand in a list of JSON texts.
+//! The addresses of instances as elements of a list of JSON texts.
 
 ghost use Rattle.std.specs.Prelude.{◌≡◌, ◌≤◌, ◌<◌, ◌+◌, ◌-◌, ◌^◌, IfOk, IfSome, OnOk, length};
 ghost use Rattle.tfs_state.specs.Document.{Document};
@@ -8,7 +8,8 @@ use std::alloc::{AllocError, Global};
 use tfs_escapes::{escaped_len, push_escaped};
 use tfs_state::Doc;
 
-/// The texts of a document's first instances one behind the other, and where each ends.
+/// The JSON texts of a document's first instances, concatenated, and the position at which each
+/// ends.
 #[derive(Drop)]
 pub(crate) struct Listing {
     text: Vec<u8>,
@@ -16,7 +17,7 @@ pub(crate) struct Listing {
 }
 
 impl Listing {
-    /// A listing of no instance, which takes no memory.
+    /// Creates a listing without instances, which takes no memory.
     pub(crate) fn empty(alloc: Global) -> Listing
         ensures { (d : Document) → IsListing d result }
     {
@@ -26,7 +27,8 @@ impl Listing {
         }
     }
 
-    /// The listing of a document: of as many instances as have texts of no more bytes than the document.
+    /// Creates the listing of a document. It covers as many of the first instances as have texts
+    /// that together are at most as long as the document.
     pub(crate) fn new(alloc: Global, doc: &Doc) -> Result<Listing, AllocError>
         ensures { IfOk result (IsListing doc.now) }
     {
@@ -41,7 +43,7 @@ impl Listing {
         Ok(listing)
     }
 
-    /// Adds the text of the next instance.
+    /// Appends the text of the next instance.
     fn add(&mut self, doc: &Doc) -> Result<(), AllocError>
         requires listing { IsListing doc.now self.old }
         requires within { length self.old.ends.items < length doc.now.instances }
@@ -56,7 +58,7 @@ impl Listing {
         Ok(())
     }
 
-    /// The texts of the instances from one up to another, if they are kept.
+    /// Returns the texts of the instances from `first` up to but excluding `end`, if they are kept.
     pub(crate) fn between(&self, first: usize, end: usize) -> Option<&[u8]>
         ensures text { IfSome result (λ text. (d : Document) → IsListing d self.now
             → text.now ≡ addresses_from d first (end - first)) }
@@ -70,7 +72,7 @@ impl Listing {
             .get(self.end_of(first)..self.end_of(end))
     }
 
-    /// Where the texts of so many first instances end.
+    /// Returns the position at which the texts of the first `count` instances end.
     fn end_of(&self, count: usize) -> usize
         requires { count ≤ length self.now.ends.items }
         ensures { (d : Document) → IsListing d self.now → result ≡ length (addresses_from d 0 count) }
@@ -82,7 +84,8 @@ impl Listing {
     }
 }
 
-/// How many instances have texts of no more bytes than the document, and the bytes of these texts.
+/// Returns how many of the first instances have texts that together are at most as long as the
+/// document, and the length of these texts in bytes.
 fn room_for(doc: &Doc) -> (usize, usize)
     ensures count { result.0 ≤ length doc.now.instances }
     ensures bytes { result.1 ≤ length doc.now.bytes }
@@ -101,7 +104,7 @@ fn room_for(doc: &Doc) -> (usize, usize)
     (count, bytes as usize)
 }
 
-/// How many bytes the text of an instance has.
+/// Returns the length of an instance's text in bytes.
 fn text_len(doc: &Doc, number: usize) -> u128
     requires { number < length doc.now.instances }
     ensures { result < 2 ^ 67 }

@@ -1,4 +1,4 @@
-//! Which instances the texts of a query name.
+//! The instances that the texts of a query name.
 
 ghost use Rattle.std.specs.Prelude.{◌≡◌, ℕ, ◌<◌, true, false, map, length, position, IfNone, IfSome, Some};
 ghost use Rattle.tfs_index.specs.Impact as impact;
@@ -11,10 +11,10 @@ use crate::index::Index;
 use crate::links::Links;
 use tfs_state::Doc;
 
-/// The most texts that a query may have.
+/// The maximum number of texts in a query.
 pub const MAX_TEXTS: usize = 64;
 
-/// Whether a text is the address of an instance, or its configuration address.
+/// Returns true if a text is the address or the configuration address of instance `v`.
 pub(crate) fn names(doc: &Doc, text: &str, v: usize) -> bool
     requires { v < length doc.now.instances }
     ensures { result ≡ impact.names doc.now text.now v }
@@ -22,7 +22,7 @@ pub(crate) fn names(doc: &Doc, text: &str, v: usize) -> bool
     doc.address(v).is(text) || doc.config(v) == text
 }
 
-/// An instance of a bucket that a text names.
+/// Returns an instance of a bucket that the text names, if there is one.
 fn find(doc: &Doc, links: &Links, bucket: u32, text: &str) -> Option<usize>
     requires { length links.now ≡ length doc.now.instances }
     ensures within { IfSome result (λ v. v < length doc.now.instances) }
@@ -40,7 +40,7 @@ fn find(doc: &Doc, links: &Links, bucket: u32, text: &str) -> Option<usize>
     None
 }
 
-/// An instance of a bucket whose configuration address is a text.
+/// Returns an instance of a bucket whose configuration address is the text, if there is one.
 pub(crate) fn find_config(doc: &Doc, links: &Links, bucket: u32, text: &str) -> Option<usize>
     requires { length links.now ≡ length doc.now.instances }
     ensures within { IfSome result (λ v. v < length doc.now.instances) }
@@ -58,7 +58,7 @@ pub(crate) fn find_config(doc: &Doc, links: &Links, bucket: u32, text: &str) -> 
     None
 }
 
-/// Whether a text names nothing.
+/// Returns true if a text names no instance.
 fn is_unknown(doc: &Doc, index: &Option<Index>, text: &str) -> bool
     requires { HasIndex doc.now index.now }
     ensures { result ≡ impact.is_unknown doc.now text.now }
@@ -73,7 +73,7 @@ fn is_unknown(doc: &Doc, index: &Option<Index>, text: &str) -> bool
     find(doc, &index.directory.configs, bucket, text).is_none()
 }
 
-/// The first fault of a query's texts.
+/// Returns the first fault of a query's texts, if there is one.
 pub(crate) fn first_fault(doc: &Doc, index: &Option<Index>, texts: &[&str]) -> Option<ImpactFault>
     requires { HasIndex doc.now index.now }
     ensures { result ≡ impact.query_fault doc.now (map (λ t. t.now) texts.now) }
@@ -90,7 +90,7 @@ pub(crate) fn first_fault(doc: &Doc, index: &Option<Index>, texts: &[&str]) -> O
     }
 }
 
-/// The place of the first text that names nothing.
+/// Returns the index of the first text that names no instance.
 fn first_unknown(doc: &Doc, index: &Option<Index>, texts: &[&str]) -> Option<usize>
     requires { HasIndex doc.now index.now }
     ensures { result ≡ position (λ t. impact.is_unknown doc.now t.now) texts.now }

@@ -17,8 +17,9 @@ use std::marker::Model;
 use std::sync::Arc;
 use tfs_state::Doc;
 
-/// A state document with its index: what each of its instances reaches, and where those stand that a text names. Beside it stand
-/// the addresses as JSON texts, as far as they have no more bytes than the document.
+/// A state document with its index: what each of its instances reaches, and a lookup of the
+/// instances that a text names. It also keeps the addresses of the first instances as JSON texts,
+/// as many as together are at most as long as the document.
 #[derive(Drop)]
 pub struct Version {
     doc: Arc<Doc>,
@@ -41,7 +42,8 @@ impl Model for Version {
 }
 
 impl Version {
-    /// The version of a document. Its one error is want of memory, and a document without instances takes none.
+    /// Builds the version of a document. Fails only if memory is exhausted; a document without
+    /// instances needs no memory.
     pub fn build(alloc: Global, doc: Arc<Doc>) -> Result<Version, AllocError>
         ensures ok { IfOk result (λ version. version ≡ arc_value doc) }
         ensures err { OnErr result (0 < length (arc_value doc).instances) }
@@ -62,15 +64,17 @@ impl Version {
         })
     }
 
-    /// The document.
+    /// Returns the document.
     pub fn doc(&self) -> &Arc<Doc>
         ensures value { arc_value result.now ≡ self.now }
     {
         &self.doc
     }
 
-    /// The addresses of the instances from one up to another, as they stand in a list of JSON texts (RFC 8259, sections 5 and 7): before
-    /// each the quote of the one before it, a comma and its own quote. Nothing where they aren't kept.
+    /// Returns the addresses of the instances from `first` up to but excluding `end`, as elements
+    /// of a list of JSON texts (RFC 8259, sections 5 and 7). Each is preceded by the closing quote
+    /// of the previous address, a comma and its own opening quote. Returns `None` if they aren't
+    /// kept.
     pub fn listed(&self, first: usize, end: usize) -> Option<&[u8]>
         ensures text { IfSome result (λ text. text.now ≡ addresses_from self.now first (end - first)) }
         ensures within { IfSome result (λ text. (first ≤ end) × (end ≤ length self.now.instances)) }
@@ -78,7 +82,8 @@ impl Version {
         self.listing.between(first, end)
     }
 
-    /// Whether a change of instance v reaches instance u: a walk of one or more dependencies leads from u to v.
+    /// Returns true if a change of instance `v` reaches instance `u`: a walk of one or more
+    /// dependencies leads from `u` to `v`.
     pub fn reaches(&self, v: usize, u: usize) -> bool
         requires v { v < length self.now.instances }
         requires u { u < length self.now.instances }
@@ -90,8 +95,9 @@ impl Version {
         }
     }
 
-    /// The instances that an instance reaches which some of the texts names, rising. A text names the instances whose address
-    /// or configuration address it is. Want of memory comes after the faults of the texts.
+    /// Returns the instances that are reached from an instance that any of the texts names, in
+    /// ascending order. A text names the instances that have it as their address or configuration
+    /// address. Errors of the texts take precedence over `NoMemory`.
     pub fn any(&self, alloc: Global, texts: &[&str]) -> Result<Vec<usize>, ImpactFault>
         ensures ok { IfOk result (λ numbers. numbers.items
             ≡ any_impact self.now (map (λ t. t.now) texts.now)) }
@@ -112,7 +118,8 @@ impl Version {
         Ok(row.members(alloc)?)
     }
 
-    /// The instances for which each text names one that reaches them, rising. Texts and faults are as those of `any`.
+    /// Returns the instances that are reached, for each text, from an instance that it names, in
+    /// ascending order. Texts and errors are the same as for `any`.
     pub fn all(&self, alloc: Global, texts: &[&str]) -> Result<Vec<usize>, ImpactFault>
         ensures ok { IfOk result (λ numbers. numbers.items
             ≡ all_impact self.now (map (λ t. t.now) texts.now)) }

@@ -1,5 +1,6 @@
--- What is kept of a JSON value: of objects the members of some names, in the order of the text. What JSON is, how deep it may
--- nest and which numbers are in range is `serde_json`'s answer.
+-- The kept part of a JSON value: of each object the members with certain names, in the order of the
+-- text. `serde_json` defines what JSON is, how deep it may be nested, and which numbers are in
+-- range.
 use Rattle.std.specs.Prelude.{◌≡◌, ℕ, List, length, codes, Bool, true, false, ◌||◌, Option, Some, option_map, option_and_then}
 use Rattle.std.specs.Str.{bytes_eq}
 use Rattle.json.specs.Token.{Token}
@@ -17,12 +18,12 @@ is_wanted name =
     || bytes_eq name (codes "index_key") || bytes_eq name (codes "deposed") || bytes_eq name (codes "dependencies")
     || bytes_eq name (codes "ID")
 
--- The members with one more in front, if it is kept.
+-- The members with another one in front, if it is kept.
 abbrev pub with_member : Bool → List ℕ → Json → Members → Members
 with_member true name j ms = member name j ms
 with_member false name j ms = ms
 
--- What is kept of a value, where all its numbers are in range.
+-- The kept part of a value, if all its numbers are in range.
 abbrev mutual
   pub kept : Json → Option Json
   kept null = Some null
@@ -40,27 +41,27 @@ abbrev mutual
   kept_members no_members = Some no_members
   kept_members (member k j ms) = option_and_then (λ d. option_map (with_member (is_wanted k) k d) (kept_members ms)) (kept j)
 
--- What is kept of a text.
+-- The kept part of a text.
 abbrev pub kept_text : List ℕ → Option Json
 kept_text text = option_and_then kept (option_and_then (λ p. if_last p.0 p.1) (value max_depth (tokens text)))
 
--- The tokens that are left behind a value, where its numbers are in range.
+-- The tokens that remain after a value, if its numbers are in range.
 abbrev pub tokens_left : {A : Type 0} → Option (A × List Token) → Option (List Token)
 tokens_left r = option_map (λ p. p.1) r
 
--- The tokens behind a value.
+-- The tokens after a value.
 abbrev pub passed_value : ℕ → List Token → Option (List Token)
 passed_value depth ts = tokens_left (converted kept (value depth ts))
 
--- The tokens behind the rest of a list.
+-- The tokens after the rest of a list.
 abbrev pub passed_items : ℕ → List Token → Option (List Token)
 passed_items depth ts = tokens_left (converted kept_items (items (value depth) (length ts) ts))
 
--- The tokens behind the rest of an object.
+-- The tokens after the rest of an object.
 abbrev pub passed_members : ℕ → List Token → Option (List Token)
 passed_members depth ts = tokens_left (converted kept_members (members (value depth) (length ts) ts))
 
--- The bytes spell a value, and this is what is kept of it.
+-- The bytes are the JSON text of a value whose kept part is `tree`.
 pub record SpellsKept (bytes : List ℕ) (tree : Json) : Type 0 where
   pub whole : Json
   pub spelled : json_value bytes ≡ of_json whole

@@ -1,13 +1,14 @@
-//! The faults of JSON texts.
+//! The errors of reading JSON texts.
 
 use json::Invalid;
 use std::alloc::AllocError;
 use thiserror::Error;
 
-/// Why bytes are not read as a JSON value.
+/// The reason why bytes can't be read as a JSON value.
 #[derive(Clone, Copy, Debug, PartialEq, Eq, Error)]
 pub enum JsonFault {
-    /// The bytes are no JSON text (RFC 8259), or nest deeper than 127.
+    /// The bytes aren't a JSON text (RFC 8259), are nested deeper than 127, or have a number
+    /// outside the range of `serde_json`'s numbers.
     #[error("the bytes are no JSON text")]
     NotJson,
     /// A request for memory was refused.

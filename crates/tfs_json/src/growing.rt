@@ -1,11 +1,12 @@
-//! Lists that grow as they are read.
+//! Lists that grow while they are read.
 
 ghost use Rattle.std.specs.Prelude.{◌≡◌, ◌≢◌, ◌<◌, ◌≤◌, [], ◌∷◌, ◌++◌, Err, OnOk, vec_len, vec_capacity};
 
 use crate::fault::JsonFault;
 use std::alloc::Allocator;
 
-/// Puts an element last, with no call where there is room. Where there is none, the list grows by half and by `least`.
+/// Appends an element. If the list is full, it first grows by half its length and `least`;
+/// otherwise no function is called.
 #[inline(always)]
 pub(crate) fn push<T: Drop, A: Allocator>(
     list: &mut Vec<T, A>,
@@ -23,8 +24,9 @@ pub(crate) fn push<T: Drop, A: Allocator>(
     Ok(())
 }
 
-/// Makes room for some elements. It is no more than half of what a list has already: lists of one element, each with room for
-/// four, would let a text of brackets take seventy times its bytes.
+/// Reserves room for `least` elements and for half as many as the list has. More would cost too
+/// much memory: if lists of one element had room for four, a text of brackets would take seventy
+/// times its size.
 #[cold]
 #[inline(never)]
 fn make_room<T, A: Allocator>(list: &mut Vec<T, A>, least: usize) -> Result<(), JsonFault>

@@ -1,4 +1,4 @@
-//! From bytes to the tree of what is kept.
+//! Reads bytes into the tree of kept values.
 
 ghost use Rattle.std.specs.Prelude.{◌≡◌, ◌<◌, length, Some, None, Err, IfOk, IfErr, OnOk, MatchBool};
 ghost use Rattle.std.specs.Str.{IsUtf8};
@@ -18,11 +18,12 @@ use crate::wanted::is_wanted;
 use json::{Reader, Scratch, Token, Value};
 use std::alloc::Allocator;
 
-/// How deep lists and objects may nest.
+/// The maximum nesting depth of lists and objects.
 const MAX_DEPTH: usize = 127;
 
-/// What is kept of the value that the bytes spell. They spell none if the fault is `NotJson`; if it is `NoMemory` that isn't known. Bytes
-/// that aren't UTF-8 are `NotJson`: no memory is requested for them.
+/// Reads the kept part of the JSON value in `bytes`. `NotJson` means that the bytes aren't a JSON
+/// value. `NoMemory` means that it isn't known whether they are one. Bytes that aren't UTF-8 give
+/// `NotJson`, because no memory is requested for them.
 pub fn read_kept<'t, A: Allocator + Copy, S: Allocator>(
     alloc: A,
     bytes: &'t [u8],
@@ -39,7 +40,7 @@ pub fn read_kept<'t, A: Allocator + Copy, S: Allocator>(
     }
 }
 
-/// What is kept of a text.
+/// Reads the kept part of a text.
 fn read_text<'t, A: Allocator + Copy, S: Allocator>(
     alloc: A,
     text: &'t str,
@@ -137,7 +138,7 @@ fn read_members<'t, A: Allocator + Copy>(
     Ok(found)
 }
 
-/// Reads the member of a name, and puts it last where that name is kept; else it is passed over.
+/// Reads the member `name`, and appends it if that name is kept; otherwise skips it.
 #[cycle(read)]
 #[inline(always)]
 fn take_member<'t, A: Allocator + Copy>(

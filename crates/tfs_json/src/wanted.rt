@@ -3,7 +3,7 @@
 ghost use Rattle.std.specs.Prelude.{◌≡◌};
 ghost use Rattle.tfs_json.specs.Kept.{is_wanted};
 
-/// Whether a member of this name is read anywhere.
+/// Returns true if any reader uses a member of this name.
 #[inline(always)]
 pub(crate) fn is_wanted(name: &str) -> bool
     ensures { result ≡ is_wanted name.now }

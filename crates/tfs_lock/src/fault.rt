@@ -1,21 +1,23 @@
-//! The faults of lock texts.
+//! The errors of reading lock texts.
 
 use thiserror::Error;
 
-/// Why bytes are not read as lock information. The variants stand in the order in which faults are looked for, but for
-/// [`LockFault::TooLong`], which is looked for first and again last.
+/// The reason why bytes aren't read as lock information. The variants are listed in the order of
+/// the checks, except [`LockFault::TooLong`], which is checked first for the bytes and last for the
+/// identifier.
 #[derive(Clone, Copy, Debug, PartialEq, Eq, Error)]
 pub enum LockFault {
-    /// The bytes are no JSON text (RFC 8259), or nest deeper than 127.
+    /// The bytes aren't a JSON text (RFC 8259), are nested deeper than 127, or have a number
+    /// outside the range of `serde_json`'s numbers.
     #[error("the lock information is no JSON text")]
     NotJson,
-    /// The top is no object.
+    /// The value isn't an object.
     #[error("the lock information is no object")]
     NotObject,
-    /// `ID` is absent, isn't a text, or is the empty one.
+    /// `ID` is absent, isn't a text, or is empty.
     #[error("the lock information's ID is absent, isn't a text, or is empty")]
     NoId,
-    /// There are more than 65,536 bytes, or more than 256 bytes of identifier.
+    /// There are more than 65,536 bytes, or the identifier has more than 256 bytes.
     #[error("the lock information has over 65,536 bytes, or its ID over 256")]
     TooLong,
     /// A request for memory was refused.

@@ -7,10 +7,11 @@ ghost use Rattle.tfs_lock.specs.Id.{IsIdText};
 use std::alloc::{AllocError, Global};
 use std::marker::Model;
 
-/// The most bytes that an identifier may have.
+/// The maximum number of bytes in an identifier.
 pub const MAX_ID_BYTES: usize = 256;
 
-/// The identifier of a lock: a text of 1 to 256 bytes of UTF-8, any characters. Identifiers that differ in case differ.
+/// The identifier of a lock: a text of 1 to 256 bytes of UTF-8, with any characters. Identifiers
+/// are case-sensitive.
 #[derive(Debug, Drop)]
 pub struct Id {
     text: String,
@@ -28,7 +29,7 @@ impl Model for Id {
 }
 
 impl Id {
-    /// Takes a text that may be an identifier.
+    /// Creates an identifier from a text, if the text is one.
     pub fn read(text: String) -> Option<Id>
         ensures valid { IsSome result ↔ IsIdText (string_bytes text) }
         ensures value { IfSome result (λ id. id ≡ string_bytes text) }
@@ -40,7 +41,7 @@ impl Id {
         }
     }
 
-    /// The identifier as it came.
+    /// Returns the unchanged text of the identifier.
     pub fn text(&self) -> &str
         ensures value { result.now ≡ self.now }
         ensures valid { IsIdText self.now }
@@ -49,7 +50,7 @@ impl Id {
         self.text.as_str()
     }
 
-    /// An equal identifier, or an error where a request for memory is refused.
+    /// Returns a copy of the identifier. Fails only if a request for memory is refused.
     pub fn copy(&self) -> Result<Id, AllocError>
         ensures value { IfOk result (λ id. id ≡ self.now) }
     {
@@ -58,7 +59,7 @@ impl Id {
         })
     }
 
-    /// The identifier that a text is.
+    /// Creates an identifier from a valid text.
     pub(crate) fn copy_of(alloc: Global, text: &str) -> Result<Id, AllocError>
         requires { IsIdText text.now }
         ensures value { IfOk result (λ id. id ≡ text.now) }

@@ -1,4 +1,4 @@
-//! Laws of lock texts, which hold whoever reads them.
+//! Laws of lock texts. They hold for any reader.
 
 ghost use Rattle.std.specs.Prelude.{◌≡◌, ◌≢◌, ℕ, List, Some, None};
 ghost use Rattle.tfs_lock.specs.LockInfo.{LockInformation};
@@ -6,7 +6,8 @@ ghost use Rattle.tfs_lock.specs.LockText.{SpellsLockInfo, first_lock_fault, lock
 ghost use Rattle.tfs_lock.specs.declared.fault.LockFault.{LockFault};
 ghost use Rattle.tfs_lock.specs.declared.fault.LockFault.TheVariants.{NoMemory};
 
-/// Bytes spell one piece of lock information, or have a first fault, and never both. No text has want of memory as its fault.
+/// States that bytes either are the text of exactly one piece of lock information or have a first
+/// fault, never both, and that `NoMemory` isn't the first fault of any text.
 pub fn bytes_spell_lock_info_or_have_a_fault()
     ensures spelled { (bytes : List ℕ) (info : LockInformation) → SpellsLockInfo bytes info
         → first_lock_fault bytes ≡ None }

@@ -1,5 +1,5 @@
-//! Reads the lock information of Terraform's http backend, and keeps its text as it came.
-//! Of what it says only the identifier is looked at.
+//! Reads the lock information of Terraform's http backend, and keeps its unchanged text. Only the
+//! identifier is read from it.
 #![tactic(auto)]
 
 mod fault;

@@ -12,11 +12,12 @@ use std::alloc::Global;
 use std::marker::Model;
 use tfs_json::{JsonFault, Tree, is_object, read_kept, text_at};
 
-/// The most bytes that a lock text may have: 64 KiB.
+/// The maximum number of bytes in a lock text: 64 KiB.
 pub const MAX_LOCK_BYTES: usize = 65_536;
 
-/// What the client that holds a lock says of it, with its text as it came. Terraform writes its members `ID`,
-/// `Operation`, `Info`, `Who`, `Version`, `Created` and `Path`; all but `ID` are kept without being looked at.
+/// The information about a lock that its holder sent, with its unchanged text. Terraform writes the
+/// members `ID`, `Operation`, `Info`, `Who`, `Version`, `Created` and `Path`; all except `ID` are
+/// kept without being interpreted.
 #[derive(Drop)]
 pub struct LockInfo {
     bytes: Vec<u8>,
@@ -36,8 +37,11 @@ impl Model for LockInfo {
 }
 
 impl LockInfo {
-    /// Reads a lock text. A refusal is the first fault of the text: more than 65,536 bytes, then those in the order of
-    /// [`LockFault`]; but for `NoMemory`, which comes wherever a request for memory is refused. None is made for a longer text.
+    /// Reads a lock text.
+    ///
+    /// An error is the first fault of the text: more than 65,536 bytes, then the faults in the
+    /// order of [`LockFault`]. The exception is `NoMemory`, which means that a request for memory
+    /// was refused. No memory is requested for a text of more than 65,536 bytes.
     pub fn read(alloc: Global, bytes: Vec<u8>) -> Result<LockInfo, LockFault>
         ensures ok { IfOk result (SpellsLockInfo bytes.items) }
         ensures err { IfErr result (λ fault. fault ≢ NoMemory
@@ -51,7 +55,7 @@ impl LockInfo {
         Ok(LockInfo { bytes, id })
     }
 
-    /// The text, byte for byte as it came.
+    /// Returns the text, byte for byte as it was read.
     pub fn bytes(&self) -> &[u8]
         ensures value { result.now ≡ self.now.bytes }
         ensures spelled { SpellsLockInfo self.now.bytes self.now }
@@ -59,7 +63,7 @@ impl LockInfo {
         self.bytes.as_slice()
     }
 
-    /// The identifier in the text, escapes decoded.
+    /// Returns the identifier in the text, with its escapes decoded.
     pub fn id(&self) -> &Id
         ensures value { result.now ≡ self.now.id }
     {
@@ -67,7 +71,7 @@ impl LockInfo {
     }
 }
 
-/// The identifier that a text gives.
+/// Reads the identifier in a text.
 fn read_text(alloc: Global, bytes: &[u8]) -> Result<Id, LockFault>
     ensures ok { IfOk result (SpellsId bytes.now) }
     ensures err { IfErr result (λ fault. fault ≢ NoMemory
@@ -81,7 +85,7 @@ fn read_text(alloc: Global, bytes: &[u8]) -> Result<Id, LockFault>
     }
 }
 
-/// The identifier that a value gives.
+/// Reads the identifier in a value.
 fn read_id(alloc: Global, value: &Tree<'_>) -> Result<Id, LockFault>
     ensures ok { IfOk result (GivesId (tree_view value.now)) }
     ensures err { IfErr result (λ fault. fault ≢ NoMemory

@@ -8,7 +8,7 @@ ghost use Rattle.tfs_planes.specs.Row.{bit_at_word, members_of, row_length};
 use crate::kernels::{LANES, count_words, covers_lanes};
 use std::alloc::{AllocError, Allocator};
 
-/// How many words a row of `size` bits takes.
+/// Returns the number of words in a row of `size` bits.
 #[inline(always)]
 pub(crate) fn row_length(size: usize) -> usize
     requires { size ≤ 4096 }
@@ -17,7 +17,7 @@ pub(crate) fn row_length(size: usize) -> usize
     size.div_ceil(512) * 8
 }
 
-/// Whether bit `i` is set.
+/// Returns true if bit `i` is set.
 #[inline(always)]
 pub(crate) fn bit(words: &[u64], i: usize) -> bool
     requires { i < 64 * length words.now }
@@ -26,7 +26,7 @@ pub(crate) fn bit(words: &[u64], i: usize) -> bool
     words[i / 64] >> (i % 64) & 1 == 1
 }
 
-/// Sets bit `i`, and leaves each other bit as it was.
+/// Sets bit `i` and leaves every other bit unchanged.
 #[inline(always)]
 pub(crate) fn set_bit(words: &mut [u64], i: usize)
     requires { i < 64 * length words.old }
@@ -35,8 +35,8 @@ pub(crate) fn set_bit(words: &mut [u64], i: usize)
     words[i / 64] |= 1 << (i % 64);
 }
 
-/// Makes a list equal to another with bit `i` set. Each word is written by itself, so that a look at it right afterwards
-/// needn't wait for the store.
+/// Copies `others` into `words` and sets bit `i`. Each word is written separately, so that a read
+/// right after the call doesn't wait for the store.
 #[inline(always)]
 fn copy_few_with_bit(words: &mut [u64], others: &[u64], i: usize)
     requires lengths { length words.old ≡ length others.now }
@@ -53,7 +53,7 @@ fn copy_few_with_bit(words: &mut [u64], others: &[u64], i: usize)
     }
 }
 
-/// Makes a list equal to another with bit `i` set.
+/// Copies `others` into `words` and sets bit `i`.
 #[inline(always)]
 pub(crate) fn copy_with_bit(words: &mut [u64], others: &[u64], i: usize)
     requires lengths { length words.old ≡ length others.now }
@@ -68,7 +68,7 @@ pub(crate) fn copy_with_bit(words: &mut [u64], others: &[u64], i: usize)
     }
 }
 
-/// Whether all bits of the first `count` words are set.
+/// Returns true only if all bits of the first `count` words are set.
 pub(crate) fn are_full(words: &[u64], count: usize) -> bool
     requires { count ≤ length words.now }
     ensures { IsTrue result → (i : ℕ) → i < 64 * count → IsTrue (bit_at_word words.now i) }
@@ -89,7 +89,7 @@ pub(crate) fn clear_bit(words: &mut [u64], i: usize)
     words[i / 64] &= !(1 << (i % 64));
 }
 
-/// The highest bit of a word that isn't 0.
+/// Returns the highest set bit of a word that isn't 0.
 #[inline(always)]
 pub(crate) fn highest_bit(word: u64) -> usize
     requires { 0 < word }
@@ -99,7 +99,8 @@ pub(crate) fn highest_bit(word: u64) -> usize
     63 - word.leading_zeros() as usize
 }
 
-/// A number from the words on from `from` that is in the words and not in the others.
+/// Returns a number whose bit is set in `words` and not in `others`. The search starts at word
+/// `from`.
 #[inline(always)]
 fn missing_singly(words: &[u64], others: &[u64], from: usize) -> Option<usize>
     requires lengths { length words.now ≤ length others.now }
@@ -117,7 +118,7 @@ fn missing_singly(words: &[u64], others: &[u64], from: usize) -> Option<usize>
     None
 }
 
-/// The same, with a look at a lane block at a time.
+/// Does the same as `missing_singly`, and compares a lane block per step.
 #[inline(always)]
 pub(crate) fn missing(words: &[u64], others: &[u64], from: usize) -> Option<usize>
     requires lengths { length words.now ≤ length others.now }
@@ -134,7 +135,8 @@ pub(crate) fn missing(words: &[u64], others: &[u64], from: usize) -> Option<usiz
     None
 }
 
-/// The bits of one word that stand for numbers from `from` on. The word isn't before that of `from`.
+/// Returns the bits of word `at` that represent numbers from `from` on. Word `at` isn't before the
+/// word of `from`.
 #[inline(always)]
 fn bits_from(words: &[u64], from: usize, at: usize) -> u64
     requires word { at < length words.now }
@@ -149,7 +151,7 @@ fn bits_from(words: &[u64], from: usize, at: usize) -> u64
     }
 }
 
-/// The first number from `from` on whose bit is set.
+/// Returns the first number from `from` on whose bit is set.
 pub(crate) fn next_bit(words: &[u64], from: usize) -> Option<usize>
     requires { length words.now ≤ 64 }
     ensures member { IfSome result (λ i. bit_at_word words.now i ≡ true) }
@@ -167,7 +169,7 @@ pub(crate) fn next_bit(words: &[u64], from: usize) -> Option<usize>
     None
 }
 
-/// How many bits are set.
+/// Returns the number of set bits.
 pub(crate) fn count_bits(words: &[u64]) -> u64
     requires { length words.now < 2 ^ 58 }
     ensures { result ≡ count_by (bit_at_word words.now) (range_with_len 0 (64 * length words.now)) }
@@ -175,14 +177,14 @@ pub(crate) fn count_bits(words: &[u64]) -> u64
     count_words(words)
 }
 
-/// So many words, each of them 0.
+/// Returns a list of `count` words that are all 0.
 pub(crate) fn zeros<A: Allocator>(alloc: A, count: usize) -> Result<Vec<u64, A>, AllocError>
     ensures { IfOk result (λ words. words.items ≡ replicate count 0) }
 {
     vec![in alloc; 0; count]
 }
 
-/// The numbers below `size` whose bit is set, rising.
+/// Returns the numbers below `size` whose bit is set, in ascending order.
 pub(crate) fn members_of<A: Allocator>(
     alloc: A,
     words: &[u64],

@@ -1,10 +1,10 @@
-//! Cells of rows that lie one after the other in a list of words.
+//! Cells of rows that are stored consecutively in a list of words.
 ghost use Rattle.std.specs.Prelude.{◌≡◌, ℕ, ◌+◌, ◌*◌, ◌<◌, ◌≤◌, ◌||◌, ◌&&◌, ◌==◌, length};
 ghost use Rattle.tfs_planes.specs.Plane.{row_words, cell_at};
 
 use crate::bits::{bit, set_bit};
 
-/// Row `i`, where each row has `stride` words.
+/// Returns row `i` of rows that have `stride` words each.
 #[inline(always)]
 pub(crate) fn row_at(words: &[u64], stride: usize, i: usize) -> &[u64]
     requires { i * stride + stride ≤ length words.now }
@@ -14,7 +14,7 @@ pub(crate) fn row_at(words: &[u64], stride: usize, i: usize) -> &[u64]
     &words[i * stride..i * stride + stride]
 }
 
-/// Whether bit `j` of row `i` is set.
+/// Returns true if bit `j` of row `i` is set.
 #[inline(always)]
 pub(crate) fn cell(words: &[u64], stride: usize, i: usize, j: usize) -> bool
     requires row { i * stride + stride ≤ length words.now }
@@ -24,7 +24,7 @@ pub(crate) fn cell(words: &[u64], stride: usize, i: usize, j: usize) -> bool
     bit(row_at(words, stride, i), j)
 }
 
-/// Sets bit `j` of row `i`, and leaves each other bit as it was.
+/// Sets bit `j` of row `i` and leaves every other bit unchanged.
 #[inline(always)]
 pub(crate) fn set_cell(words: &mut [u64], stride: usize, i: usize, j: usize)
     requires row { i * stride + stride ≤ length words.old }

@@ -1,6 +1,6 @@
-//! The closure of the rows of a plane, by Warshall's rounds in blocks of 64: the rows of a block
-//! are closed over the block first, and each other row then takes in those of them whose bits it
-//! has.
+//! The transitive closure of the rows of a plane, by Warshall's algorithm in blocks of 64 rows: the
+//! rows of a block are closed over the block first, and then every other row is united with the
+//! rows of the block whose bits it has.
 ghost use Rattle.std.specs.Prelude.{◌≡◌, ℕ, ◌+◌, ◌*◌, ◌%◌, ◌^◌, ◌<◌, ◌≤◌, ◌==◌, ◌↔◌, Bool, false, IsTrue, length};
 ghost use Rattle.tfs_planes.specs.Plane.{row_words, cell_at, row_through};
 ghost use Rattle.tfs_planes.specs.Rounds.{AllJoins, BlockJoins, IsClosedBlock, TakesIn};
@@ -14,13 +14,14 @@ use crate::kernels::union_words;
 use crate::order::Order;
 use crate::placing::close_in_order;
 
-/// How many rows a block has.
+/// The number of rows in a block.
 const BLOCK: usize = 64;
 
-/// Up to so many rows a small order serves, which stays in the cache beside them.
+/// The largest number of rows for which the small order is used. The small order stays in the cache
+/// together with the rows.
 const FEW: usize = 512;
 
-/// Unites a row with another where its bit `column` is set.
+/// Unites a row with another if its bit `column` is set.
 #[inline(always)]
 fn absorb(row: &mut [u64], other: &[u64], column: usize)
     requires lengths { length row.old ≡ length other.now }
@@ -32,7 +33,7 @@ fn absorb(row: &mut [u64], other: &[u64], column: usize)
     }
 }
 
-/// Unites each of `count` rows with another where its bit `column` is set.
+/// Unites each of `count` rows with another if its bit `column` is set.
 #[inline(always)]
 fn absorb_each(rows: &mut [u64], count: usize, other: &[u64], column: usize)
     requires lengths { length rows.old ≡ count * length other.now }
@@ -46,7 +47,7 @@ fn absorb_each(rows: &mut [u64], count: usize, other: &[u64], column: usize)
     }
 }
 
-/// Unites each other row with row `k` where its bit `column` is set.
+/// Unites every other row with row `k` if its bit `column` is set.
 fn round(words: &mut [u64], count: usize, stride: usize, k: usize, column: usize)
     requires lengths { length words.old ≡ count * stride }
     requires row { k < count }
@@ -61,8 +62,8 @@ fn round(words: &mut [u64], count: usize, stride: usize, k: usize, column: usize
     absorb_each(after, count - k - 1, row, column);
 }
 
-/// Takes the rows of a block, which begins with row `first`, from walks below `first` to walks
-/// below its end.
+/// Advances the rows of a block, which begins with row `first`, from walks with inner numbers below
+/// `first` to walks with inner numbers below the block's end.
 fn close_block(block: &mut [u64], width: usize, stride: usize, first: usize)
     requires lengths { length block.old ≡ width * stride }
     requires columns { first + width ≤ 64 * stride }
@@ -76,8 +77,8 @@ fn close_block(block: &mut [u64], width: usize, stride: usize, first: usize)
     }
 }
 
-/// Unites a row with the rows of a closed block whose bits it has. A row whose bit came with
-/// another brings nothing.
+/// Unites a row with the rows of a closed block whose bits it has. A row whose bit was added with
+/// another row is skipped, because it adds nothing.
 #[inline(always)]
 fn take_in(row: &mut [u64], block: &[u64], width: usize, first: usize)
     requires lengths { length block.now ≡ width * length row.old }
@@ -131,7 +132,8 @@ fn take_in_each(
     }
 }
 
-/// Takes all rows from walks below `first` to walks below the end of the block that begins there.
+/// Advances all rows from walks with inner numbers below `first` to walks with inner numbers below
+/// the end of the block that begins at `first`.
 fn advance(words: &mut [u64], count: usize, stride: usize, first: usize, width: usize)
     requires lengths { length words.old ≡ count * stride }
     requires within { first + width ≤ count }
@@ -163,7 +165,8 @@ fn close_by_blocks(words: &mut [u64], count: usize, stride: usize)
     }
 }
 
-/// Closes few rows in an order, if there is one, and tells whether they are closed then.
+/// Closes at most `FEW` rows in an order in which targets come first, if there is one. Returns true
+/// only if the rows are closed.
 fn close_few(words: &mut [u64], count: usize, stride: usize) -> bool
     requires lengths { length words.old ≡ count * stride }
     requires columns { count ≤ 64 * stride }
@@ -177,7 +180,7 @@ fn close_few(words: &mut [u64], count: usize, stride: usize) -> bool
     order.find(words, count, stride) && close_in_order(words, count, stride, &order)
 }
 
-/// The same for any number of rows.
+/// Does the same as `close_few` for any number of rows.
 fn close_many(words: &mut [u64], count: usize, stride: usize) -> bool
     requires lengths { length words.old ≡ count * stride }
     requires columns { count ≤ 64 * stride }
@@ -191,8 +194,9 @@ fn close_many(words: &mut [u64], count: usize, stride: usize) -> bool
     order.find(words, count, stride) && close_in_order(words, count, stride, &order)
 }
 
-/// Makes the bit (i, j) of `count` rows set exactly where a walk of bits that were set leads from i
-/// to j: in an order of the rows, or by blocks where there is none.
+/// Closes `count` rows: afterwards bit (i, j) is set if and only if a walk over the bits that were
+/// set leads from i to j. The rows are closed in an order in which targets come first, or by blocks
+/// if there is none.
 pub(crate) fn close_rows(words: &mut [u64], count: usize, stride: usize)
     requires lengths { length words.old ≡ count * stride }
     requires columns { count ≤ 64 * stride }

@@ -1,10 +1,10 @@
-//! Work on lists of words: lanes of eight at a time, and one at a time for the rest.
+//! Operations on lists of words: eight words per step, and the remaining ones singly.
 ghost use Rattle.std.specs.Prelude.{◌≡◌, ℕ, ◌+◌, ◌*◌, ◌%◌, ◌^◌, ◌<◌, ◌≤◌, ◌↔◌, length, sum_by, bit_and, bit_or, count_ones, replicate, IsTrue};
 ghost use Rattle.std.specs.Simd.Lanes.{zip2, chunk, put_chunk};
 
 use std::simd::prelude::*;
 
-/// How many words a lane block has.
+/// The number of words in a lane block.
 pub(crate) const LANES: usize = 8;
 
 /// Unites one lane block with the other list's.
@@ -20,7 +20,7 @@ fn union_lanes(words: &mut [u64], others: &[u64], at: usize)
     both.copy_to_slice(&mut words[at..]);
 }
 
-/// The same as `union_words`, for whole lane blocks.
+/// Does the same as `union_words` for whole lane blocks.
 #[inline(always)]
 pub(crate) fn union_blocks(words: &mut [u64], others: &[u64])
     requires whole { length words.old % LANES ≡ 0 }
@@ -43,8 +43,8 @@ fn union_singly(words: &mut [u64], others: &[u64])
     }
 }
 
-/// Makes each word the bitwise or of itself and the other list's word at its place. The lists are
-/// equally long.
+/// Replaces each word by its bitwise or with the word at the same index in the other list. The
+/// lists have equal lengths.
 #[inline(always)]
 pub fn union_words(words: &mut [u64], others: &[u64])
     requires lengths { length words.old ≡ length others.now }
@@ -55,7 +55,7 @@ pub fn union_words(words: &mut [u64], others: &[u64])
     union_singly(&mut words[whole..], &others[whole..]);
 }
 
-/// Meets one lane block with the other list's.
+/// Intersects one lane block with the other list's.
 #[inline(always)]
 fn meet_lanes(words: &mut [u64], others: &[u64], at: usize)
     requires words { at + LANES ≤ length words.old }
@@ -68,7 +68,7 @@ fn meet_lanes(words: &mut [u64], others: &[u64], at: usize)
     both.copy_to_slice(&mut words[at..]);
 }
 
-/// The same as `meet_words`, for whole lane blocks.
+/// Does the same as `meet_words` for whole lane blocks.
 #[inline(always)]
 fn meet_blocks(words: &mut [u64], others: &[u64])
     requires whole { length words.old % LANES ≡ 0 }
@@ -80,7 +80,7 @@ fn meet_blocks(words: &mut [u64], others: &[u64])
     }
 }
 
-/// Meets the lists word by word.
+/// Intersects the lists word by word.
 #[inline(always)]
 fn meet_singly(words: &mut [u64], others: &[u64])
     requires { length words.old ≡ length others.now }
@@ -91,8 +91,8 @@ fn meet_singly(words: &mut [u64], others: &[u64])
     }
 }
 
-/// Makes each word the bitwise and of itself and the other list's word at its place. The lists are
-/// equally long.
+/// Replaces each word by its bitwise and with the word at the same index in the other list. The
+/// lists have equal lengths.
 #[inline(always)]
 pub fn meet_words(words: &mut [u64], others: &[u64])
     requires lengths { length words.old ≡ length others.now }
@@ -103,7 +103,7 @@ pub fn meet_words(words: &mut [u64], others: &[u64])
     meet_singly(&mut words[whole..], &others[whole..]);
 }
 
-/// How many bits of one lane block are set.
+/// Returns the number of set bits in one lane block.
 #[inline(always)]
 fn count_lanes(words: &[u64], at: usize) -> u64
     requires { at + LANES ≤ length words.now }
@@ -114,7 +114,7 @@ fn count_lanes(words: &[u64], at: usize) -> u64
         .strict_reduce_sum()
 }
 
-/// The same as `count_words`, for whole lane blocks.
+/// Does the same as `count_words` for whole lane blocks.
 #[inline(always)]
 fn count_blocks(words: &[u64]) -> u64
     requires whole { length words.now % LANES ≡ 0 }
@@ -128,7 +128,7 @@ fn count_blocks(words: &[u64]) -> u64
     count
 }
 
-/// The same as `count_words`, word by word.
+/// Does the same as `count_words`, word by word.
 #[inline(always)]
 fn count_singly(words: &[u64]) -> u64
     requires { length words.now < 2 ^ 58 }
@@ -141,7 +141,8 @@ fn count_singly(words: &[u64]) -> u64
     count
 }
 
-/// How many bits of the words are set. The words are fewer than 2^58, so that the count fits.
+/// Returns the number of set bits in the words. There are fewer than 2^58 words, so that the count
+/// fits.
 pub fn count_words(words: &[u64]) -> u64
     requires fits { length words.now < 2 ^ 58 }
     ensures count { result ≡ sum_by count_ones words.now }
@@ -150,7 +151,7 @@ pub fn count_words(words: &[u64]) -> u64
     count_blocks(&words[..whole]) + count_singly(&words[whole..])
 }
 
-/// Whether one lane block is equal to the other list's.
+/// Returns true if one lane block equals the other list's.
 #[inline(always)]
 fn equal_lanes(left: &[u64], right: &[u64], at: usize) -> bool
     requires left { at + LANES ≤ length left.now }
@@ -161,7 +162,7 @@ fn equal_lanes(left: &[u64], right: &[u64], at: usize) -> bool
     differ.to_bitmask() == 0
 }
 
-/// The same as `equal_words`, for whole lane blocks.
+/// Does the same as `equal_words` for whole lane blocks.
 #[inline(always)]
 fn equal_blocks(left: &[u64], right: &[u64]) -> bool
     requires whole { length left.now % LANES ≡ 0 }
@@ -176,7 +177,7 @@ fn equal_blocks(left: &[u64], right: &[u64]) -> bool
     true
 }
 
-/// Whether a lane block of the other list has each bit that the words have there.
+/// Returns true if the lane block of `others` has every bit that the lane block of `words` has.
 #[inline(always)]
 pub(crate) fn covers_lanes(words: &[u64], others: &[u64], at: usize) -> bool
     requires words { at + LANES ≤ length words.now }
@@ -190,7 +191,7 @@ pub(crate) fn covers_lanes(words: &[u64], others: &[u64], at: usize) -> bool
     both.simd_ne(other).to_bitmask() == 0
 }
 
-/// Makes each word 0.
+/// Sets each word to 0.
 #[inline(always)]
 pub(crate) fn clear_words(words: &mut [u64])
     ensures { words.new ≡ replicate (length words.old) 0 }
@@ -198,7 +199,7 @@ pub(crate) fn clear_words(words: &mut [u64])
     words.fill(0);
 }
 
-/// Whether two lists of words, equally long, are equal.
+/// Returns true if two lists of words of equal length are equal.
 pub fn equal_words(left: &[u64], right: &[u64]) -> bool
     requires lengths { length left.now ≡ length right.now }
     ensures equal { IsTrue result ↔ (left.now ≡ right.now) }

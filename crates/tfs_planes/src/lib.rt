@@ -1,5 +1,5 @@
-//! Sets of numbers as rows of bits, relations as planes of bits, and the closure of a relation by
-//! walks. The work on words is done on lanes of eight.
+//! Sets of numbers as rows of bits, relations as planes of bits, and the transitive closure of a
+//! relation. Words are processed in lanes of eight.
 #![tactic(auto)]
 
 pub use kernels::{count_words, equal_words, meet_words, union_words};
@@ -17,8 +17,8 @@ mod plane;
 mod row;
 mod size;
 
-/// The largest size of a row or a plane, which `is_size` pins.
+/// The largest size of a row or a plane, fixed by the contract of `is_size`.
 pub const MAX: usize = 4096;
 
-/// How many words a row of the largest size takes.
+/// The number of words in a row of the largest size.
 const WORDS: usize = 64;

@@ -1,5 +1,6 @@
-//! The search for an order of rows in which each row's targets, itself aside, come before it. A
-//! row waits for one target that isn't in the order yet, and its search then goes on from there.
+//! The search for an order of rows in which each row's targets, other than itself, come before it.
+//! A row waits for one target that isn't in the order yet, and its search continues from that
+//! target afterwards.
 ghost use Rattle.std.specs.Prelude.{◌≡◌, ◌+◌, ◌*◌, ◌<◌, ◌≤◌, IfSome, false, length};
 ghost use Rattle.tfs_planes.specs.Row.{bit_at_word};
 ghost use Rattle.tfs_planes.specs.Targets.{IsTarget};
@@ -8,29 +9,29 @@ use crate::WORDS;
 use crate::bits::{clear_bit, missing, set_bit};
 use crate::cells::row_at;
 
-/// What stands for no row.
+/// The value that represents no row.
 const NONE: u16 = u16::MAX;
 
-/// The rows that are placed so far, and those that wait.
+/// The rows that are placed so far, and the waiting rows.
 #[derive(Drop)]
 pub(crate) struct Order<const N: usize> {
     /// The placed rows, in their order.
     rows: [u16; N],
-    /// How many rows are placed.
+    /// The number of placed rows.
     len: usize,
     /// The set of the placed rows.
     placed: [u64; WORDS],
-    /// For each row the word of its targets from which its search goes on.
+    /// For each row, the word of its targets from which its search continues.
     words: [u8; N],
-    /// For each target the row that was the last to wait for it.
+    /// For each target, the row that was the last to wait for it.
     waiting: [u16; N],
-    /// For each row that waits another that waits for the same target, and for each placed row the
-    /// target for which it waited last.
+    /// For each waiting row, another row that waits for the same target; for each placed row, the
+    /// target that it waited for last.
     behind: [u16; N],
 }
 
 impl<const N: usize> Order<N> {
-    /// The order of no rows, in which none waits.
+    /// Creates an order without rows, in which none waits.
     #[inline(always)]
     pub(crate) fn new() -> Order<N> {
         Order {
@@ -43,7 +44,7 @@ impl<const N: usize> Order<N> {
         }
     }
 
-    /// Row `k` of the order.
+    /// Returns row `k` of the order.
     #[inline(always)]
     pub(crate) fn row(&self, k: usize) -> usize
         requires { k < N }
@@ -51,7 +52,7 @@ impl<const N: usize> Order<N> {
         usize::from(self.rows[k])
     }
 
-    /// The target for which a placed row waited last.
+    /// Returns the target that a placed row waited for last.
     #[inline(always)]
     pub(crate) fn latest(&self, row: usize) -> usize
         requires { row < N }
@@ -59,7 +60,7 @@ impl<const N: usize> Order<N> {
         usize::from(self.behind[row])
     }
 
-    /// Looks for an order of all rows, and tells whether there is one.
+    /// Searches for an order of all rows, and returns true if it found one.
     pub(crate) fn find(&mut self, words: &[u64], count: usize, stride: usize) -> bool
         requires lengths { length words.now ≡ count * stride }
         requires wide { stride ≤ 64 }
@@ -101,7 +102,7 @@ impl<const N: usize> Order<N> {
         }
     }
 
-    /// Places a row whose targets are all placed. Another waits for one that isn't.
+    /// Places a row whose targets are all placed. Any other row waits for a target that isn't.
     #[inline(always)]
     fn try_row(&mut self, words: &[u64], stride: usize, row: usize, latest: u16)
         requires fits { row * stride + stride ≤ length words.now }
@@ -115,7 +116,7 @@ impl<const N: usize> Order<N> {
         }
     }
 
-    /// A target of a row that isn't placed, if there is one. The row itself is none.
+    /// Returns a target of a row that isn't placed, if there is one. The row itself doesn't count.
     #[inline(always)]
     fn missing_target(&mut self, targets: &[u64], row: usize) -> Option<usize>
         requires wide { length targets.now ≤ 64 }
@@ -130,14 +131,14 @@ impl<const N: usize> Order<N> {
         if target != row {
             return Some(target);
         }
-        // In the row's own word there may be another target below it.
+        // The row's own word may have another missing target below the row.
         set_bit(&mut self.placed, row);
         let target = missing(targets, &self.placed, from);
         clear_bit(&mut self.placed, row);
         target
     }
 
-    /// Appends a row, which is placed.
+    /// Appends a row to the order and marks it as placed.
     #[inline(always)]
     fn push(&mut self, row: usize, latest: u16)
         requires room { row < N }
@@ -151,7 +152,7 @@ impl<const N: usize> Order<N> {
         self.behind[row] = latest;
     }
 
-    /// Has a row wait for a target.
+    /// Makes a row wait for a target.
     #[inline(always)]
     fn wait(&mut self, row: usize, target: usize)
         requires room { row < N }

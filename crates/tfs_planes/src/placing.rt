@@ -1,5 +1,5 @@
-//! The closure of rows in an order: a row takes in the rows of its targets, which are placed before
-//! it. A target that came with another isn't taken in again.
+//! The transitive closure of rows in an order: a row is united with the rows of its targets, which
+//! are placed before it. A target whose bit was added with another target's row is skipped.
 ghost use Rattle.std.specs.Prelude.{◌≡◌, ◌↔◌, ℕ, ◌+◌, ◌*◌, ◌%◌, ◌<◌, ◌≤◌, ◌==◌, Bool, false, IsTrue, length};
 ghost use Rattle.std.specs.Int.{bit_at};
 ghost use Rattle.tfs_planes.specs.Plane.{cell_at};
@@ -12,7 +12,7 @@ use crate::cells::row_at;
 use crate::kernels::{LANES, clear_words, covers_lanes, union_blocks};
 use crate::order::Order;
 
-/// The targets of row `row` in one word of its bits.
+/// Returns the targets of row `row` in one word of its bits.
 #[inline(always)]
 fn targets_in(own: &[u64], row: usize, word: usize) -> u64
     requires { word < length own.now }
@@ -25,8 +25,8 @@ fn targets_in(own: &[u64], row: usize, word: usize) -> u64
     }
 }
 
-/// Takes in the rows of the targets in one word, from the highest on, and tells whether they are
-/// placed.
+/// Adds the rows of the targets in one word, from the highest target down. Returns true only if the
+/// remaining targets are placed.
 #[inline(always)]
 fn gather_word(
     came: &mut [u64],
@@ -62,7 +62,8 @@ fn gather_word(
     true
 }
 
-/// Takes in the rows of the targets in a lane block, and tells whether they are placed.
+/// Adds the rows of the targets in a lane block. Returns true only if the remaining targets are
+/// placed.
 #[inline(always)]
 fn gather_lanes(
     came: &mut [u64],
@@ -92,8 +93,8 @@ fn gather_lanes(
     true
 }
 
-/// Takes in the rows of a row's targets, and tells whether they are placed. A lane block whose
-/// targets have all come is passed over.
+/// Adds the rows of a row's targets. Returns true only if the remaining targets are placed. A lane
+/// block whose targets have all been added is skipped.
 #[inline(always)]
 fn gather(came: &mut [u64], own: &[u64], words: &[u64], placed: &[u64], row: usize) -> bool
     requires own { length own.now ≡ length came.old }
@@ -117,7 +118,8 @@ fn gather(came: &mut [u64], own: &[u64], words: &[u64], placed: &[u64], row: usi
     true
 }
 
-/// Begins with the row of the target for which the row waited last, if it is one: it brings most.
+/// Begins with the row of `latest`, the target that the row waited for last, if it is a placed
+/// target: it adds the most.
 #[inline(always)]
 fn begin(came: &mut [u64], own: &[u64], words: &[u64], placed: &[u64], row: usize, latest: usize)
     requires own { length own.now ≡ length came.old }
@@ -136,8 +138,8 @@ fn begin(came: &mut [u64], own: &[u64], words: &[u64], placed: &[u64], row: usiz
     }
 }
 
-/// Places a row whose targets are placed: it takes in their rows. Another stays as it is, and the
-/// answer is then false.
+/// Places a row whose targets are placed, by uniting it with their rows. Any other row stays
+/// unchanged, and the result is false.
 fn place(
     words: &mut [u64],
     placed: &mut [u64],
@@ -170,7 +172,7 @@ fn place(
     true
 }
 
-/// Whether all rows are placed.
+/// Returns true only if all rows are placed.
 fn are_all_placed(placed: &[u64], count: usize) -> bool
     requires { count ≤ 64 * length placed.now }
     ensures { IsTrue result → (i : ℕ) → i < count → IsTrue (bit_at_word placed.now i) }
@@ -187,8 +189,9 @@ fn are_all_placed(placed: &[u64], count: usize) -> bool
     true
 }
 
-/// Places the rows in an order, and tells whether they are closed then. Where a row comes before one
-/// of its targets it stops, and the rows lie between what they were and their closure.
+/// Places the rows in an order, and returns true only if they are closed afterwards. If a row comes
+/// before one of its targets, the function stops, and the rows lie between what they were and their
+/// closure.
 pub(crate) fn close_in_order<const N: usize>(
     words: &mut [u64],
     count: usize,

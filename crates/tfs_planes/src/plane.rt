@@ -1,4 +1,4 @@
-//! Planes: relations between the numbers below a size, one bit a pair.
+//! Planes: relations between the numbers below a size, with one bit per pair.
 ghost use Rattle.std.specs.Prelude.{◌≡◌, ℕ, ◌<◌, ◌≤◌, ◌↔◌, ◌||◌, IfOk};
 ghost use Rattle.std.specs.FinSet as set;
 ghost use Rattle.tfs_planes.specs.Relation.{Relates};
@@ -34,8 +34,8 @@ impl Model for Plane {
 }
 
 impl Plane {
-    /// The relation between the numbers below `size` in which no number is related to any. Its one
-    /// error is want of memory; it takes one bit for each pair, each row rounded up to 512.
+    /// Creates the empty relation between the numbers below `size`. Fails only if memory is
+    /// exhausted. Takes one bit per pair, with each row rounded up to a multiple of 512 bits.
     pub fn new(alloc: Global, size: usize) -> Result<Plane, AllocError>
         requires small { size ≤ 4096 }
         ensures empty { IfOk result (λ plane. plane ≡ record { size = size; pairs = set.empty }) }
@@ -46,7 +46,7 @@ impl Plane {
         })
     }
 
-    /// The size: only numbers below it are related.
+    /// Returns the size. Only numbers below it are related.
     pub fn size(&self) -> usize
         ensures size { result ≡ self.now.size }
         ensures small { result ≤ 4096 }
@@ -54,7 +54,7 @@ impl Plane {
         self.size
     }
 
-    /// Whether `i` is related to `j`.
+    /// Returns true if `i` is related to `j`.
     pub fn get(&self, i: usize, j: usize) -> bool
         requires row { i < self.now.size }
         requires column { j < self.now.size }
@@ -72,14 +72,14 @@ impl Plane {
         set_cell(&mut self.words, row_length(self.size), i, j);
     }
 
-    /// Relates no number to any.
+    /// Removes all pairs.
     pub fn clear(&mut self)
         ensures empty { self.new ≡ record self.old { pairs = set.empty } }
     {
         clear_words(&mut self.words);
     }
 
-    /// Makes a row of this size the set of the numbers to which `i` is related.
+    /// Sets a row of this size to the set of the numbers to which `i` is related.
     pub fn row_into(&self, i: usize, row: &mut Row)
         requires row { i < self.now.size }
         requires size { row.old.size ≡ self.now.size }
@@ -90,7 +90,7 @@ impl Plane {
         row.copy_words(row_at(&self.words, row_length(self.size), i));
     }
 
-    /// Adds to a row of this size the numbers to which `i` is related.
+    /// Adds the numbers to which `i` is related to a row of this size.
     pub fn union_row_into(&self, i: usize, row: &mut Row)
         requires row { i < self.now.size }
         requires size { row.old.size ≡ self.now.size }
@@ -101,8 +101,8 @@ impl Plane {
         row.union_with_words(row_at(&self.words, row_length(self.size), i));
     }
 
-    /// Closes the relation: afterwards `i` is related to `j` exactly where a walk over what was
-    /// related before leads from `i` to `j`.
+    /// Replaces the relation by its transitive closure: afterwards `i` is related to `j` if and
+    /// only if a walk over the relation before the call leads from `i` to `j`.
     pub fn close(&mut self)
         ensures size { self.new.size ≡ self.old.size }
         ensures walks { (i j : ℕ) → Relates self.new i j ↔ Joins (Relates self.old) i j }

@@ -1,4 +1,4 @@
-//! Rows: sets of numbers below a size, one bit a number.
+//! Rows: sets of numbers below a size, with one bit per number.
 ghost use Rattle.std.specs.Prelude.{◌≡◌, ℕ, ◌<◌, ◌≤◌, ◌||◌, true, false, IfOk, IfSome, IfNone, length};
 ghost use Rattle.std.specs.FinSet as set;
 ghost use Rattle.std.specs.List.Sorted.{IsStrictlyIncreasing};
@@ -30,7 +30,7 @@ impl Model for Row {
 }
 
 impl Row {
-    /// The empty set of numbers below `size`. Its one error is want of memory.
+    /// Creates the empty set of numbers below `size`. Fails only if memory is exhausted.
     pub fn new(alloc: Global, size: usize) -> Result<Row, AllocError>
         requires small { size ≤ 4096 }
         ensures empty { IfOk result (λ row. row ≡ record { size = size; members = set.empty }) }
@@ -41,7 +41,7 @@ impl Row {
         })
     }
 
-    /// The size: each member is below it.
+    /// Returns the size. Each member is below it.
     pub fn size(&self) -> usize
         ensures size { result ≡ self.now.size }
         ensures small { result ≤ 4096 }
@@ -49,7 +49,7 @@ impl Row {
         self.size
     }
 
-    /// Whether `i` is a member.
+    /// Returns true if `i` is a member.
     pub fn get(&self, i: usize) -> bool
         requires within { i < self.now.size }
         ensures member { result ≡ set.contains self.now.members i }
@@ -57,7 +57,7 @@ impl Row {
         bit(&self.words, i)
     }
 
-    /// Makes `i` a member.
+    /// Adds `i` to the members.
     pub fn set(&mut self, i: usize)
         requires within { i < self.old.size }
         ensures inserted { self.new ≡ record self.old { members = set.insert self.old.members i } }
@@ -65,14 +65,14 @@ impl Row {
         set_bit(&mut self.words, i);
     }
 
-    /// Takes out all members.
+    /// Removes all members.
     pub fn clear(&mut self)
         ensures empty { self.new ≡ record self.old { members = set.empty } }
     {
         clear_words(&mut self.words);
     }
 
-    /// Adds the members of another row of this size: the union.
+    /// Adds the members of another row of this size (union).
     pub fn union_with(&mut self, other: &Row)
         requires sizes { self.old.size ≡ other.now.size }
         ensures union { self.new
@@ -81,7 +81,7 @@ impl Row {
         union_words(&mut self.words, &other.words);
     }
 
-    /// Keeps the members that another row of this size has too: the intersection.
+    /// Keeps only the members that another row of this size has too (intersection).
     pub fn meet_with(&mut self, other: &Row)
         requires sizes { self.old.size ≡ other.now.size }
         ensures meet { self.new
@@ -90,15 +90,15 @@ impl Row {
         meet_words(&mut self.words, &other.words);
     }
 
-    /// How many members there are.
+    /// Returns the number of members.
     pub fn count(&self) -> usize
         ensures count { result ≡ set.len self.now.members }
     {
         count_bits(&self.words) as usize
     }
 
-    /// The first member from `from` on. A call for each member, with the number behind the last one,
-    /// gives them all, rising, and takes no memory.
+    /// Returns the first member from `from` on. To iterate over all members in ascending order
+    /// without allocating, call it again with the number after the last member.
     pub fn next_member(&self, from: usize) -> Option<usize>
         ensures member { IfSome result (λ i. set.contains self.now.members i ≡ true) }
         ensures within { IfSome result (λ i. i < self.now.size) }
@@ -111,7 +111,7 @@ impl Row {
         next_bit(&self.words, from)
     }
 
-    /// The members, rising. Its one error is want of memory.
+    /// Returns the members in ascending order. Fails only if memory is exhausted.
     pub fn members(&self, alloc: Global) -> Result<Vec<usize>, AllocError>
         ensures members { IfOk result (λ numbers. numbers.items ≡ rising_members self.now) }
         ensures rising { IfOk result (λ numbers. IsStrictlyIncreasing numbers.items) }
@@ -119,7 +119,7 @@ impl Row {
         members_of(alloc, &self.words, self.size)
     }
 
-    /// Becomes the set of a plane's row.
+    /// Sets this row to the set of a plane's row.
     pub(crate) fn copy_words(&mut self, words: &[u64])
         requires length { length words.now ≡ row_length self.old.size }
         requires clear { IsClearFrom self.old.size words.now }

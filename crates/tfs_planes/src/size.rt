@@ -3,7 +3,7 @@ ghost use Rattle.std.specs.Prelude.{◌↔◌, ◌≤◌, IsTrue};
 
 use crate::MAX;
 
-/// Whether a row or a plane may have this size.
+/// Returns true if a row or a plane may have this size.
 pub fn is_size(size: usize) -> bool
     ensures small { IsTrue result ↔ (size ≤ 4096) }
 {

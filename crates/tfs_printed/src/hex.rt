@@ -1,4 +1,4 @@
-//! Numbers of characters in hexadecimal digits.
+//! Characters as hexadecimal numbers.
 
 ghost use Rattle.std.specs.Prelude.{◌≡◌, ◌<◌, ◌≤◌, ◌/◌, ◌%◌, [], ◌∷◌, ◌++◌, OnOk, string_bytes};
 ghost use Rattle.std.specs.Char.{digit_char};
@@ -6,7 +6,7 @@ ghost use Rattle.tfs_printed.specs.Printed.{place_text, number_text, unit_text};
 
 use std::alloc::AllocError;
 
-/// Appends the number of a character, as in `\u{202e}`.
+/// Appends the code point of a character, as in `\u{202e}`.
 pub(crate) fn push_number(out: &mut String, c: char) -> Result<(), AllocError>
     ensures { OnOk result (string_bytes out.new ≡ string_bytes out.old ++ number_text c) }
 {
@@ -21,7 +21,7 @@ pub(crate) fn push_number(out: &mut String, c: char) -> Result<(), AllocError>
     out.push('}')
 }
 
-/// Appends the digit at the place that is worth this much, if the number has one there.
+/// Appends the digit whose place value is `place`, if the number has a digit there.
 fn push_place(out: &mut String, code: u32, place: u32) -> Result<(), AllocError>
     requires { 0 < place }
     ensures { OnOk result (string_bytes out.new ≡ string_bytes out.old ++ place_text place code) }
@@ -33,7 +33,7 @@ fn push_place(out: &mut String, code: u32, place: u32) -> Result<(), AllocError>
     }
 }
 
-/// Appends a unit of UTF-16, as in `\u202e`.
+/// Appends a UTF-16 code unit, as in `\u202e`.
 #[tactic(auto, unfolding(crate::specs::Printed::unit_text))]
 pub(crate) fn push_unit(out: &mut String, unit: u32) -> Result<(), AllocError>
     ensures { OnOk result (string_bytes out.new ≡ string_bytes out.old ++ unit_text unit) }
@@ -45,7 +45,7 @@ pub(crate) fn push_unit(out: &mut String, unit: u32) -> Result<(), AllocError>
     out.push(hex_digit(unit % 16))
 }
 
-/// The lower-case hexadecimal digit.
+/// Returns the lower-case hexadecimal digit.
 fn hex_digit(digit: u32) -> char
     requires { digit < 16 }
     ensures value { result ≡ digit_char digit }

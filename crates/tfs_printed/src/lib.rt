@@ -1,4 +1,5 @@
-//! Texts from clients, as a terminal prints them: characters of the Unicode categories Cc, Cf, Zl and Zp are escaped.
+//! Escaping of texts from clients for terminals: characters of the Unicode categories Cc, Cf, Zl
+//! and Zp are escaped.
 #![tactic(auto)]
 
 mod hex;

@@ -1,4 +1,4 @@
-//! What a terminal prints of a text, and the escapes of the rest.
+//! The characters of a text that a terminal prints, and the escapes of the others.
 
 ghost use Rattle.std.specs.Prelude.{◌≡◌, ◌++◌, OnOk, string_bytes, chars};
 ghost use Rattle.std.specs.List.{flat_map};
@@ -8,8 +8,8 @@ use crate::hex::{push_number, push_unit};
 use std::alloc::AllocError;
 use ucd_category::GeneralCategory;
 
-/// Returns true if a terminal prints a character at its place: it is no control (Cc) or format (Cf) character, and no line (Zl) or
-/// paragraph (Zp) separator.
+/// Returns true if a terminal prints a character at its position: it is not a control (Cc) or
+/// format (Cf) character, and not a line (Zl) or paragraph (Zp) separator.
 pub fn is_printed(c: char) -> bool
     ensures { result ≡ is_printed c }
 {
@@ -22,7 +22,8 @@ pub fn is_printed(c: char) -> bool
     )
 }
 
-/// Appends a text for a table: a character that isn't printed is written as its number, as in `\u{202e}`.
+/// Appends a text for a table. A character that isn't printed is written as its code point, as in
+/// `\u{202e}`.
 pub fn push_printed(out: &mut String, text: &str) -> Result<(), AllocError>
     ensures { OnOk result (string_bytes out.new ≡ string_bytes out.old ++ flat_map printed (chars text.now)) }
 {
@@ -43,8 +44,8 @@ fn push_printed_char(out: &mut String, c: char) -> Result<(), AllocError>
     }
 }
 
-/// Appends a text of JSON, whose strings alone have characters that aren't printed: these are written as their units of UTF-16, as in
-/// `\u202e`.
+/// Appends a JSON text, which may have characters that aren't printed only in its strings. These
+/// characters are written as UTF-16 code units, as in `\u202e`.
 pub fn push_json(out: &mut String, text: &str) -> Result<(), AllocError>
     ensures { OnOk result (string_bytes out.new ≡ string_bytes out.old ++ flat_map json (chars text.now)) }
 {
@@ -54,7 +55,7 @@ pub fn push_json(out: &mut String, text: &str) -> Result<(), AllocError>
     Ok(())
 }
 
-/// Appends a character of a text of JSON.
+/// Appends a character of a JSON text.
 fn push_json_char(out: &mut String, c: char) -> Result<(), AllocError>
     ensures { OnOk result (string_bytes out.new ≡ string_bytes out.old ++ json c) }
 {
@@ -65,7 +66,7 @@ fn push_json_char(out: &mut String, c: char) -> Result<(), AllocError>
     }
 }
 
-/// Appends the units of UTF-16 of a code point.
+/// Appends the UTF-16 code units of a code point.
 fn push_units(out: &mut String, code: u32) -> Result<(), AllocError>
     ensures { OnOk result (string_bytes out.new ≡ string_bytes out.old ++ units_text code) }
 {
@@ -76,7 +77,7 @@ fn push_units(out: &mut String, code: u32) -> Result<(), AllocError>
     }
 }
 
-/// Appends the pair of units of a code point that is this much above U+FFFF.
+/// Appends the surrogate pair of a code point, where `above` is the code point minus 0x10000.
 fn push_pair(out: &mut String, above: u32) -> Result<(), AllocError>
     ensures { OnOk result (string_bytes out.new ≡ string_bytes out.old ++ pair_text above) }
 {
@@ -84,8 +85,8 @@ fn push_pair(out: &mut String, above: u32) -> Result<(), AllocError>
     push_unit(out, 0xdc00 + above % 0x400)
 }
 
-/// Appends a picture in the language DOT, whose lines end as before: another character that isn't printed is written as its number after
-/// two backslashes, which Graphviz draws as one.
+/// Appends a picture in the DOT language. Line feeds are kept. Any other character that isn't
+/// printed is written as its code point after two backslashes, which Graphviz draws as one.
 pub fn push_drawn(out: &mut String, text: &str) -> Result<(), AllocError>
     ensures { OnOk result (string_bytes out.new ≡ string_bytes out.old ++ flat_map drawn (chars text.now)) }
 {

@@ -9,36 +9,40 @@ ghost use Rattle.tfs_rules.specs.HistoryLaws.{KeepsHistoryLaws, LocksOfOneTextHa
 ghost use Rattle.tfs_rules.specs.Verdict.{IsAccepted, verdict_of, verdict_over};
 ghost use Rattle.tfs_rules.specs.declared.verdict.Verdict.TheVariants.{Accept, Locked};
 
-/// The state that a history leaves act by act is the one that its last push left, and there is no other.
+/// States that the state computed act by act is the document of the history's last push unless a
+/// delete follows it, and that no other state satisfies this.
 pub fn the_current_state_is_that_of_the_last_push()
     ensures found { (h : History) → IsCurrentState h (state_of h) }
     ensures only { (h : History) (state : Option Document) → IsCurrentState h state
         → state ≡ state_of h }
 {}
 
-/// The holder that a history leaves act by act is the one that its last lock left, and there is no other.
+/// States that the holder computed act by act is the information of the history's last lock unless
+/// an unlock follows it, and that no other holder satisfies this.
 pub fn the_holder_is_that_of_the_last_lock()
     ensures found { (h : History) → IsHolder h (holder_of h) }
     ensures only { (h : History) (holder : Option LockInformation) → IsHolder h holder
         → holder ≡ holder_of h }
 {}
 
-/// A history is accepted where it was before its last act, and that act is accepted over it.
+/// States that a history is accepted if and only if it was accepted before its last act, and that
+/// act is accepted after it.
 pub fn histories_are_accepted_act_by_act()
     ensures none { IsAccepted [] }
     ensures more { (h : History) (act : ActValue) → IsAccepted (h ++ act ∷ [])
         ↔ (IsAccepted h × (verdict_of h act ≡ Accept)) }
 {}
 
-/// Where locks of one text have one identifier, as those that were read have, a history is accepted if and only if it keeps
-/// the history laws, which speak of positions and of no verdict.
+/// States that a history in which locks with the same text have the same identifier is accepted if
+/// and only if it keeps the history laws. Locks that were read have this property. The laws refer
+/// to positions and to no verdict.
 pub fn histories_are_accepted_where_they_keep_the_history_laws()
     ensures accepted { (h : History) → LocksOfOneTextHaveOneIdentifier h
         → (IsAccepted h ↔ KeepsHistoryLaws h) }
     ensures read { (h : History) → All IsRead h → LocksOfOneTextHaveOneIdentifier h }
 {}
 
-/// An act is `Locked` only where somebody holds the lock.
+/// States that the verdict on an act is `Locked` only if the lock is held.
 pub fn locked_acts_have_a_holder()
     ensures held { (standing : Standing) (act : ActValue) → verdict_over standing act ≡ Locked
         → IsSome standing.holder }

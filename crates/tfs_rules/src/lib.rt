@@ -1,5 +1,6 @@
-//! The rules of a workspace: which acts it takes over its history, and the state and the holder that they leave.
-//! A history is accepted exactly where it keeps the history laws, which speak of positions alone.
+//! The rules of a workspace: the acts that it accepts after its history, and the resulting state
+//! and lock holder. A history of acts that were read is accepted if and only if it keeps the
+//! history laws, which refer to positions alone.
 #![tactic(auto)]
 
 mod act;

@@ -7,10 +7,11 @@ ghost use Rattle.tfs_rules.specs.Name.{IsName, is_name_byte};
 use std::alloc::AllocError;
 use std::marker::Model;
 
-/// The most bytes that a name may have.
+/// The maximum number of bytes in a name.
 pub const MAX_NAME_BYTES: usize = 64;
 
-/// The name of a workspace: 1 to 64 ASCII letters, digits, `_`, `-` and `.`. Names that differ in case differ.
+/// The name of a workspace: 1 to 64 ASCII letters, digits, `_`, `-` and `.`. Names are
+/// case-sensitive.
 #[derive(Debug, Drop)]
 pub struct Name {
     text: String,
@@ -28,7 +29,7 @@ impl Model for Name {
 }
 
 impl Name {
-    /// Takes a text that is a name.
+    /// Creates a name from a text, if the text is one.
     pub fn read(text: String) -> Option<Name>
         ensures valid { IsSome result ↔ IsName (string_bytes text) }
         ensures value { IfSome result (λ name. name ≡ string_bytes text) }
@@ -40,7 +41,7 @@ impl Name {
         }
     }
 
-    /// The name as it came.
+    /// Returns the unchanged text of the name.
     pub fn text(&self) -> &str
         ensures value { result.now ≡ self.now }
         ensures valid { IsName self.now }
@@ -48,7 +49,7 @@ impl Name {
         self.text.as_str()
     }
 
-    /// An equal name, or an error where a request for memory is refused.
+    /// Returns a copy of the name. Fails only if a request for memory is refused.
     pub fn copy(&self) -> Result<Name, AllocError>
         ensures value { IfOk result (λ name. name ≡ self.now) }
     {
@@ -58,7 +59,7 @@ impl Name {
     }
 }
 
-/// Whether a text is a name, told where it lies: no copy of it is made.
+/// Returns true if a text is a name. Makes no copy of the text.
 pub fn is_name(text: &str) -> bool
     ensures { IsTrue result ↔ IsName text.now }
 {

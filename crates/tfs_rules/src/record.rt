@@ -1,4 +1,4 @@
-//! A workspace's record: what its history leaves.
+//! A workspace's record: the result of its history.
 
 ghost use Rattle.std.specs.Prelude.{◌≡◌, ◌∷◌, [], ◌++◌, None, option_map, unwrap_or};
 ghost use Rattle.std.specs.Arc.{arc_value};
@@ -15,7 +15,8 @@ use std::sync::Arc;
 use tfs_lock::{Id, LockInfo};
 use tfs_state::Doc;
 
-/// What the accepted acts of a workspace leave: its current state and the holder of its lock, if there are any.
+/// The result of a workspace's accepted acts: its current state and the holder of its lock, if
+/// there are any.
 #[derive(Drop)]
 pub struct Record {
     state: Option<Arc<Doc>>,
@@ -33,7 +34,7 @@ impl Model for Record {
 }
 
 impl Record {
-    /// The record of no acts.
+    /// Creates the record of a workspace without acts.
     pub fn empty() -> Record
         ensures value { result ≡ standing_of [] }
     {
@@ -43,7 +44,8 @@ impl Record {
         }
     }
 
-    /// Whether the workspace takes the act over what it has, or the first reason why not.
+    /// Returns `Accept` if the workspace accepts the act in its current state, or the first reason
+    /// for a refusal.
     pub fn verdict(&self, act: &Act) -> Verdict
         ensures over_standing { result ≡ verdict_over self.now (act_value act.now) }
         ensures over_history { (h : History) → self.now ≡ standing_of h
@@ -63,7 +65,7 @@ impl Record {
         }
     }
 
-    /// Takes an act whose verdict is `Accept`.
+    /// Applies an act whose verdict is `Accept`.
     pub fn commit(&mut self, act: Act)
         requires { verdict_over self.old (act_value act) ≡ Accept }
         ensures over_history { (h : History) → self.old ≡ standing_of h
@@ -77,14 +79,14 @@ impl Record {
         }
     }
 
-    /// The current state.
+    /// Returns the current state.
     pub fn state(&self) -> Option<&Arc<Doc>>
         ensures value { option_map (λ doc. arc_value doc.now) result ≡ self.now.state }
     {
         self.state.as_ref()
     }
 
-    /// The information of the lock that is held.
+    /// Returns the information of the lock that is held.
     pub fn holder(&self) -> Option<&Arc<LockInfo>>
         ensures value { option_map (λ info. arc_value info.now) result ≡ self.now.holder }
     {
@@ -92,7 +94,7 @@ impl Record {
     }
 }
 
-/// The verdict on a lock.
+/// Returns the verdict on a lock.
 fn lock_verdict(holder: &Option<Arc<LockInfo>>, info: &LockInfo) -> Verdict
     ensures { result ≡ lock_verdict (option_map arc_value holder.now) info.now }
 {
@@ -106,7 +108,7 @@ fn lock_verdict(holder: &Option<Arc<LockInfo>>, info: &LockInfo) -> Verdict
     }
 }
 
-/// The verdict on an unlock.
+/// Returns the verdict on an unlock.
 fn unlock_verdict(holder: &Option<Arc<LockInfo>>, id: &Option<Id>) -> Verdict
     ensures { result ≡ unlock_verdict (option_map arc_value holder.now) id.now }
 {
@@ -120,7 +122,8 @@ fn unlock_verdict(holder: &Option<Arc<LockInfo>>, id: &Option<Id>) -> Verdict
     }
 }
 
-/// The verdict on a write by the lock; none where the write goes on.
+/// Returns the verdict that refuses a write because of the lock, or `None` if the lock permits the
+/// write.
 fn refusing_verdict(holder: &Option<Arc<LockInfo>>, id: &Option<Id>) -> Option<Verdict>
     ensures { (otherwise : Verdict)
         → unwrap_or result otherwise ≡ write_verdict (option_map arc_value holder.now) id.now otherwise }
@@ -139,7 +142,7 @@ fn refusing_verdict(holder: &Option<Arc<LockInfo>>, id: &Option<Id>) -> Option<V
     }
 }
 
-/// The verdict on a push over what is stored.
+/// Returns the verdict on a push over the stored state, regardless of the lock.
 fn push_verdict(stored: &Option<Arc<Doc>>, pushed: &Doc) -> Verdict
     ensures { result ≡ push_verdict (option_map arc_value stored.now) pushed.now }
 {

@@ -1,18 +1,18 @@
-//! What a workspace answers to an act.
+//! The verdict of a workspace on an act.
 
-/// Whether a workspace takes an act, or the first reason why it doesn't.
+/// Whether a workspace accepts an act, or the first reason for a refusal.
 #[derive(Clone, Copy, Debug, PartialEq, Eq)]
 pub enum Verdict {
-    /// The act is taken.
+    /// The act is accepted.
     Accept,
-    /// Somebody else holds the lock.
+    /// The lock is held by someone else: the act carries neither its text nor its identifier.
     Locked,
-    /// The act carries the identifier of a lock, and nobody holds one.
+    /// A push or a delete carries the identifier of a lock, and no lock is held.
     LockLost,
-    /// The pushed state belongs to another history than the stored one.
+    /// The pushed state has a different lineage from the stored one.
     LineageDiffers,
-    /// The pushed state is older than the stored one.
+    /// The pushed state has a lower serial than the stored one.
     SerialTooLow,
-    /// The pushed state has the stored one's serial and another content.
+    /// The pushed state has the stored one's serial and a different text.
     SerialReused,
 }

@@ -1,4 +1,4 @@
--- What the private parts of a document hold of its text.
+-- The relation between the private parts of a document and the document's text.
 use Rattle.std.specs.Prelude.{◌≡◌, ℕ, ◌≤◌, List, length, Ok, string_bytes}
 use Rattle.std.specs.List.{AllZip}
 use Rattle.serde_json.specs.Data.{Data}
@@ -13,13 +13,15 @@ use Rattle.tfs_state.specs.declared.tables.Block.{Block}
 use Rattle.tfs_state.specs.declared.tables.Row.{Row}
 use Rattle.tfs_state.specs.declared.tables.Tables.{Tables}
 
--- Each row stands for the instance at the same place, by some texts that numbers stand for.
+-- Each row represents the instance at the same index, for some list of texts that its numbers refer
+-- to.
 pub record Stand (blocks : List Block) (rows : List Row) (instances : List Instance) : Type 0 where
   pub names : List (List ℕ)
   pub apart : AreApart names
   pub each : AllZip (StandsFor names blocks) rows instances
 
--- The parts hold a content: their rows are those of a table that stands for its instances.
+-- The parts represent a content: they have its serial and its lineage, and their rows represent its
+-- instances.
 pub record Holds (parts : Content) (content : text.Content) : Type 0 where
   pub serial : content.serial ≡ parts.serial
   pub lineage : content.lineage ≡ string_bytes parts.lineage
@@ -28,20 +30,20 @@ pub record Holds (parts : Content) (content : text.Content) : Type 0 where
   pub packed : ArePacked parts.packed rows
   pub stand : Stand parts.blocks.items rows content.instances
 
--- The content of a value was read.
+-- The value has a content, and the parts represent it.
 pub record ReadsContent (value : Data) (parts : Content) : Type 0 where
   pub content : text.Content
   pub read : content_of value ≡ Ok content
   pub holds : Holds parts content
 
--- The parts hold the content of a text of at most 16 MiB.
+-- The bytes are a text of at most 16 MiB, and the parts represent its content.
 pub record Keeps (bytes : List ℕ) (parts : Content) : Type 0 where
   pub size : length bytes ≤ 16777216
   pub content : text.Content
   pub read : text_content bytes ≡ Ok content
   pub holds : Holds parts content
 
--- The instances of a value were read as tables.
+-- The value has at most 4,096 instances, and the tables represent them.
 pub record ReadsInstancesOf (value : Data) (tables : Tables) : Type 0 where
   pub instances : List Instance
   pub read : instances_of value ≡ Ok instances

@@ -10,8 +10,8 @@ use std::cmp::Ordering;
 use std::fmt;
 use std::marker::Model;
 
-/// The address of an instance, lent in two parts: what all instances of its resource have, and the rest. The digest is that of
-/// the first part.
+/// The address of an instance, borrowed in two parts: the beginning, which all instances of its
+/// resource share, and the rest. `digest` is the digest of the first part.
 #[derive(Drop)]
 pub struct Address<'a> {
     front: &'a str,
@@ -31,7 +31,7 @@ impl<'a> Model for Address<'a> {
 }
 
 impl<'a> Address<'a> {
-    /// The address of these parts, of which the first has this digest.
+    /// Creates the address of two parts. `digest` is the digest of the first.
     pub(crate) fn new(front: &'a str, tail: &'a str, digest: u64) -> Address<'a>
         requires { digest ≡ digest_of front.now }
         ensures { result ≡ front.now ++ tail.now }
@@ -43,14 +43,14 @@ impl<'a> Address<'a> {
         }
     }
 
-    /// The two parts, which one after the other are the address.
+    /// Returns the two parts, whose concatenation is the address.
     pub fn parts(&self) -> (&'a str, &'a str)
         ensures value { result.0.now ++ result.1.now ≡ self.now }
     {
         (self.front, self.tail)
     }
 
-    /// Whether the address is this text.
+    /// Returns true if the address equals the text.
     pub fn is(&self, text: &str) -> bool
         ensures value { IsTrue result ↔ (self.now ≡ text.now) }
     {
@@ -60,7 +60,7 @@ impl<'a> Address<'a> {
         }
     }
 
-    /// The digest of the address. It costs as much as the second part is long.
+    /// Returns the digest of the address. Takes time linear in the length of the second part.
     pub fn digest(&self) -> u64
         ensures value { result ≡ digest_of self.now }
     {
@@ -69,7 +69,7 @@ impl<'a> Address<'a> {
 }
 
 impl<'a> Address<'a> {
-    /// The order of two addresses, by their bytes.
+    /// Compares two addresses by their bytes.
     pub fn cmp(&self, other: &Address<'_>) -> Ordering
         ensures value { result ≡ slice_cmp nat_cmp self.now other.now }
     {
@@ -81,7 +81,7 @@ impl<'a> Address<'a> {
         )
     }
 
-    /// The order of the address and a text, by their bytes.
+    /// Compares the address with a text by their bytes.
     pub fn cmp_text(&self, text: &str) -> Ordering
         ensures value { result ≡ slice_cmp nat_cmp self.now text.now }
     {
@@ -89,7 +89,7 @@ impl<'a> Address<'a> {
     }
 }
 
-/// The order of two texts, each in two parts.
+/// Compares two texts, each given in two parts.
 fn order(front: &[u8], tail: &[u8], other: &[u8], rest: &[u8]) -> Ordering
     ensures { result ≡ slice_cmp nat_cmp (front.now ++ tail.now) (other.now ++ rest.now) }
 {
@@ -100,7 +100,8 @@ fn order(front: &[u8], tail: &[u8], other: &[u8], rest: &[u8]) -> Ordering
     }
 }
 
-/// The order of two texts, each in two parts, of which the first begins with the shorter part.
+/// Compares two texts, each given in two parts. The first part of the first text isn't longer than
+/// the first part of the second.
 fn order_from_shorter(front: &[u8], tail: &[u8], other: &[u8], rest: &[u8]) -> Ordering
     requires { length front.now ≤ length other.now }
     ensures { result ≡ slice_cmp nat_cmp (front.now ++ tail.now) (other.now ++ rest.now) }
@@ -110,7 +111,7 @@ fn order_from_shorter(front: &[u8], tail: &[u8], other: &[u8], rest: &[u8]) -> O
     front.cmp(&start).then(later)
 }
 
-/// The order of a text in two parts and a whole one.
+/// Compares a text given in two parts with a whole one.
 fn order_to_one(front: &[u8], tail: &[u8], text: &[u8]) -> Ordering
     ensures { result ≡ slice_cmp nat_cmp (front.now ++ tail.now) text.now }
 {

@@ -1,4 +1,4 @@
-//! What the text of a state says.
+//! The content of a state's text.
 
 ghost use Rattle.std.specs.Prelude.{◌≡◌, ◌≢◌, ◌≤◌, ◌<◌, slice_get, Some, Ok, IfOk, IfErr, OnOk, length};
 ghost use Rattle.std.specs.Str.{IsUtf8};
@@ -15,10 +15,10 @@ use json::Scratch;
 use std::alloc::Global;
 use tfs_json::{JsonFault, Tree, list_at, read_kept};
 
-/// The most resource instances that a state may list.
+/// The maximum number of resource instances in a state.
 const MAX_INSTANCES: usize = 4096;
 
-/// What the value of a state says.
+/// The content of a state's value.
 #[derive(Drop)]
 pub(crate) struct Content {
     pub(crate) serial: u64,
@@ -28,7 +28,7 @@ pub(crate) struct Content {
 }
 
 impl Content {
-    /// The row at a place.
+    /// Returns the row at index `place`.
     pub(crate) fn row(&self, place: usize) -> &PackedRow
         requires { place < length self.now.packed.rows.items }
         ensures { slice_get self.now.packed.rows.items place ≡ Some result.now }
@@ -36,7 +36,7 @@ impl Content {
         packed_row_at(self.packed.rows.as_slice(), place)
     }
 
-    /// The block at a place.
+    /// Returns the block at index `place`.
     pub(crate) fn block(&self, place: usize) -> &Block
         requires { place < length self.now.blocks.items }
         ensures { slice_get self.now.blocks.items place ≡ Some result.now }
@@ -45,7 +45,7 @@ impl Content {
     }
 }
 
-/// The content of a text, which is read over the room of a scratch.
+/// Reads the content of a text, using the memory of `scratch`.
 pub(crate) fn read_text(
     alloc: Global,
     bytes: &[u8],
@@ -63,7 +63,7 @@ pub(crate) fn read_text(
     }
 }
 
-/// The content of a value.
+/// Reads the content of a value.
 fn read_content(alloc: Global, value: &Tree<'_>) -> Result<Content, StateFault>
     ensures ok { IfOk result (ReadsContent (view value.now)) }
     ensures err { IfErr result (λ fault. fault ≢ NoMemory → content_of (view value.now) ≡ Err fault) }
@@ -87,7 +87,7 @@ fn read_content(alloc: Global, value: &Tree<'_>) -> Result<Content, StateFault>
     })
 }
 
-/// The tables of a value's instances.
+/// Reads the tables of a value's instances.
 fn read_tables(alloc: Global, value: &Tree<'_>) -> Result<Tables, StateFault>
     ensures ok { IfOk result (ReadsInstancesOf (view value.now)) }
     ensures err { IfErr result (λ fault. fault ≢ NoMemory → instances_of (view value.now) ≡ Err fault) }
@@ -103,7 +103,8 @@ fn read_tables(alloc: Global, value: &Tree<'_>) -> Result<Tables, StateFault>
     Ok(tables)
 }
 
-/// Refuses too many instances, all of which were read: `TooManyInstances` is told without a request for memory.
+/// Refuses more than 4,096 instances after all of them were read. `TooManyInstances` is returned
+/// without a request for memory.
 fn check_count(count: usize) -> Result<(), StateFault>
     ensures ok { OnOk result (count ≤ 4096) }
     ensures err { IfErr result (λ fault. (fault ≡ TooManyInstances) × (4096 < count)) }

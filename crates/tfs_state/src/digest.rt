@@ -1,4 +1,4 @@
-//! Digests, by which texts are found.
+//! Digests for looking up texts.
 
 ghost use Rattle.std.specs.Prelude.{◌≡◌, ◌++◌};
 ghost use Rattle.std.specs.List.{fold};
@@ -7,17 +7,18 @@ ghost use Rattle.tfs_state.specs.Digest.{digest_of, digest_with};
 /// The digest of no bytes.
 const OFFSET_BASIS: u64 = 14_695_981_039_346_656_037;
 
-/// What a digest is multiplied by for each byte.
+/// The factor that a digest is multiplied by for each byte.
 const PRIME: u64 = 1_099_511_628_211;
 
-/// The digest of a text. Other texts may share it, the more so where someone means them to.
+/// Returns the digest of a text. Different texts may have the same digest, and anyone can construct
+/// such texts.
 pub fn text_digest(text: &str) -> u64
     ensures value { result ≡ digest_of text.now }
 {
     digest_on(OFFSET_BASIS, text.as_bytes())
 }
 
-/// The digest of a text and a rest, from that of the text.
+/// Returns the digest of `text` followed by `rest`, from the digest of `text`.
 pub(crate) fn longer_digest(text: &str, digest: u64, rest: &str) -> u64
     requires { digest ≡ digest_of text.now }
     ensures { result ≡ digest_of (text.now ++ rest.now) }
@@ -25,7 +26,7 @@ pub(crate) fn longer_digest(text: &str, digest: u64, rest: &str) -> u64
     digest_on(digest, rest.as_bytes())
 }
 
-/// The digest of a text, beside another one with its digest: the two are often equal.
+/// Returns the digest of a text. `digest` is the digest of `other`, which often equals the text.
 pub(crate) fn digest_beside(text: &str, other: &str, digest: u64) -> u64
     requires { digest ≡ digest_of other.now }
     ensures { result ≡ digest_of text.now }
@@ -37,7 +38,7 @@ pub(crate) fn digest_beside(text: &str, other: &str, digest: u64) -> u64
     }
 }
 
-/// The digest with more bytes.
+/// Returns the digest extended by more bytes.
 fn digest_on(digest: u64, bytes: &[u8]) -> u64
     ensures { result ≡ fold digest_with digest bytes.now }
 {

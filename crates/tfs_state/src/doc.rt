@@ -20,13 +20,13 @@ use json::Scratch;
 use std::alloc::Global;
 use std::marker::Model;
 
-/// The most bytes that a state may have: 16 MiB.
+/// The maximum number of bytes in a state: 16 MiB.
 pub const MAX_STATE_BYTES: usize = 16_777_216;
 
 // The definitions have this limit as a number.
 const _: () = prove!(MAX_STATE_BYTES == 16_777_216);
 
-/// A state of Terraform's state format, version 4, with its text as it came.
+/// A state of Terraform's state format, version 4, with its unchanged text.
 #[derive(Drop)]
 pub struct Doc {
     bytes: Vec<u8>,
@@ -46,8 +46,11 @@ impl Model for Doc {
 }
 
 impl Doc {
-    /// Reads a state's text, of at most 16 MiB. A refusal is the first fault of the text, in the order of [`StateFault`]. Only `NoMemory`
-    /// is not: it comes if a request for memory is refused. None is made for bytes that aren't UTF-8.
+    /// Reads a state's text of at most 16 MiB.
+    ///
+    /// An error is the first fault of the text, in the order of [`StateFault`], except `NoMemory`,
+    /// which means that a request for memory was refused. No memory is requested for bytes that
+    /// aren't UTF-8.
     pub fn read(alloc: Global, bytes: Vec<u8>) -> Result<Doc, StateFault>
         requires { length bytes.items ≤ 16777216 }
         ensures ok { IfOk result (SpellsDocument bytes.items) }
@@ -58,7 +61,7 @@ impl Doc {
         Doc::read_over(alloc, bytes, &mut Scratch::new(alloc))
     }
 
-    /// Reads a state's text as [`Doc::read`] does, over room that is kept between reads.
+    /// Reads a state's text as [`Doc::read`] does, using memory that is kept between reads.
     pub fn read_over(
         alloc: Global,
         bytes: Vec<u8>,
@@ -74,7 +77,7 @@ impl Doc {
         Ok(Doc { bytes, content })
     }
 
-    /// The text, byte for byte as it came.
+    /// Returns the text, byte for byte as it was read.
     pub fn bytes(&self) -> &[u8]
         ensures value { result.now ≡ self.now.bytes }
         ensures spelled { SpellsDocument self.now.bytes self.now }
@@ -82,21 +85,22 @@ impl Doc {
         self.bytes.as_slice()
     }
 
-    /// How often the state was written: a later state of one lineage has a higher serial.
+    /// Returns the serial, which counts how often the state was written: a later state of the same
+    /// lineage has a higher serial.
     pub fn serial(&self) -> u64
         ensures value { result ≡ self.now.serial }
     {
         self.content.serial
     }
 
-    /// The name that all states of one history bear, in UTF-8.
+    /// Returns the lineage, the name that all states of one history share, in UTF-8.
     pub fn lineage(&self) -> &str
         ensures value { result.now ≡ self.now.lineage }
     {
         self.content.lineage.as_str()
     }
 
-    /// How many resource instances the document lists: 4,096 at most.
+    /// Returns the number of resource instances in the document, at most 4,096.
     pub fn len(&self) -> usize
         ensures value { result ≡ length self.now.instances }
         ensures limit { result ≤ 4096 }
@@ -104,7 +108,7 @@ impl Doc {
         self.content.packed.rows.len()
     }
 
-    /// The address of an instance.
+    /// Returns the address of instance `i`.
     pub fn address(&self, i: usize) -> Address<'_>
         requires { i < length self.now.instances }
         ensures value { address_of self.now i ≡ Some result }
@@ -113,7 +117,7 @@ impl Doc {
         Address::new(block.front.as_str(), row.tail.as_str(), block.front_digest)
     }
 
-    /// The configuration address of an instance.
+    /// Returns the configuration address of instance `i`.
     pub fn config(&self, i: usize) -> &str
         requires { i < length self.now.instances }
         ensures value { config_of self.now i ≡ Some result.now }
@@ -122,7 +126,7 @@ impl Doc {
         block.config.as_str()
     }
 
-    /// The digest of the configuration address of an instance.
+    /// Returns the digest of the configuration address of instance `i`.
     pub fn config_digest(&self, i: usize) -> u64
         requires { i < length self.now.instances }
         ensures value { option_map digest_of (config_of self.now i) ≡ Some result }
@@ -131,7 +135,7 @@ impl Doc {
         block.config_digest
     }
 
-    /// The row of an instance, and its block.
+    /// Returns the row of instance `i` and its block.
     fn row_and_block(&self, i: usize) -> (&PackedRow, &Block)
         requires { i < length self.now.instances }
         ensures address { address_of self.now i
@@ -144,7 +148,7 @@ impl Doc {
         (row, block)
     }
 
-    /// The numbers of the instances' configuration addresses and dependencies.
+    /// Returns the numbers of the instances' configuration addresses and dependencies.
     pub fn numbers(&self) -> Numbers<'_>
         ensures value { IsNumbering self.now result }
     {
@@ -155,7 +159,7 @@ impl Doc {
         )
     }
 
-    /// Whether instance u depends on instance v.
+    /// Returns true if instance `u` depends on instance `v`.
     pub fn depends(&self, u: usize, v: usize) -> bool
         requires u { u < length self.now.instances }
         requires v { v < length self.now.instances }
@@ -169,7 +173,7 @@ impl Doc {
     }
 }
 
-/// Whether a number is among others.
+/// Returns true if `number` is one of `numbers`.
 fn has_number(numbers: &[u32], number: u32) -> bool
     ensures { result ≡ list_any (λ n. n == number) numbers.now }
 {

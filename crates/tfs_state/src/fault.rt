@@ -1,4 +1,4 @@
-//! The faults of state texts.
+//! The errors of reading state texts.
 
 ghost use Rattle.std.specs.Prelude.{◌≡◌};
 ghost use Rattle.tfs_state.specs.declared.fault.StateFault.TheVariants.{NoMemory};
@@ -6,30 +6,34 @@ ghost use Rattle.tfs_state.specs.declared.fault.StateFault.TheVariants.{NoMemory
 use std::alloc::AllocError;
 use thiserror::Error;
 
-/// Why bytes are not read as a state document. The variants stand in the order in which faults are looked for.
+/// The reason why bytes aren't read as a state document. The variants are listed in the order of
+/// the checks; each resource is checked with its instances and their dependencies before the next
+/// one.
 #[derive(Clone, Copy, Debug, PartialEq, Eq, Error)]
 pub enum StateFault {
-    /// The bytes are no JSON text (RFC 8259), or nest deeper than 127.
+    /// The bytes aren't a JSON text (RFC 8259), are nested deeper than 127, or have a number
+    /// outside the range of `serde_json`'s numbers.
     #[error("the state is no JSON text")]
     NotJson,
-    /// The top is no object, or its `version` isn't the whole number 4.
+    /// The value isn't an object, or its `version` isn't the integer 4.
     #[error("the state's version isn't 4")]
     Version,
-    /// `serial` isn't an unsigned 64-bit whole number.
+    /// `serial` isn't an unsigned 64-bit integer.
     #[error("the state's serial isn't an unsigned 64-bit whole number")]
     Serial,
-    /// `lineage` isn't a text, or is the empty one.
+    /// `lineage` isn't a text, or is empty.
     #[error("the state's lineage isn't a text, or is empty")]
     Lineage,
-    /// The element of `resources` with this number isn't a resource by its own members. Where `resources` is no list, the
-    /// number is 0.
+    /// The element of `resources` with this index isn't a resource by its own members. If
+    /// `resources` isn't a list, the index is 0.
     #[error("resource {0} of the state isn't one")]
     Resource(usize),
-    /// Of the resource with the first number, the instance with the second isn't one by its own members.
+    /// In the resource with the first index, the instance with the second index isn't an instance
+    /// by its own members.
     #[error("instance {1} of resource {0} of the state isn't one")]
     Instance(usize, usize),
-    /// Of the resource with the first number and its instance with the second, the dependency with the third isn't a text
-    /// that is stripped.
+    /// In the instance with the second index of the resource with the first, the dependency with
+    /// the third index isn't a text that can be stripped.
     #[error("dependency {2} of instance {1} of resource {0} of the state is no address")]
     Dependency(usize, usize, usize),
     /// There are more than 4,096 instances.

@@ -9,7 +9,7 @@ ghost use Rattle.tfs_state.specs.Parts.{instance_view};
 use tfs_addr::Key;
 use tfs_json::{Tree, is_object, list_at, member_at, optional_text_at, text_of, whole_number_of};
 
-/// What an instance says by its own members.
+/// The own members of an instance.
 #[derive(Clone, Copy)]
 pub(crate) struct InstanceParts<'v, 't> {
     pub(crate) key: Option<Key<'t>>,
@@ -17,7 +17,7 @@ pub(crate) struct InstanceParts<'v, 't> {
     pub(crate) dependencies: &'v [Tree<'t>],
 }
 
-/// The own members of an instance, which is an object.
+/// Reads the own members of an instance, which is an object.
 pub(crate) fn instance_parts<'v, 't>(value: &'v Tree<'t>) -> Option<InstanceParts<'v, 't>>
     ensures { option_map instance_view result ≡ instance_members (view value.now) }
 {
@@ -34,7 +34,8 @@ pub(crate) fn instance_parts<'v, 't>(value: &'v Tree<'t>) -> Option<InstancePart
     })
 }
 
-/// A key, where it is absent, a whole number or a text.
+/// Reads a key, which is absent, an unsigned 64-bit integer or a text. Returns `None` for any other
+/// value.
 fn given_key<'v, 't>(member: Option<&'v Tree<'t>>) -> Option<Option<Key<'t>>>
     ensures { option_map (λ key. option_map key_of key) result
         ≡ key_given (option_map (λ v. view v.now) member.entry) }
@@ -48,7 +49,8 @@ fn given_key<'v, 't>(member: Option<&'v Tree<'t>>) -> Option<Option<Key<'t>>>
     }
 }
 
-/// A deposed text, where it is absent or a text. The empty one counts as absent.
+/// Reads `deposed`, which is absent or a text. An empty text counts as absent. Returns `None` for
+/// any other value.
 fn given_deposed<'t>(value: &Tree<'t>) -> Option<Option<&'t str>>
     ensures { option_map option_copied result ≡ deposed_of (view value.now) }
 {
@@ -58,7 +60,7 @@ fn given_deposed<'t>(value: &Tree<'t>) -> Option<Option<&'t str>>
     }
 }
 
-/// A text that isn't empty.
+/// Returns the text if it isn't empty.
 pub(crate) fn filled(text: &str) -> Option<&str>
     ensures { option_copied result ≡ filled_text text.now }
 {

@@ -1,4 +1,4 @@
-//! Laws of state texts, which hold whoever reads them.
+//! Laws of state texts. They hold for any reader.
 
 ghost use Rattle.std.specs.Prelude.{◌≡◌, ◌≢◌, ℕ, ◌≤◌, ◌↔◌, List, Some, None, Err, length};
 ghost use Rattle.serde_json.specs.Data.{Data};
@@ -9,7 +9,8 @@ ghost use Rattle.tfs_state.specs.StateText.{SpellsDocument, first_state_fault, d
 ghost use Rattle.tfs_state.specs.declared.fault.StateFault.{StateFault};
 ghost use Rattle.tfs_state.specs.declared.fault.StateFault.TheVariants.{NoMemory};
 
-/// Bytes of at most 16 MiB spell one document, or have a first fault, and never both. No text has want of memory as its fault.
+/// States that bytes of at most 16 MiB either are the text of exactly one document or have a first
+/// fault, never both, and that `NoMemory` isn't the first fault of any text.
 pub fn bytes_spell_a_document_or_have_a_fault()
     ensures spelled { (bytes : List ℕ) (d : Document) → SpellsDocument bytes d
         → first_state_fault bytes ≡ None }
@@ -26,8 +27,9 @@ pub fn bytes_spell_a_document_or_have_a_fault()
     ensures memory { (bytes : List ℕ) → first_state_fault bytes ≢ Some NoMemory }
 {}
 
-/// The fault of resources is the first one, by positions: a resource's own before those of its instances, and an instance's own
-/// before those of its dependencies.
+/// States that the fault of resources is the first one by position: a resource's own fault comes
+/// before the faults of its instances, and an instance's own fault before the faults of its
+/// dependencies.
 pub fn faults_are_first_by_position()
     ensures resources { (values : List Data) (fault : StateFault)
         → (read_resources values ≡ Err fault) ↔ IsFirstFault read_resource values fault }

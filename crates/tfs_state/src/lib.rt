@@ -1,5 +1,5 @@
-//! Reads state documents of Terraform's state format, version 4, and keeps their text as it came: the resource instances that
-//! a state lists, their addresses, and which instance depends on which.
+//! Reads state documents of Terraform's state format, version 4, and keeps their unchanged text.
+//! Gives the resource instances in a state, their addresses, and which instance depends on which.
 #![tactic(auto)]
 
 mod address;

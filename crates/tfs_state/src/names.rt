@@ -1,4 +1,4 @@
-//! Numbers in place of texts, while a document is read.
+//! Numbers that represent texts while a document is read.
 
 ghost use Rattle.std.specs.Prelude.{◌≡◌, ◌≤◌, Some, IfOk, OnErr, slice_get, string_bytes, []};
 ghost use Rattle.tfs_state.specs.Names.{AreApart, Extends};
@@ -7,7 +7,8 @@ use indexmap::IndexSet;
 use std::alloc::{AllocError, Global};
 use std::marker::Model;
 
-/// Texts with their numbers: equal texts have one number, and different texts have different ones.
+/// Texts with their numbers: equal texts have the same number, and different texts have different
+/// ones.
 #[derive(Drop)]
 pub(crate) struct Names {
     texts: IndexSet<String>,
@@ -25,7 +26,7 @@ impl Model for Names {
 }
 
 impl Names {
-    /// No texts.
+    /// Creates an empty list of texts.
     pub(crate) fn new(alloc: Global) -> Names
         ensures { result ≡ [] }
     {
@@ -34,7 +35,7 @@ impl Names {
         }
     }
 
-    /// The number of a text, which it is given now, where it has none.
+    /// Returns the number of a text, and assigns one to a new text.
     pub(crate) fn number(&mut self, text: String) -> Result<u32, AllocError>
         ensures grown { IfOk result (λ _. Extends self.old self.new) }
         ensures ok { IfOk result (λ n. slice_get self.new n ≡ Some (string_bytes text)) }
@@ -43,7 +44,7 @@ impl Names {
         short(number)
     }
 
-    /// Equal texts have one number.
+    /// Provides the fact that equal texts have the same number.
     pub(crate) fn apart(&self)
         ensures { AreApart self.now }
     {
@@ -51,7 +52,7 @@ impl Names {
     }
 }
 
-/// The number in 32 bits: a state of 16 MiB has fewer texts than there are such numbers.
+/// Converts a number to 32 bits. A state of 16 MiB has fewer texts than there are 32-bit numbers.
 pub(crate) fn short(number: usize) -> Result<u32, AllocError>
     ensures ok { IfOk result (λ n. n ≡ number) }
     ensures err { OnErr result (4294967296 ≤ number) }

@@ -1,4 +1,4 @@
-//! Numbers in place of configuration addresses and dependencies.
+//! Numbers that represent configuration addresses and dependencies.
 
 ghost use Rattle.std.specs.Prelude.{◌≡◌, ◌<◌, Some, length, slice_get};
 
@@ -6,8 +6,9 @@ use crate::packed::{PackedRow, dependencies_at, packed_row_at};
 use crate::tables::{Block, block_at};
 use std::marker::Model;
 
-/// The configuration addresses and the dependencies of a document's instances as numbers, lent: an instance depends on another
-/// exactly where the number of the other's configuration address is among its dependencies.
+/// The configuration addresses and the dependencies of a document's instances as numbers, borrowed:
+/// an instance depends on another if and only if the number of the other's configuration address is
+/// among its dependencies.
 #[derive(Drop)]
 pub struct Numbers<'a> {
     blocks: &'a [Block],
@@ -28,7 +29,7 @@ impl<'a> Model for Numbers<'a> {
 impl<'a> Numbers<'a> {
     ghost use Rattle.tfs_state.specs.Numbering.{table_of, Fits};
 
-    /// The numbers of these rows, whose dependencies stand in a list of all.
+    /// Creates the numbers of these rows, whose dependencies are in one list.
     pub(crate) fn new(blocks: &'a [Block], rows: &'a [PackedRow], numbers: &'a [u32]) -> Numbers<'a>
         requires { Fits blocks.now rows.now numbers.now }
         ensures { result ≡ table_of blocks.now rows.now numbers.now }
@@ -40,7 +41,7 @@ impl<'a> Numbers<'a> {
         }
     }
 
-    /// The number of an instance's configuration address.
+    /// Returns the number of the configuration address of instance `v`.
     pub fn config(&self, v: usize) -> u32
         requires { v < length self.now.configs }
         ensures value { slice_get self.now.configs v ≡ Some result }
@@ -50,7 +51,7 @@ impl<'a> Numbers<'a> {
         block.number
     }
 
-    /// The numbers of an instance's dependencies, in the order of the text.
+    /// Returns the numbers of the dependencies of instance `u`, in the order of the text.
     pub fn dependencies(&self, u: usize) -> &'a [u32]
         requires { u < length self.now.dependencies }
         ensures value { slice_get self.now.dependencies u ≡ Some result.now }

@@ -1,4 +1,4 @@
-//! The rows that a document keeps: their dependencies stand in one list.
+//! The rows that a document keeps. Their dependencies are in one list.
 
 ghost use Rattle.std.specs.Prelude.{◌≡◌, ◌<◌, [], ◌∷◌, ◌++◌, List, IfOk, OnOk, Some, length, slice_get, take};
 ghost use Rattle.tfs_state.specs.Packed.{ArePacked, IsWithin, dependencies_of};
@@ -8,10 +8,12 @@ use crate::names::short;
 use crate::tables::Row;
 use std::alloc::{AllocError, Global};
 
-/// How many rows are kept: one more than a state may have, by which it is seen that it has too many.
+/// The maximum number of rows that are kept: one more than a state may have, so that too many are
+/// detected.
 pub(crate) const MAX_ROWS: usize = 4097;
 
-/// An instance: the place of its block, what its address ends with, and where its dependencies begin and end in the list of all.
+/// An instance: the index of its block, the end of its address, and the range of its dependencies
+/// in the list of all dependencies.
 #[derive(Drop)]
 pub(crate) struct PackedRow {
     pub(crate) block: usize,
@@ -28,7 +30,7 @@ pub(crate) struct Packed {
 }
 
 impl Packed {
-    /// No rows, and room for so many.
+    /// Creates an empty list with room for `room` rows.
     pub(crate) fn with_room(alloc: Global, room: usize) -> Result<Packed, AllocError>
         ensures { IfOk result (λ packed. packed.rows.items ≡ []) }
     {
@@ -38,7 +40,7 @@ impl Packed {
         })
     }
 
-    /// Packs a row last, if it is one of the first 4,097.
+    /// Packs and appends a row, if it is one of the first 4,097.
     pub(crate) fn keep(&mut self, row: Row) -> Result<(), AllocError>
         ensures { OnOk result ((rows : List RowValue) → ArePacked self.old rows
             → ArePacked self.new (take 4097 (rows ++ row ∷ []))) }
@@ -50,7 +52,7 @@ impl Packed {
         Ok(())
     }
 
-    /// Packs a row last.
+    /// Packs and appends a row.
     fn add(&mut self, row: Row) -> Result<(), AllocError>
         ensures { OnOk result ((rows : List RowValue) → ArePacked self.old rows → ArePacked self.new (rows ++ row ∷ [])) }
     {
@@ -67,7 +69,7 @@ impl Packed {
     }
 }
 
-/// The row at a place.
+/// Returns the row at index `place`.
 pub(crate) fn packed_row_at(rows: &[PackedRow], place: usize) -> &PackedRow
     requires { place < length rows.now }
     ensures { slice_get rows.now place ≡ Some result.now }
@@ -75,7 +77,7 @@ pub(crate) fn packed_row_at(rows: &[PackedRow], place: usize) -> &PackedRow
     &rows[place]
 }
 
-/// The dependencies of a row in the list of all.
+/// Returns the dependencies of a row from the list of all dependencies.
 pub(crate) fn dependencies_at<'a>(numbers: &'a [u32], row: &PackedRow) -> &'a [u32]
     requires { IsWithin numbers.now row.now }
     ensures { result.now ≡ dependencies_of numbers.now row.now }

@@ -9,7 +9,7 @@ use crate::instance::filled;
 use tfs_addr::Mode;
 use tfs_json::{Tree, list_at, optional_text_at, text_at};
 
-/// What a resource says by its own members.
+/// The own members of a resource.
 #[derive(Clone, Copy)]
 pub(crate) struct ResourceParts<'v, 't> {
     pub(crate) path: &'t str,
@@ -19,7 +19,7 @@ pub(crate) struct ResourceParts<'v, 't> {
     pub(crate) instances: &'v [Tree<'t>],
 }
 
-/// The own members of a resource, but for the cutting of its module's path.
+/// Reads the own members of a resource. Whether its module's path reads as pieces isn't checked.
 pub(crate) fn resource_parts<'v, 't>(value: &'v Tree<'t>) -> Option<ResourceParts<'v, 't>>
     ensures { option_map resource_view result ≡ resource_members (view value.now) }
 {
@@ -37,7 +37,7 @@ pub(crate) fn resource_parts<'v, 't>(value: &'v Tree<'t>) -> Option<ResourcePart
     })
 }
 
-/// The path of the module, which is empty for the root module.
+/// Returns the path of the module, which is empty for the root module.
 fn path_of<'t>(value: &Tree<'t>) -> Option<&'t str>
     ensures { option_map (λ path. path.now) result ≡ path_of (view value.now) }
 {
@@ -47,7 +47,7 @@ fn path_of<'t>(value: &Tree<'t>) -> Option<&'t str>
     }
 }
 
-/// The mode that a text names.
+/// Returns the mode that a text names.
 fn mode_named(text: &str) -> Option<Mode>
     ensures { result ≡ mode_named text.now }
 {

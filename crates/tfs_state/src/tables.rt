@@ -1,4 +1,4 @@
-//! What a document keeps of its instances, as it is read from the resources of a JSON value.
+//! The part of a document's instances that is kept, read from the resources of a JSON value.
 
 ghost use Rattle.std.specs.Prelude.{◌≡◌, ◌≢◌, ◌<◌, ◌≤◌, [], ◌∷◌, ◌++◌, map, IfOk, IfErr, OnOk, Some, None, length, slice_get};
 ghost use Rattle.tfs_json.specs.Tree.{tree_view as view};
@@ -19,8 +19,8 @@ use std::alloc::{AllocError, Global};
 use tfs_addr::{AddrFault, config_text, front_text, strip, tail_text};
 use tfs_json::{Tree, is_object, list_at, text_of};
 
-/// What the instances of one resource share: what their addresses begin with, and their configuration address with its number,
-/// both texts with their digests.
+/// The part that the instances of a resource share: the beginning of their addresses, and their
+/// configuration address with its number. Both texts have their digests.
 #[derive(Drop)]
 pub(crate) struct Block {
     pub(crate) front: String,
@@ -30,7 +30,8 @@ pub(crate) struct Block {
     pub(crate) number: u32,
 }
 
-/// An instance as it was read: the place of its block, what its address ends with, and the numbers of its dependencies.
+/// An instance as it is read: the index of its block, the end of its address, and the numbers of
+/// its dependencies.
 #[derive(Drop)]
 pub(crate) struct Row {
     pub(crate) block: usize,
@@ -38,7 +39,8 @@ pub(crate) struct Row {
     pub(crate) dependencies: Vec<u32>,
 }
 
-/// The blocks and the first 4,097 rows of the resources so far, with the texts that their numbers stand for.
+/// The blocks and the first 4,097 rows of the resources read so far, with the texts that their
+/// numbers represent.
 #[derive(Drop)]
 pub(crate) struct Tables {
     pub(crate) blocks: Vec<Block>,
@@ -47,7 +49,7 @@ pub(crate) struct Tables {
 }
 
 impl Tables {
-    /// No resources, and room for so many rows.
+    /// Creates tables without resources, with room for `room` rows.
     fn with_room(alloc: Global, room: usize) -> Result<Tables, AllocError>
         ensures { IfOk result (λ tables. tables.packed.rows.items ≡ []) }
     {
@@ -71,7 +73,7 @@ impl Tables {
         Ok(tables)
     }
 
-    /// Reads resource i.
+    /// Reads resource `i`.
     fn read_resource(&mut self, alloc: Global, value: &Tree<'_>, i: usize) -> Result<(), StateFault>
         ensures ok { OnOk result (ReadsResource i (view value.now) self.old self.new) }
         ensures err { IfErr result (λ fault. fault ≢ NoMemory → read_resource i (view value.now) ≡ Err fault) }
@@ -89,7 +91,8 @@ impl Tables {
         Ok(())
     }
 
-    /// Reads the instances of resource i, whose block is to stand at a place. All are read, and the first 4,097 rows of all stay.
+    /// Reads the instances of resource `i`, whose block will be at index `place`. All of them are
+    /// read, and the first 4,097 rows of the document are kept.
     fn read_instances(
         &mut self,
         alloc: Global,
@@ -109,7 +112,8 @@ impl Tables {
     }
 }
 
-/// How many rows to have room for: one for each instance that the resources list, 4,097 at most. So rows have no room to spare.
+/// Returns the number of rows to reserve: one for each object among the instances of the resources,
+/// at most 4,097. So the rows have no spare capacity.
 fn room_for(list: &[Tree<'_>]) -> usize
     ensures { result ≤ 4097 }
 {
@@ -120,7 +124,7 @@ fn room_for(list: &[Tree<'_>]) -> usize
     count.min(MAX_ROWS)
 }
 
-/// How many of the instances that a resource lists are objects.
+/// Returns the number of objects among the instances of a resource.
 fn instances_in(value: &Tree<'_>) -> usize {
     match list_at(value, "instances") {
         Some(list) => list.iter().filter(|instance| is_object(instance)).count(),
@@ -128,7 +132,7 @@ fn instances_in(value: &Tree<'_>) -> usize {
     }
 }
 
-/// The block of resource i, whose module's path has to have a cutting into pieces.
+/// Reads the block of resource `i`, whose module's path must read as pieces.
 fn read_block(
     alloc: Global,
     resource: ResourceParts<'_, '_>,
@@ -157,7 +161,7 @@ fn read_block(
         resource.kind,
         resource.name,
     )?;
-    // The copy has no room to spare.
+    // The copy has no spare capacity.
     let copy = config.clone()?;
     let number = names.number(config)?;
     let front_digest = text_digest(front.as_str());
@@ -171,7 +175,7 @@ fn read_block(
     })
 }
 
-/// The row of instance j of resource i.
+/// Reads the row of instance `j` of resource `i`.
 fn read_instance(
     alloc: Global,
     value: &Tree<'_>,
@@ -195,7 +199,7 @@ fn read_instance(
     })
 }
 
-/// The numbers of the dependencies of instance j of resource i, stripped.
+/// Reads the numbers of the stripped dependencies of instance `j` of resource `i`.
 fn read_dependencies(
     alloc: Global,
     list: &[Tree<'_>],
@@ -215,7 +219,7 @@ fn read_dependencies(
     Ok(numbers)
 }
 
-/// The number of dependency k of instance j of resource i, stripped.
+/// Reads the number of the stripped dependency `k` of instance `j` of resource `i`.
 fn read_dependency(
     alloc: Global,
     value: &Tree<'_>,
@@ -237,7 +241,7 @@ fn read_dependency(
     }
 }
 
-/// Puts an element last.
+/// Appends an element.
 fn keep<T: Drop>(list: &mut Vec<T>, element: T) -> Result<(), AllocError>
     ensures { OnOk result (list.new.items ≡ list.old.items ++ element ∷ []) }
 {
@@ -245,7 +249,7 @@ fn keep<T: Drop>(list: &mut Vec<T>, element: T) -> Result<(), AllocError>
     Ok(())
 }
 
-/// The block at a place.
+/// Returns the block at index `place`.
 pub(crate) fn block_at(blocks: &[Block], place: usize) -> &Block
     requires { place < length blocks.now }
     ensures { slice_get blocks.now place ≡ Some result.now }
