@@ -12,7 +12,7 @@ pub enum Raw {
     /// Locks the workspace, with the lock information in the body.
     Lock(Bytes),
     /// Unlocks the workspace. The identifier of the lock is in the body or, if the body is empty,
-    /// in the text.
+    /// in the text. An unlock without either is forced.
     Unlock(Bytes, Option<Text>),
     /// Replaces the workspace's state with the state in the body.
     Push(Option<Text>, Bytes),

@@ -92,7 +92,7 @@ impl Draft {
         &self.act
     }
 
-    /// Returns the act.
+    /// Turns the draft into its act.
     pub fn into_act(self) -> Act
         ensures value { act_value result ≡ self }
     {

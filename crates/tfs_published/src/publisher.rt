@@ -209,7 +209,7 @@ impl<J: Naming> Publisher<J> {
     }
 
     /// Publishes the staged change of the name with this number. Waits for readers that are still
-    /// in the copy before.
+    /// in the previous copy.
     pub fn publish<R: Wait>(&mut self, rt: &R, number: usize)
         requires number { number < 1024 }
         requires room { position_of self.old.journal < 9223372036854775808 }

@@ -27,7 +27,7 @@ impl Replaced {
 
     /// Adds the version that a published change has replaced, if there is one. The copy that
     /// readers don't enter has it until the next change is published. That copy no longer has the
-    /// version that the change before has replaced.
+    /// version that the previous change replaced.
     pub fn add(&mut self, version: Option<Arc<Version>>)
         ensures value { self.new ≡ record { latest = version; earlier = self.old.latest } }
     {

@@ -30,8 +30,8 @@ pub record ReadyValue : Type 0 where
   pub journal : Journal
   pub entry : EntryValue
 
--- The invariant of a ready change: its journal accepts it, its number is the one of the name, and
--- its version is of the state that the name has afterwards.
+-- The invariant of a ready change: its journal accepts it, its number is the name's, and its
+-- version is of the state that the name has afterwards.
 pub record IsReady (r : ReadyValue) (own_name : List ℕ) (own_number : ℕ) (own_act : ActValue) (own_version : Option Document) (bytes :
     List ℕ) : Type 0 where
   pub name : own_name ≡ r.entry.name
