@@ -3,7 +3,7 @@ use Rattle.std.specs.Prelude.{Option, Some, None}
 use Rattle.tfs_state.specs.Document.{Document}
 use Rattle.tfs_rules.specs.Act.{ActValue, lock, unlock, push, delete}
 
--- None but for a push.
+-- The document of a push; none for any other act.
 abbrev pub pushed_by : ActValue → Option Document
 pushed_by (lock info) = None
 pushed_by (unlock id) = None

@@ -1,5 +1,5 @@
--- Refusals as plain values, and the table of refusals: number, name and status of each (statuses of RFC 9110, 4918 and
--- 6585).
+-- Refusals as plain values, and the table of refusals: number, name and HTTP status of each (RFC
+-- 9110, RFC 4918 and RFC 6585).
 use Rattle.std.specs.Prelude.{ℕ, List, codes}
 use Rattle.std.specs.Arc.{arc_value}
 use Rattle.tfs_lock.specs.LockInfo.{LockInformation}
@@ -12,8 +12,8 @@ use Rattle.tfs_calls.specs.declared.refusal.Refusal.TheVariants.{LockLost, Linea
 use Rattle.tfs_calls.specs.declared.refusal.Refusal.TheVariants.{NoAddress, TooManyAddresses, UnknownAddress, TableFull, JournalFull}
 use Rattle.tfs_calls.specs.declared.refusal.Refusal.TheVariants.{OutOfMemory, JournalFault, NoCopy}
 
--- Why a request is refused. `locked` has the information of the holder, where the program's refusal has a pointer to it, and
--- `method_not_allowed` the methods of the route.
+-- Why a request is refused. `locked` has the lock information of the holder, to which the program's
+-- refusal has a pointer; `method_not_allowed` has the methods of the route.
 pub data RefusalValue : Type 0 where
   head_too_large : RefusalValue
   bad_head : RefusalValue
@@ -77,7 +77,7 @@ refusal_value OutOfMemory = out_of_memory
 refusal_value JournalFault = journal_fault
 refusal_value NoCopy = no_copy
 
--- What is told of a refusal.
+-- What a reply reports of a refusal.
 pub record RefusalRow : Type 0 where
   pub number : ℕ
   pub name : List ℕ

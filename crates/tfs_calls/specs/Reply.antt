@@ -1,4 +1,4 @@
--- A reply as a plain value: where the program's replies have pointers, this has what they point to.
+-- A reply as a plain value. If the program's reply has a pointer, this has what it points to.
 use Rattle.std.specs.Prelude.{ℕ, List}
 use Rattle.std.specs.Arc.{arc_value}
 use Rattle.tfs_state.specs.Document.{Document}
@@ -6,8 +6,8 @@ use Rattle.tfs_calls.specs.Refusal.{RefusalValue, refusal_value}
 use Rattle.tfs_calls.specs.declared.reply.Reply.{Reply}
 use Rattle.tfs_calls.specs.declared.reply.Reply.TheVariants.{Done, State, Impact, Refused}
 
--- The answer to a call: a change was accepted, the state that was asked for, the instances of a document that a query chooses with the
--- position of the journal, or a refusal.
+-- The reply to a call: the position after an accepted change; the requested state; the instances of
+-- a document that a query chooses, with the position of the journal; or a refusal.
 pub data ReplyValue : Type 0 where
   done : ℕ → ReplyValue
   state : Document → ReplyValue

@@ -1,10 +1,10 @@
-//! Bytes as a call carries them.
+//! The bytes that a call carries.
 
 ghost use Rattle.std.specs.Prelude.{◌≡◌};
 
 use std::marker::Model;
 
-/// A list of bytes, made from a vector and given back without taking memory.
+/// A byte string, made from a vector and turned back into it without allocating.
 #[derive(Drop)]
 pub struct Bytes {
     bytes: Vec<u8>,

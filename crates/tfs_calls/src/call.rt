@@ -1,31 +1,32 @@
-//! What is asked of a table.
+//! The calls of a table.
 
 use crate::bytes::Bytes;
 use crate::query::Query;
 use crate::text::Text;
 use tfs_rules::Name;
 
-/// A change of a workspace, before its texts are read. A text is the identifier of a lock as the request gives it beside
-/// its body; the empty one counts as none.
+/// A change of a workspace before its texts are read. A text is the lock identifier that the
+/// request gives in addition to its body; an empty one counts as none.
 #[derive(Drop)]
 pub enum Raw {
-    /// Takes the lock, with the information that the body spells.
+    /// Locks the workspace, with the lock information in the body.
     Lock(Bytes),
-    /// Gives the lock back: the one of the identifier in the body or, where the body is empty, of the text.
+    /// Unlocks the workspace. The identifier of the lock is in the body or, if the body is empty,
+    /// in the text. An unlock without either is forced.
     Unlock(Bytes, Option<Text>),
-    /// Makes the state that the body spells the workspace's state.
+    /// Replaces the workspace's state with the state in the body.
     Push(Option<Text>, Bytes),
-    /// Takes the workspace's state away.
+    /// Deletes the workspace's state.
     Delete(Option<Text>),
 }
 
 /// A request to a table.
 #[derive(Drop)]
 pub enum Call {
-    /// Asks for the state of a name.
+    /// Reads the state of a name.
     Read(Name),
     /// Changes the workspace of a name.
     Change(Name, Raw),
-    /// Asks for the impact of changes in the state of a name.
+    /// Queries the impact of changes in the state of a name.
     Impact(Name, Query),
 }

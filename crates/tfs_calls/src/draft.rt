@@ -25,11 +25,12 @@ use tfs_lock::{Id, LockFault, LockInfo, bytes_spell_lock_info_or_have_a_fault};
 use tfs_rules::Act;
 use tfs_state::{Doc, StateFault, bytes_spell_a_document_or_have_a_fault};
 
-/// The longest state that is read over lent room. Who lends it may keep it for ever, so a longer one has room of its own.
+/// The largest state that is read with a caller's scratch, in bytes. The owner may keep the
+/// scratch's memory for ever, so a larger state gets memory of its own.
 const MAX_LENT_BYTES: usize = 1_048_576;
 
-/// An act that was read from a raw change, and that no table has judged yet, with the version of the document that it pushes. What
-/// it holds was read from its bytes.
+/// An act that was read from a raw change and that no table has judged yet, with the version of the
+/// document that it pushes. Its contents were read from their bytes.
 #[derive(Drop)]
 pub struct Draft {
     act: Act,
@@ -50,9 +51,9 @@ impl Model for Draft {
 }
 
 impl Draft {
-    /// Reads the texts of a raw change. A refusal is `BadLockInfo`, `BadState` or `TooManyInstances`, the first that fits, but for
-    /// `OutOfMemory`, which comes wherever a request for memory is refused. A change that has no body, or is refused before
-    /// its body is looked at, requests none.
+    /// Reads the texts of a raw change. Fails with `BadLockInfo`, `BadState` or `TooManyInstances`,
+    /// the first that applies, or with `OutOfMemory` wherever memory is refused. A change that has
+    /// no body, or is refused before its body is read, allocates nothing.
     pub fn read(alloc: Global, raw: Raw) -> Result<Draft, Refusal>
         requires { HasFittingState raw }
         ensures ok { IfOk result (λ draft. act_of raw ≡ Some draft) }
@@ -63,7 +64,8 @@ impl Draft {
         Draft::read_over(alloc, raw, &mut Scratch::new(alloc))
     }
 
-    /// Reads the texts of a raw change as [`Draft::read`] does, a state of at most 1 MiB over room that is kept between reads.
+    /// Reads the texts of a raw change as [`Draft::read`] does. A state of at most 1 MiB is read
+    /// with the memory of a scratch, which is kept between reads.
     pub fn read_over(alloc: Global, raw: Raw, scratch: &mut Scratch) -> Result<Draft, Refusal>
         requires { HasFittingState raw }
         ensures ok { IfOk result (λ draft. act_of raw ≡ Some draft) }
@@ -82,7 +84,7 @@ impl Draft {
         Ok(Draft { act, version })
     }
 
-    /// The act, lent.
+    /// Returns a reference to the act.
     pub fn act(&self) -> &Act
         ensures value { act_value result.now ≡ self.now }
         ensures read { IsRead self.now }
@@ -90,7 +92,7 @@ impl Draft {
         &self.act
     }
 
-    /// The act, given up.
+    /// Turns the draft into its act.
     pub fn into_act(self) -> Act
         ensures value { act_value result ≡ self }
     {
@@ -98,7 +100,7 @@ impl Draft {
         act
     }
 
-    /// The act, and the version of the document that it pushes.
+    /// Returns the act, and the version of the document that it pushes.
     pub fn into_parts(self) -> (Act, Option<Arc<Version>>)
         ensures act { act_value result.0 ≡ self }
         ensures version { option_map arc_value result.1 ≡ pushed_by self }
@@ -108,7 +110,7 @@ impl Draft {
     }
 }
 
-/// The version of the document that an act pushes. Only a push takes memory.
+/// Builds the version of the document that an act pushes. Only a push allocates.
 fn version_of(alloc: Global, act: &Act) -> Result<Option<Arc<Version>>, Refusal>
     ensures ok { IfOk result (λ version. option_map arc_value version ≡ pushed_by (act_value act.now)) }
     ensures err { IfErr result (λ refusal. refusal_value refusal ≡ out_of_memory) }
@@ -126,7 +128,7 @@ fn version_of(alloc: Global, act: &Act) -> Result<Option<Arc<Version>>, Refusal>
     }
 }
 
-/// A lock by the lock information of the body.
+/// Reads a lock from the lock information in the body.
 fn read_lock(alloc: Global, body: Bytes) -> Result<Act, Refusal>
     ensures ok { IfOk result (λ act. act_of (Lock body) ≡ Some (act_value act)) }
     ensures err { IfErr result (λ refusal. (refusal_value refusal ≡ out_of_memory)
@@ -140,7 +142,8 @@ fn read_lock(alloc: Global, body: Bytes) -> Result<Act, Refusal>
     }
 }
 
-/// An unlock by the lock information of the body or, where the body is empty, by the text.
+/// Reads an unlock, with the identifier in the lock information of the body or, if the body is
+/// empty, in the text.
 fn read_unlock(alloc: Global, body: Bytes, text: Option<Text>) -> Result<Act, Refusal>
     ensures ok { IfOk result (λ act. act_of (Unlock body text) ≡ Some (act_value act)) }
     ensures err { IfErr result (λ refusal. (refusal_value refusal ≡ out_of_memory)
@@ -157,7 +160,7 @@ fn read_unlock(alloc: Global, body: Bytes, text: Option<Text>) -> Result<Act, Re
     }
 }
 
-/// A push of the document of the body, with the identifier of the text.
+/// Reads a push of the document in the body, with the identifier in the text.
 fn read_push(
     alloc: Global,
     text: Option<Text>,
@@ -175,7 +178,7 @@ fn read_push(
     Ok(Act::Push(id, doc))
 }
 
-/// A delete with the identifier of the text.
+/// Reads a delete with the identifier in the text.
 fn read_delete(text: Option<Text>) -> Result<Act, Refusal>
     ensures ok { IfOk result (λ act. act_of (Delete text) ≡ Some (act_value act)) }
     ensures err { IfErr result (λ refusal. (refusal_value refusal ≡ draft_refusal (Delete text))
@@ -184,7 +187,7 @@ fn read_delete(text: Option<Text>) -> Result<Act, Refusal>
     Ok(Act::Delete(read_id(text)?))
 }
 
-/// The identifier that a text gives.
+/// Reads the identifier that a text gives, if it gives one.
 fn read_id(text: Option<Text>) -> Result<Option<Id>, Refusal>
     ensures ok { IfOk result (λ id. (id ≡ id_given text) × (is_too_long text ≡ false)) }
     ensures err { IfErr result (λ refusal. (refusal_value refusal ≡ bad_lock_info) × (is_too_long text ≡ true)) }
@@ -201,7 +204,7 @@ fn read_id(text: Option<Text>) -> Result<Option<Id>, Refusal>
     }
 }
 
-/// The lock information that the bytes spell.
+/// Reads lock information.
 fn read_info(alloc: Global, bytes: Vec<u8>) -> Result<LockInfo, Refusal>
     ensures ok { IfOk result (λ info. lock_info_of bytes.items ≡ Some info) }
     ensures err { IfErr result (λ refusal. (refusal_value refusal ≡ out_of_memory)
@@ -215,7 +218,7 @@ fn read_info(alloc: Global, bytes: Vec<u8>) -> Result<LockInfo, Refusal>
     }
 }
 
-/// The refusal that a fault of a lock text asks for.
+/// Returns the refusal for a fault of a lock text.
 fn refusal_of_lock_text(fault: LockFault) -> Refusal
     ensures { refusal_value result ≡ lock_refusal fault }
 {
@@ -227,7 +230,7 @@ fn refusal_of_lock_text(fault: LockFault) -> Refusal
     }
 }
 
-/// The document that the bytes spell.
+/// Reads a document.
 fn read_doc(alloc: Global, bytes: Vec<u8>, scratch: &mut Scratch) -> Result<Arc<Doc>, Refusal>
     requires { length bytes.items ≤ 16777216 }
     ensures ok { IfOk result (λ doc. document_of bytes.items ≡ Some (arc_value doc)) }
@@ -244,7 +247,7 @@ fn read_doc(alloc: Global, bytes: Vec<u8>, scratch: &mut Scratch) -> Result<Arc<
     }
 }
 
-/// Reads a state, over room of its own where it has more than 1 MiB.
+/// Reads a state, with memory of its own if it has more than 1 MiB.
 fn read_state(alloc: Global, bytes: Vec<u8>, scratch: &mut Scratch) -> Result<Doc, StateFault>
     requires { length bytes.items ≤ 16777216 }
     ensures ok { IfOk result (SpellsDocument bytes.items) }
@@ -257,7 +260,7 @@ fn read_state(alloc: Global, bytes: Vec<u8>, scratch: &mut Scratch) -> Result<Do
     Doc::read_over(alloc, bytes, scratch)
 }
 
-/// The refusal that a fault of a state text asks for.
+/// Returns the refusal for a fault of a state text.
 fn refusal_of_state_text(fault: StateFault) -> Refusal
     ensures { refusal_value result ≡ state_refusal fault }
 {

@@ -12,7 +12,8 @@ use std::marker::Model;
 use std::sync::Arc;
 use tfs_index::{ImpactFault, MAX_TEXTS, Version};
 
-/// Numbers of instances in order, made from a vector and given back without taking memory. Contracts see their list.
+/// Numbers of instances in order, made from a vector and turned back into it without allocating.
+/// Contracts see their list.
 #[derive(Drop)]
 pub struct Chosen {
     numbers: Vec<usize>,
@@ -46,8 +47,8 @@ impl Chosen {
     }
 }
 
-/// The answer to a query: the instances that a change has effects on, in the version that was asked, and the position of the
-/// journal then.
+/// The answer to a query: the instances that a change affects, by their numbers in the version that
+/// was queried, and the position of the journal then.
 #[derive(Drop)]
 pub struct Impact {
     pub version: Arc<Version>,
@@ -56,8 +57,8 @@ pub struct Impact {
 }
 
 impl Query {
-    /// The instances of a version that the query chooses, by their numbers, rising. No memory is asked for where there are no texts or
-    /// too many.
+    /// Returns the instances of a version that the query chooses, by their numbers in ascending
+    /// order. Allocates nothing if there are no texts or too many.
     pub fn choose(&self, alloc: Global, version: &Version) -> Result<Chosen, Refusal>
         ensures faultless { OnOk result (query_refusal version.now self.now ≡ None) }
         ensures ok { IfOk result (λ chosen. chosen ≡ chosen_by version.now self.now) }
@@ -81,13 +82,13 @@ impl Query {
     }
 }
 
-/// The refusal of a query for the number of its texts.
+/// Returns the refusal of a query for the number of its texts, if it has none or more than 64.
 fn refusal_of_count(version: &Version, query: &Query) -> Option<Refusal>
     ensures some { IfSome result (λ refusal. query_refusal version.now query.now ≡ Some (refusal_value refusal)) }
     ensures memory { IfSome result (λ refusal. refusal_value refusal ≢ out_of_memory) }
     ensures none { IfNone result ((0 < length query.now.texts) × (length query.now.texts ≤ 64)) }
 {
-    // The version stands in the contract alone: the same number is refused over each.
+    // Only the contract uses the version: the same counts are refused for each version.
     let _ = version;
     let texts = query.texts.as_slice();
     if texts.is_empty() {
@@ -99,7 +100,7 @@ fn refusal_of_count(version: &Version, query: &Query) -> Option<Refusal>
     None
 }
 
-/// Texts, lent.
+/// Returns references to the texts.
 fn lent<'t>(alloc: Global, texts: &'t [Text]) -> Result<Vec<&'t str>, AllocError>
     ensures { IfOk result (λ lent. map (λ t. t.now) lent.items ≡ texts.now) }
 {
@@ -110,7 +111,7 @@ fn lent<'t>(alloc: Global, texts: &'t [Text]) -> Result<Vec<&'t str>, AllocError
     Ok(lent)
 }
 
-/// The refusal that a fault of a query asks for.
+/// Returns the refusal for a fault of a query.
 fn refusal_of_query(fault: ImpactFault) -> Refusal
     ensures { refusal_value result ≡ fault_refusal fault }
 {

@@ -1,5 +1,5 @@
-//! What is asked of a table of workspaces and what it answers: calls, drafts of changes, queries, replies and refusals, and the
-//! transition between them.
+//! The calls of a table of workspaces and its replies: drafts of changes, queries, refusals, and
+//! the transition from calls to replies.
 #![tactic(auto)]
 
 mod bytes;

@@ -5,16 +5,17 @@ ghost use Rattle.std.specs.Prelude.{◌≡◌};
 use crate::text::Text;
 use std::marker::Model;
 
-/// What a query asks for.
+/// What a query chooses.
 #[derive(Clone, Copy, Debug, PartialEq, Eq)]
 pub enum Kind {
-    /// The instances that some named one reaches.
+    /// The instances that at least one named instance reaches.
     Any,
-    /// The instances for which each text names one that reaches them.
+    /// The instances that, for each text, an instance named by that text reaches.
     All,
 }
 
-/// Texts in order, made from a vector and given back without taking memory. Contracts see their list.
+/// Texts in order, made from a vector and turned back into it without allocating. Contracts see
+/// their list.
 #[derive(Drop)]
 pub struct Texts {
     texts: Vec<Text>,
@@ -48,7 +49,7 @@ impl Texts {
     }
 }
 
-/// A query for the impact of changes: texts that name instances, and what is asked of them.
+/// A query for the impact of changes: texts that name instances, and what is chosen by them.
 #[derive(Drop)]
 pub struct Query {
     pub kind: Kind,

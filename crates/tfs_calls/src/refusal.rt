@@ -1,4 +1,4 @@
-//! The refusals of requests, in the order in which they are looked for.
+//! The refusals of requests, in the order of their checks.
 
 ghost use Rattle.std.specs.Prelude.{◌≡◌};
 ghost use Rattle.tfs_calls.specs.declared.refusal.Refusal.TheVariants.{OutOfMemory};
@@ -10,17 +10,18 @@ use std::sync::Arc;
 use tfs_lock::LockInfo;
 use thiserror::Error;
 
-/// The methods that a route takes.
+/// The methods that a route allows.
 #[derive(Clone, Copy, Debug, PartialEq, Eq)]
 pub enum Methods {
-    /// Those of `/state/{name}`.
+    /// The methods of `/state/{name}`.
     State,
-    /// Those of `/impact/{name}/any` and `/impact/{name}/all`.
+    /// The methods of `/impact/{name}/any` and `/impact/{name}/all`.
     Impact,
 }
 
-/// Why a request is refused. A refusal that stands earlier comes first, but for `OutOfMemory`, which comes wherever a
-/// request for memory is refused.
+/// Why a request is refused. If several refusals apply, the earlier variant is reported, with three
+/// exceptions: `OutOfMemory` comes wherever memory is refused, `BodyTooLarge` and `BadChunk` of a
+/// body in chunks come in the order of the bytes, and `NoCopy` comes before `JournalStopped`.
 #[derive(Drop, Error)]
 pub enum Refusal {
     #[error("the head of the request is too large")]
@@ -53,7 +54,7 @@ pub enum Refusal {
     TooManyInstances,
     #[error("the journal has failed and takes no more changes")]
     JournalStopped,
-    /// With the information of the lock that is held.
+    /// The workspace is locked, with this lock information.
     #[error("the workspace is locked")]
     Locked(Arc<LockInfo>),
     #[error("nobody holds the lock that the request names")]
@@ -70,7 +71,7 @@ pub enum Refusal {
     NoAddress,
     #[error("the query has more than 64 addresses")]
     TooManyAddresses,
-    /// With the number of the address, from 0.
+    /// An address of the query, with this number from 0, names no instance.
     #[error("address {0} of the query names nothing")]
     UnknownAddress(usize),
     #[error("there are too many workspaces")]
@@ -96,28 +97,29 @@ impl From<AllocError> for Refusal {
 impl Refusal {
     ghost use Rattle.tfs_calls.specs.Refusal.{row_of, refusal_value};
 
-    /// The refusal's number in the list of all refusals.
+    /// Returns the refusal's number in the list of all refusals.
     pub fn number(&self) -> u8
         ensures number { result ≡ (row_of (refusal_value self.now)).number }
     {
         self.row().0
     }
 
-    /// The refusal's name, as replies tell it.
+    /// Returns the refusal's name, as replies report it.
     pub fn name(&self) -> &'static str
         ensures name { result.now ≡ (row_of (refusal_value self.now)).name }
     {
         self.row().1
     }
 
-    /// The status of a reply that tells the refusal (RFC 9110, section 15; RFC 6585, section 5; RFC 4918, section 11).
+    /// Returns the HTTP status of a reply with this refusal (RFC 9110, section 15; RFC 6585,
+    /// section 5; RFC 4918, section 11).
     pub fn status(&self) -> u16
         ensures status { result ≡ (row_of (refusal_value self.now)).status }
     {
         self.row().2
     }
 
-    /// The table of refusals: number, name and status.
+    /// Returns the refusal's row in the table of refusals: number, name and status.
     fn row(&self) -> (u8, &'static str, u16)
         ensures number { result.0 ≡ (row_of (refusal_value self.now)).number }
         ensures name { result.1.now ≡ (row_of (refusal_value self.now)).name }

@@ -1,19 +1,19 @@
-//! What a table answers.
+//! The replies of a table.
 
 use crate::impact::Impact;
 use crate::refusal::Refusal;
 use std::sync::Arc;
 use tfs_state::Doc;
 
-/// The answer to a call.
+/// The reply to a call.
 #[derive(Drop)]
 pub enum Reply {
-    /// The change was accepted; the number of acts of the journal, its base's with them.
+    /// The change was accepted. Carries the position of the journal after it.
     Done(u64),
-    /// The state that was asked for.
+    /// The requested state.
     State(Arc<Doc>),
-    /// The instances that a change has effects on.
+    /// The instances that a change affects.
     Impact(Impact),
-    /// Nothing was changed, for this reason.
+    /// The call was refused for this reason, and the journal is unchanged.
     Refused(Refusal),
 }

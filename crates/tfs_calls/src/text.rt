@@ -1,10 +1,11 @@
-//! A text as a call carries it.
+//! The text that a call carries.
 
 ghost use Rattle.std.specs.Prelude.{◌≡◌, string_bytes};
 
 use std::marker::Model;
 
-/// A text, made from a string and given back without taking memory. Contracts see its UTF-8 bytes.
+/// A text, made from a string and turned back into it without allocating. Contracts see its UTF-8
+/// bytes.
 #[derive(Drop)]
 pub struct Text {
     text: String,

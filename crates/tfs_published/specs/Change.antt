@@ -1,17 +1,18 @@
--- What the history of a shared table lists.
+-- The changes in the history of a shared table.
 use Rattle.std.specs.Prelude.{ℕ, List, ◌++◌, map, fold, Option, None}
 use Rattle.tfs_state.specs.Document.{Document}
 use Rattle.tfs_rules.specs.History.{state_of}
 use Rattle.tfs_records.specs.Journal.{EntryValue, Journal, with_entry, acts_of}
 use Rattle.tfs_table.specs.Ready.{ReadyValue}
 
--- An accepted change: the number of the session that made it, its entry, and the state that its name has afterwards.
+-- An accepted change: the number of the session that made it, its entry, and the state that its
+-- name has afterwards.
 pub record ChangeValue : Type 0 where
   pub maker : ℕ
   pub entry : EntryValue
   pub state : Option Document
 
--- The change that is ready, as a session makes it.
+-- The change that a session makes of a ready one.
 abbrev pub change_of : ℕ → ReadyValue → ChangeValue
 change_of maker ready = record { maker = maker; entry = ready.entry; state = state_of (acts_of ready.entry.name (with_entry ready.journal ready.entry)) }
 
@@ -27,6 +28,6 @@ makers_of = map (λ change. change.maker)
 abbrev pub journal_after : Journal → List ChangeValue → Journal
 journal_after j changes = record { base = j.base; entries = j.entries ++ entries_of changes }
 
--- The state that the last of these changes tells.
+-- The state of the last of these changes; none if there are no changes.
 abbrev pub state_told : List ChangeValue → Option Document
 state_told = fold (λ before change. change.state) None

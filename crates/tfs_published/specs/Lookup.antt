@@ -5,7 +5,8 @@ use Rattle.tfs_state.specs.Document.{Document}
 use Rattle.tfs_published.specs.declared.lookup.Lookup.{Lookup}
 use Rattle.tfs_published.specs.declared.lookup.Lookup.TheVariants.{NoState, Lost, Kept}
 
--- What is found of a name with this state: that there is none, a version of it, or that its version is lost.
+-- The result of looking up a name with this state: that it has none, its version, or that its
+-- version is lost.
 abbrev pub IsLookup : Lookup → Option Document → Type 0
 IsLookup NoState state = state ≡ None
 IsLookup (Kept version) state = state ≡ Some (arc_value version)

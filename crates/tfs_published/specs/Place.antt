@@ -7,13 +7,13 @@ use Rattle.tfs_published.specs.declared.place.Place.{Place}
 use Rattle.tfs_published.specs.declared.place.Place.TheVariants.{Empty, Kept, Lost}
 use Rattle.tfs_published.specs.declared.view.PlaceView.{PlaceView}
 
--- What a place has in it, if anything.
+-- The contents of a place, if it isn't empty.
 abbrev pub place_view : Place → Option PlaceView
 place_view Empty = None
 place_view (Kept name version) = Some (place_with name (option_map arc_value version))
 place_view (Lost place) = Some place
 
--- Whether a place has this name.
+-- A place has this name.
 abbrev pub has_name : List ℕ → Option PlaceView → Bool
 has_name name None = false
 has_name name (Some place) = bytes_eq place.name name

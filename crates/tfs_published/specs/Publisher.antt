@@ -1,4 +1,4 @@
--- What lies under the lock beside the table.
+-- The publisher: what the lock protects in addition to the table.
 use Rattle.std.specs.Prelude.{◌≡◌, ℕ, List, [], Option, Some, None, IfSome}
 use Rattle.logbook.specs.Pages.{Book}
 use Rattle.tfs_records.specs.Journal.{Journal}
@@ -7,8 +7,8 @@ use Rattle.tfs_published.specs.Published.{IsPublished, StandsFor, Queues}
 use Rattle.tfs_published.specs.declared.view.CopyView.{CopyView}
 use Rattle.tfs_published.specs.declared.operation.Operation.{Operation}
 
--- What callers see: the journal that is published, and which sessions made its changes beyond the opening journal; both of what is to be
--- published next; and the copy that readers are shown.
+-- What callers see: the published journal, and the sessions that made its changes after the opening
+-- journal; the same for what is published next; and the copy that readers enter.
 pub record PublisherView : Type 0 where
   pub journal : Journal
   pub makers : List ℕ
@@ -16,18 +16,19 @@ pub record PublisherView : Type 0 where
   pub next_makers : Option (List ℕ)
   pub shown : Option CopyView
 
--- Readers are shown a copy that stands for what is published.
+-- The copy that readers enter represents the published journal.
 pub record Shows (publisher : PublisherView) : Type 0 where
   pub copy : CopyView
   pub shown : publisher.shown ≡ Some copy
   pub published : IsPublished copy publisher.journal
 
--- What is queued: nothing, or the update that leads to the next token.
+-- The queued operations: none, or the update that leads to the next token.
 abbrev pub IsQueue : Journal → CopyView → Option TokenValue → List Operation → Type 0
 IsQueue opening copy None queued = queued ≡ []
 IsQueue opening copy (Some next) queued = (queues : Queues opening copy queued) × (queues.update.token ≡ next)
 
--- What a publisher keeps: the copy that readers are shown has the newest token, and stands for the journal after its changes.
+-- The invariant of a publisher: the copy that readers enter has the newest token, and represents
+-- the journal after its changes.
 pub record IsPublisher (book : Book) (opening : Journal) (newest : TokenValue) (next : Option TokenValue) (shown : Option CopyView)
     (queued : Option (List Operation)) : Type 0 where
   pub copy : CopyView

@@ -1,4 +1,4 @@
--- What a session sees in a copy.
+-- What a session reads in a copy.
 use Rattle.std.specs.Prelude.{◌≡◌, ℕ, List}
 use mathlib.Core.List.{IsPrefix}
 use Rattle.tfs_rules.specs.History.{state_of}
@@ -11,14 +11,16 @@ use Rattle.tfs_published.specs.Token.{TokenValue}
 use Rattle.tfs_published.specs.declared.snapshot.Snapshot.{Snapshot}
 use Rattle.tfs_published.specs.declared.view.CopyView.{CopyView}
 
--- What is seen of a name in a copy that begins with an earlier token: all of the copy, and what it has of the name.
+-- What is read of a name in a copy that has an earlier token's changes as a prefix: the copy's
+-- token and position, and what it has of the name.
 pub record IsSnapshot (copy : CopyView) (earlier : TokenValue) (name : List ℕ) (snapshot : Snapshot) : Type 0 where
   pub all : snapshot.token ≡ copy.token
   pub begins : IsPrefix earlier.changes copy.token.changes
   pub position : snapshot.position ≡ copy.position
   pub lookup : (j : Journal) → ArePlacesOf j copy.places → IsLookup snapshot.lookup (state_of (acts_of name j))
 
--- What is seen of a name over the journal after a token's changes, which is lawful, and which begin with those of an earlier token.
+-- What is read of a name over the lawful journal after a token's changes, which have an earlier
+-- token's changes as a prefix.
 pub record IsSeen (opening : Journal) (earlier : TokenValue) (name : List ℕ) (snapshot : Snapshot) : Type 0 where
   pub same_book : snapshot.token.book ≡ earlier.book
   pub begins : IsPrefix earlier.changes snapshot.token.changes

@@ -1,4 +1,4 @@
-//! What the history of a shared table lists.
+//! The changes in the history of a shared table.
 
 use std::marker::Model;
 use std::sync::Arc;
@@ -6,8 +6,8 @@ use tfs_index::Version;
 use tfs_records::Entry;
 use tfs_table::Ready;
 
-/// An accepted change: the number of the session that made it, its entry, and the version that its name has afterwards. No value of it
-/// is made, since the history exists for contracts alone.
+/// An accepted change: the number of the session that made it, its entry, and the version that its
+/// name has afterwards. No value of it is made, since the history exists only for contracts.
 #[derive(Drop)]
 pub struct Change {
     maker: u64,
@@ -25,7 +25,7 @@ impl Model for Change {
     ghost view = { λ c. record { maker = c.maker; entry = c.entry; state = option_map arc_value c.version } };
 }
 
-/// A change that is ready, and the number of the session that makes it.
+/// A ready change, and the number of the session that makes it.
 #[derive(Drop)]
 pub struct Making<'r> {
     pub(crate) ready: &'r Ready,

@@ -9,7 +9,7 @@ use crate::token::{Token, start};
 use logbook::{Gain, Plain, Play, Rule, Seen, Start, Word};
 use std::marker::{Model, PhantomData};
 
-/// The rule of the history: its word counts its changes.
+/// The rule of the history: its word has the number of its changes.
 pub struct Law;
 
 impl Rule<Change, u64> for Law {
@@ -30,7 +30,7 @@ impl Rule<Change, u64> for Law {
     ghost moves = { λ ask before after answer. Unit {0} };
 }
 
-/// Callers trade nothing.
+/// Callers gain nothing from a step.
 pub struct Nothing;
 
 impl Gain<Change, u64> for Nothing {
@@ -48,7 +48,7 @@ impl Play<Change, u64> for Add {
     ghost then = { Adds };
 }
 
-/// What a step asks for: the change that is ready.
+/// The change that a step adds: the ready one.
 impl<'r> Plain<Making<'r>, Change, u64> for Add {
     ghost use Rattle.std.specs.Prelude.{None};
     ghost use Rattle.tfs_published.specs.Change.{change_of};
@@ -78,7 +78,7 @@ impl<J: Naming> Model for History<J> {
 }
 
 impl<J: Naming> History<J> {
-    /// Its word.
+    /// Returns the word.
     pub(crate) fn head(&self) -> &Word<Change, u64, Law>
         ensures value { result.now ≡ head_of J.book }
     {
@@ -86,7 +86,8 @@ impl<J: Naming> History<J> {
     }
 }
 
-/// A history without changes, which has no name yet. It is made without memory and without fail. Contracts see its book.
+/// A history without changes, which has no name yet. Making it allocates nothing and never fails.
+/// Contracts see its book.
 pub struct Opened {
     head: Word<Change, u64, Law>,
     seen: Seen<Change, u64, Law>,
@@ -105,7 +106,7 @@ impl Model for Opened {
 }
 
 impl Opened {
-    /// A new history.
+    /// Returns a new history.
     pub fn new() -> Opened {
         let (seen, mut first, _second) = Seen::open(Start::alone(), 0, 0);
         Opened {
@@ -114,7 +115,7 @@ impl Opened {
         }
     }
 
-    /// Its word under a name, and the token that has no changes.
+    /// Returns the history under a name, and the token without changes.
     pub(crate) fn named<J: Naming>(self) -> (History<J>, Token)
         requires book { self ≡ J.book }
         ensures book { result.1.book ≡ J.book }

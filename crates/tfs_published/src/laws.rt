@@ -6,8 +6,9 @@ ghost use Rattle.tfs_records.specs.Journal.{Journal, position_of};
 ghost use Rattle.tfs_published.specs.Change.{ChangeValue, journal_after};
 ghost use Rattle.tfs_published.specs.Beginning.{BeginsWith};
 
-/// A view is one journal. It begins with itself and with what its beginnings begin with. Of two beginnings of one journal the
-/// one whose position isn't lower begins with the other, so that it says all that both say. More changes give a later one.
+/// A view is one journal. `BeginsWith` is reflexive and transitive. If a journal begins with two
+/// others, the one whose position isn't lower begins with the other, so that it has all that both
+/// have. A journal with more changes begins with the journal that has fewer of them.
 pub fn a_view_is_one_journal()
     ensures itself { (j : Journal) → BeginsWith j j }
     ensures earlier { (last middle first : Journal) → BeginsWith last middle

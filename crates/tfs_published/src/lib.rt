@@ -1,4 +1,5 @@
-//! Published copies of a table, which readers enter without a lock, and the one history whose tokens they bear.
+//! Published copies of a table, the snapshots that readers enter without a lock, and the one
+//! history whose tokens the copies have.
 #![tactic(auto)]
 
 mod change;

@@ -3,12 +3,13 @@
 use std::sync::Arc;
 use tfs_index::Version;
 
-/// What a copy has of a name.
+/// The result of looking up a name in a copy.
 #[derive(Drop)]
 pub enum Lookup {
     /// The name has no state.
     NoState,
-    /// The name has a state whose version this copy has lost, or no clone of it was to be had.
+    /// The name has a state, but this copy has lost its version, or the clone of the version was
+    /// refused.
     Lost,
     /// The version of the name's state.
     Kept(Arc<Version>),

@@ -5,8 +5,8 @@ use crate::place_name::PlaceName;
 use crate::token::Token;
 use std::marker::Model;
 
-/// A name whose version was lost, since the clone of it was refused. The last change of the token, which was the name's, tells
-/// the state. Contracts see the name and that state.
+/// A name whose version was lost because its clone was refused. The last change of the token is a
+/// change of this name, and has its state. Contracts see the name and that state.
 #[derive(Drop)]
 pub struct LostPlace {
     name: PlaceName,
@@ -33,7 +33,8 @@ impl LostPlace {
     ghost use Rattle.tfs_published.specs.PlaceView.{place_with};
     ghost use Rattle.tfs_published.specs.declared.lookup.Lookup.TheVariants.{Lost};
 
-    /// The lost place of a name, by the token whose last change was the name's.
+    /// Returns the lost place of a name, given the token whose last change is a change of this
+    /// name.
     pub fn new(name: &PlaceName, token: &Token) -> LostPlace
         requires state { IsSome (state_told token.now.changes) }
         ensures value { result ≡ place_with name.now (state_told token.now.changes) }
@@ -44,14 +45,14 @@ impl LostPlace {
         }
     }
 
-    /// Whether its name is this text.
+    /// Returns true if its name is this text.
     pub fn is(&self, name: &str) -> bool
         ensures value { result ≡ bytes_eq self.now.name name.now }
     {
         self.name.is(name)
     }
 
-    /// What an impact of its name finds: the name has a state, and its version is lost.
+    /// Returns what a lookup of its name finds: the name has a state, and its version is lost.
     pub fn lookup(&self) -> Lookup
         ensures value { result ≡ Lost }
         ensures state { IsSome self.now.state }

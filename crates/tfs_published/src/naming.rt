@@ -3,8 +3,9 @@
 use std::marker::Brand;
 use std::sync::ledger::Ledger;
 
-/// Which shared table it is: the book of its history, the journal that it was opened with, and how many sessions it has. A caller's
-/// function over this trait picks them once. The ledger counts the accepted changes of the sessions.
+/// The identity of a shared table: the book of its history, the journal that it was opened with,
+/// and the number of its sessions. A caller's function that is generic over this trait fixes them
+/// once. The ledger counts the accepted changes of the sessions.
 pub trait Naming: Ledger {
     ghost use Rattle.std.specs.Prelude.{ℕ};
     ghost use Rattle.logbook.specs.Pages.{Book};

@@ -1,4 +1,4 @@
-//! What published copies take in.
+//! The operations that published copies apply.
 
 ghost use Rattle.std.specs.Prelude.{◌≡◌, ◌<◌, option_map};
 ghost use Rattle.std.specs.Arc.{arc_value};
@@ -12,7 +12,7 @@ use std::sync::Arc;
 use tfs_index::Version;
 use tfs_rules::Name;
 
-/// A change, as a published copy takes it in.
+/// A change, as a published copy applies it.
 #[derive(Drop)]
 pub struct Update {
     pub(crate) number: usize,
@@ -37,8 +37,8 @@ impl Model for Update {
 }
 
 impl Update {
-    /// What tells a change at the place of a number: the name, the version that it has afterwards, and the position and the token
-    /// that have the change.
+    /// Returns the update for a change at the place of a number: the name, the version that it has
+    /// afterwards, and the position and the token that include the change.
     pub(crate) fn new(
         number: usize,
         name: &Name,
@@ -65,11 +65,11 @@ impl Update {
     }
 }
 
-/// What a published copy takes in.
+/// An operation on a published copy.
 #[derive(Drop)]
 pub enum Operation {
-    /// Nothing, which only makes room where operations are queued.
+    /// Changes nothing. It only reserves room in the queue of operations.
     Nothing,
-    /// An update.
+    /// Applies an update.
     Take(Update),
 }

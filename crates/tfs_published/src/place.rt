@@ -19,15 +19,15 @@ use tfs_table::Table;
 /// A place of a published copy.
 #[derive(Drop)]
 pub enum Place {
-    /// It has nothing in it.
+    /// The place is empty.
     Empty,
-    /// It has a name and, where the name has a state, the version of it.
+    /// The place has a name and, if the name has a state, its version.
     Kept(PlaceName, Option<Arc<Version>>),
-    /// It has a name with a state, and the clone of its version was refused.
+    /// The place has a name with a state, and the clone of its version was refused.
     Lost(LostPlace),
 }
 
-/// The place of a name with its version. Where the clone of the version is refused, it is lost.
+/// Returns the place of a name with its version. The version is lost if its clone is refused.
 pub(crate) fn filled(name: &PlaceName, version: &Option<Arc<Version>>, token: &Token) -> Place
     requires told { state_told token.now.changes ≡ option_map arc_value version.now }
     ensures value { place_view result
@@ -42,7 +42,7 @@ pub(crate) fn filled(name: &PlaceName, version: &Option<Arc<Version>>, token: &T
     }
 }
 
-/// Whether a place has this name.
+/// Returns true if the place has this name.
 pub(crate) fn is_of(place: &Place, name: &str) -> bool
     ensures { result ≡ has_name name.now (place_view place.now) }
 {
@@ -53,7 +53,7 @@ pub(crate) fn is_of(place: &Place, name: &str) -> bool
     }
 }
 
-/// One more reference to the version of a place, where it has one and the clone isn't refused.
+/// Returns one more reference to the version of a place, if it has one and the clone isn't refused.
 pub(crate) fn version_of(place: &Place) -> Option<Arc<Version>>
     ensures value { IfSome result (λ version. IfSome (place_view place.now) (λ view. view.state ≡ Some (arc_value version))) }
 {
@@ -63,7 +63,7 @@ pub(crate) fn version_of(place: &Place) -> Option<Arc<Version>>
     }
 }
 
-/// The place that the journal of a table gives a number.
+/// Returns the place that a table's journal gives a number.
 pub(crate) fn first_place<K: Sink>(table: &Table<K>, number: usize) -> Result<Place, AllocError>
     ensures value { IfOk result (λ place. place_view place ≡ place_given table.now.journal number) }
 {

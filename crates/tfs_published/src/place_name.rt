@@ -6,7 +6,8 @@ ghost use Rattle.std.specs.Str.{bytes_eq};
 use std::marker::Model;
 use tfs_rules::Name;
 
-/// The name of a place: its bytes lie in the place itself, so that a copy of it takes no memory.
+/// The name of a place. Its bytes are stored in the place itself, so that copying it allocates
+/// nothing.
 #[derive(Drop)]
 pub struct PlaceName {
     bytes: [u8; 64],
@@ -24,7 +25,7 @@ impl Model for PlaceName {
 }
 
 impl PlaceName {
-    /// The same name as that of a workspace.
+    /// Copies the name of a workspace.
     pub fn of(name: &Name) -> PlaceName
         ensures value { result ≡ name.now }
     {
@@ -37,7 +38,7 @@ impl PlaceName {
         }
     }
 
-    /// An equal name. It takes no memory.
+    /// Returns an equal name. Allocates nothing.
     pub fn again(&self) -> PlaceName
         ensures value { result ≡ self.now }
     {
@@ -47,7 +48,7 @@ impl PlaceName {
         }
     }
 
-    /// Whether it is this text.
+    /// Returns true if the name is this text.
     pub fn is(&self, text: &str) -> bool
         ensures value { result ≡ bytes_eq self.now text.now }
     {

@@ -1,4 +1,4 @@
-//! Published copies, and how they take in a change.
+//! Published copies, and how they apply a change.
 
 ghost use Rattle.std.specs.Prelude.{◌≡◌, ◌<◌, IfSome, IfNone, IfOk, length, map, vec_len};
 ghost use Rattle.std.specs.List.{range_with_len};
@@ -22,10 +22,11 @@ use tfs_records::Sink;
 use tfs_rules::Name;
 use tfs_table::Table;
 
-/// How many places a copy has, as many as a table may have names.
+/// The number of places of a copy: the maximum number of names of a table.
 const PLACES: usize = 1_024;
 
-/// What readers enter: 1,024 places, the position, and the token of the history that the copy has taken in.
+/// The snapshot that readers enter: 1,024 places, the position, and the token of the changes that
+/// the copy has applied.
 #[derive(Drop)]
 pub struct Published {
     places: Vec<Place>,
@@ -70,7 +71,7 @@ impl Absorb<Operation> for Published {
 }
 
 impl Published {
-    /// A copy that stands for the journal of a table, with a token.
+    /// Returns a copy that represents the journal of a table, with a token.
     pub(crate) fn of<K: Sink>(
         alloc: Global,
         table: &Table<K>,
@@ -89,7 +90,7 @@ impl Published {
         })
     }
 
-    /// Takes in an update.
+    /// Applies an update.
     fn take(&mut self, update: &Update)
         ensures value { self.new ≡ updated self.old update.now }
     {
@@ -98,14 +99,16 @@ impl Published {
         self.token = update.token.again();
     }
 
-    /// One more reference to the version at the place of a number, where it has one and the clone isn't refused.
+    /// Returns one more reference to the version at the place of a number, if it has one and the
+    /// clone isn't refused.
     pub(crate) fn version(&self, number: usize) -> Option<Arc<Version>>
         requires { number < 1024 }
     {
         version_of(&self.places[number])
     }
 
-    /// What a session that has seen as much as a token sees of a name, where the copy begins with that.
+    /// Returns what a session that has seen the changes of a token reads of a name, or `None` if
+    /// the copy lacks some of these changes.
     pub(crate) fn snapshot(&self, token: &Token, name: &Name) -> Option<Snapshot>
         requires book { token.now.book ≡ self.now.token.book }
         ensures value { IfSome result (λ snapshot. IsSnapshot self.now token.now name.now snapshot) }
@@ -122,7 +125,7 @@ impl Published {
     }
 }
 
-/// The places that the journal of a table gives.
+/// Returns the places that the journal of a table gives.
 fn places_of<K: Sink>(alloc: Global, table: &Table<K>) -> Result<Vec<Place>, AllocError>
     ensures value { IfOk result (λ places. map place_view places.items ≡ map (place_given table.now.journal) (range_with_len 0 1024)) }
     ensures wide { IfOk result (λ places. vec_len places ≡ 1024) }

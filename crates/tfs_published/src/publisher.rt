@@ -1,4 +1,4 @@
-//! What lies under the lock beside the table and the ledger's book.
+//! The publisher: what the lock protects in addition to the table and the ledger's book.
 
 ghost use Rattle.std.specs.Prelude.{◌≡◌, ◌≤◌, ◌<◌, ◌+◌, ◌∷◌, ◌++◌, [], true, false, drop, length, Some, None, IfSome, IfOk, OnOk, OnErr, option_map};
 ghost use Rattle.std.specs.Arc.{arc_value};
@@ -30,8 +30,9 @@ use tfs_records::Sink;
 use tfs_rules::Name;
 use tfs_table::{Ready, Table};
 
-/// The writer of the published copies, and the word of the history with its newest token. Between the two halves of a change
-/// there is a next token, whose last change is queued. The versions that changes have replaced are kept as long as a copy has them.
+/// The writer of the published copies, the word of the history, and its newest token. Between the
+/// two halves of a change, `stage` and `publish`, there is a next token, whose last change is
+/// queued. The versions that changes have replaced are kept as long as a copy has them.
 pub struct Publisher<J: Naming> {
     writer: Option<CopyWriter<J>>,
     history: History<J>,
@@ -63,7 +64,8 @@ impl<J: Naming> Model for Publisher<J> {
 }
 
 impl<J: Naming> Publisher<J> {
-    /// What shows readers the opening journal, with places for this number of readers. An error is a refused request for memory.
+    /// Returns a publisher of the opening journal, with places for this number of readers. Fails if
+    /// memory is refused.
     #[tactic(auto, using(crate::proofs::Publishers::no_changes))]
     pub fn new<K: Sink, R: Wait>(
         rt: &R,
@@ -101,7 +103,8 @@ impl<J: Naming> Publisher<J> {
         })
     }
 
-    /// A reader that has seen what is published. There is none where no reader's place is there.
+    /// Returns a reader that has seen what is published, or `None` if no place for a reader is
+    /// left.
     pub fn reader(&self) -> Option<Reader<J>>
         ensures value { IfSome result (λ reader. reader ≡ record { journal = self.now.journal; makers = self.now.makers }) }
     {
@@ -115,19 +118,19 @@ impl<J: Naming> Publisher<J> {
         Some(Reader::new(reader, token, position))
     }
 
-    /// What readers are shown stands for what is published, which is lawful and begins with the opening journal. The call computes nothing: it is a law
-    /// of all publishers.
+    /// States that the copy that readers enter represents the published journal, which is lawful
+    /// and begins with the opening journal. A law of all publishers; the call computes nothing.
     pub fn shows(&self)
         ensures value { Shows self.now }
         ensures lawful { IsLawful self.now.journal }
         ensures begins { BeginsWith self.now.journal J.opening }
         ensures counted { length self.now.journal.entries ≡ length J.opening.entries + length self.now.makers }
     {
-        // The invariant is known where the publisher is read.
+        // The prover knows the invariant if the publisher is read.
         let _position = self.position;
     }
 
-    /// Ends the writer. It waits for readers.
+    /// Ends the writer. Waits for readers.
     pub fn close<R: Wait>(self, rt: &R) {
         let Publisher {
             writer,
@@ -142,7 +145,8 @@ impl<J: Naming> Publisher<J> {
         }
     }
 
-    /// Whether what is published begins with what a reader has seen. If not, its position is lower.
+    /// Returns true if the published journal begins with what a reader has seen. If not, its
+    /// position is lower.
     pub fn covers(&self, reader: &Reader<J>) -> bool
         ensures yes { result ≡ true → BeginsWith self.now.journal reader.now.journal × IsPrefix reader.now.makers self.now.makers }
         ensures no { result ≡ false → position_of self.now.journal < position_of reader.now.journal }
@@ -150,7 +154,7 @@ impl<J: Naming> Publisher<J> {
         self.newest.begins_with(reader.token())
     }
 
-    /// Has a reader see what is published.
+    /// Advances a reader to the published journal.
     pub fn show(&self, reader: &mut Reader<J>)
         ensures value { reader.new ≡ record { journal = self.now.journal; makers = self.now.makers } }
     {
@@ -158,7 +162,7 @@ impl<J: Naming> Publisher<J> {
         reader.see(token, position);
     }
 
-    /// The token of what is published, and its position.
+    /// Returns the token of what is published, and its position.
     fn reached(&self) -> (Token, u64)
         ensures book { result.0.book ≡ J.book }
         ensures journal { (journal_after J.opening result.0.changes ≡ self.now.journal) × (makers_of result.0.changes ≡ self.now.makers) }
@@ -168,7 +172,8 @@ impl<J: Naming> Publisher<J> {
         (self.newest.again(), self.position)
     }
 
-    /// Queues the update that tells a change, as the session of a number makes it. Readers don't see it before it is published.
+    /// Queues the update for a change, which the session with number `maker` makes. Readers don't
+    /// see it before it is published.
     pub fn stage(&mut self, ready: &Ready, maker: u64) -> Result<(), AllocError>
         requires idle { self.old.next ≡ None }
         requires journal { ready.now.journal ≡ self.old.journal }
@@ -203,8 +208,8 @@ impl<J: Naming> Publisher<J> {
         Ok(())
     }
 
-    /// Shows readers the change that is staged, of the name with this number. It waits for readers that are still in the copy
-    /// before.
+    /// Publishes the staged change of the name with this number. Waits for readers that are still
+    /// in the previous copy.
     pub fn publish<R: Wait>(&mut self, rt: &R, number: usize)
         requires number { number < 1024 }
         requires room { position_of self.old.journal < 9223372036854775808 }
@@ -229,7 +234,7 @@ impl<J: Naming> Publisher<J> {
         self.replaced.add(replaced);
     }
 
-    /// A version that was replaced and that no copy has any more.
+    /// Takes a version that was replaced and that no copy has any more, if there is one.
     pub fn take_replaced(&mut self) -> Option<Arc<Version>>
         ensures kept { self.new ≡ self.old }
     {
@@ -237,7 +242,8 @@ impl<J: Naming> Publisher<J> {
     }
 }
 
-/// The version that a name has after a change. The journal with the change is lawful, where it was lawful before.
+/// Returns the version that a name has after a change. If the journal before the change is lawful,
+/// so is the journal with it.
 fn version_after(ready: &Ready) -> Result<Option<Arc<Version>>, AllocError>
     ensures value { IfOk result (λ version. option_map arc_value version
         ≡ state_of (acts_of ready.now.entry.name (with_entry ready.now.journal ready.now.entry))) }

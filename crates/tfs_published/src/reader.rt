@@ -1,4 +1,4 @@
-//! What one session sees of the published copies.
+//! What one session reads in the published copies.
 
 ghost use Rattle.std.specs.Prelude.{◌≡◌, ◌+◌, length, IfSome, IfNone};
 ghost use Rattle.tfs_rules.specs.History.{state_of};
@@ -16,8 +16,8 @@ use crate::token::Token;
 use std::marker::Model;
 use tfs_rules::Name;
 
-/// A reader's place at the published copies, and how far it has seen. Contracts see the journal that it has seen, which is
-/// lawful, and which sessions made its changes beyond the opening one.
+/// A reader of the published copies, and how far it has seen. Contracts see the journal that it has
+/// seen, which is lawful, and the sessions that made its changes after the opening journal.
 #[derive(Drop)]
 pub struct Reader<J: Naming> {
     copies: Option<CopyReader<J>>,
@@ -41,7 +41,7 @@ impl<J: Naming> Model for Reader<J> {
 }
 
 impl<J: Naming> Reader<J> {
-    /// A reader that has seen the journal of a token, by its position.
+    /// Returns a reader that has seen the journal of a token, with the journal's position.
     pub(crate) fn new(copies: CopyReader<J>, token: Token, position: u64) -> Reader<J>
         requires book { token.book ≡ J.book }
         requires position { position ≡ position_of (journal_after J.opening token.changes) }
@@ -55,24 +55,25 @@ impl<J: Naming> Reader<J> {
         }
     }
 
-    /// What it has seen is lawful, and begins with the opening journal. The call computes nothing: it is a law.
+    /// States that the journal that the reader has seen is lawful and begins with the opening
+    /// journal. A law; the call computes nothing.
     pub fn is_kept(&self)
         ensures lawful { IsLawful self.now.journal }
         ensures begins { BeginsWith self.now.journal J.opening }
         ensures counted { length self.now.journal.entries ≡ length J.opening.entries + length self.now.makers }
     {
-        // The invariant is known where the reader is read.
+        // The prover knows the invariant if the reader is read.
         let _position = self.position;
     }
 
-    /// The position of the journal that it has seen.
+    /// Returns the position of the journal that the reader has seen.
     pub fn position(&self) -> u64
         ensures value { result ≡ position_of self.now.journal }
     {
         self.position
     }
 
-    /// The token of the journal that it has seen.
+    /// Returns the token of the journal that the reader has seen.
     pub(crate) fn token(&self) -> &Token
         ensures book { result.now.book ≡ J.book }
         ensures journal { journal_after J.opening result.now.changes ≡ self.now.journal }
@@ -81,7 +82,7 @@ impl<J: Naming> Reader<J> {
         &self.token
     }
 
-    /// Has it see the journal of a token, by its position.
+    /// Advances the reader to the journal of a token, with the journal's position.
     pub(crate) fn see(&mut self, token: Token, position: u64)
         requires book { token.book ≡ J.book }
         requires position { position ≡ position_of (journal_after J.opening token.changes) }
@@ -92,8 +93,9 @@ impl<J: Naming> Reader<J> {
         self.position = position;
     }
 
-    /// Looks a name up in a published copy that begins with all that it has seen. Afterwards it has seen the journal that the copy
-    /// stands for. There is nothing, and nothing changes, where no such copy is handed out. It waits for nobody.
+    /// Looks up a name in a published copy that begins with all that the reader has seen, and
+    /// advances the reader to the journal that the copy represents. Returns `None` and changes
+    /// nothing if it can't enter such a copy. Never waits.
     #[tactic(auto, using(crate::proofs::Beginnings::begins_with_itself, crate::proofs::Beginnings::later_begins))]
     pub fn look(&mut self, name: &Name) -> Option<Lookup>
         ensures found { IfSome result (λ lookup. IsLookup lookup (state_of (acts_of name.now self.new.journal))) }

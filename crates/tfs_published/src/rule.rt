@@ -18,7 +18,7 @@ use std::marker::PhantomData;
 use std::sync::Wait;
 use tfs_rules::Name;
 
-/// A published copy stands for the journal of its token.
+/// The rule: a published copy represents the journal of its token.
 pub struct Follows<J: Naming>(PhantomData<J>);
 
 impl<J: Naming> Protocol<Published, ()> for Follows<J> {
@@ -29,7 +29,7 @@ impl<J: Naming> Protocol<Published, ()> for Follows<J> {
     ghost first = { tt };
 }
 
-/// What an entered copy tells.
+/// What a reader knows of a copy that it has entered.
 pub struct Sees<J: Naming>(PhantomData<J>);
 
 impl<J: Naming> Outcome<Published, ()> for Sees<J> {
@@ -42,8 +42,8 @@ pub type CopyReader<J> = Reader<Published, (), Follows<J>>;
 
 pub type CopyWriter<J> = Writer<Published, Operation, (), Follows<J>>;
 
-/// What a session that has seen as much as a token sees of a name. There is nothing where no copy is handed out that begins
-/// with that. It waits for nobody.
+/// Enters a copy and reads a name, for a session that has seen the changes of a token. Returns no
+/// snapshot if it can't enter a copy that has these changes. Never waits.
 pub(crate) fn enter<J: Naming>(
     reader: CopyReader<J>,
     token: &Token,
@@ -61,19 +61,19 @@ pub(crate) fn enter<J: Naming>(
     }
 }
 
-/// Shows readers the copy that has the queued update, which tells one more change.
+/// Publishes the copy with the queued update, which adds one more change.
 pub(crate) fn publish<J: Naming, R: Wait>(rt: &R, writer: CopyWriter<J>) -> CopyWriter<J>
     requires queued { Queues J.opening writer.desk.shown.value (drop writer.behind writer.log.items) }
     ensures value { (queued : Queues J.opening writer.desk.shown.value (drop writer.behind writer.log.items))
         → result.desk.shown.value ≡ updated writer.desk.shown.value queued.update }
     ensures pending { drop result.behind result.log.items ≡ [] }
 {
-    // The outcome is no error: a copy absorbs each operation.
+    // The outcome is no error: each operation can be absorbed.
     let (writer, _outcome) = writer.publish_as::<Sees<J>, R>(rt);
     writer
 }
 
-/// Queues an operation that changes nothing, and says whether there was memory for it.
+/// Queues an operation that changes nothing. Returns false if memory is refused.
 #[tactic(auto, using(crate::proofs::Room::nothing_more))]
 fn queue_nothing<J: Naming>(writer: &mut CopyWriter<J>) -> bool
     requires same { fold absorbed writer.old.desk.shown.value (drop writer.old.behind writer.old.log.items) ≡ writer.old.desk.shown.value }
@@ -86,19 +86,20 @@ fn queue_nothing<J: Naming>(writer: &mut CopyWriter<J>) -> bool
     }
 }
 
-/// Shows readers the copy after queued operations that change nothing.
+/// Publishes the copy after queued operations that change nothing.
 fn publish_same<J: Naming, R: Wait>(rt: &R, writer: CopyWriter<J>) -> CopyWriter<J>
     requires same { fold absorbed writer.desk.shown.value (drop writer.behind writer.log.items) ≡ writer.desk.shown.value }
     ensures shown { result.desk.shown.value ≡ writer.desk.shown.value }
     ensures pending { drop result.behind result.log.items ≡ [] }
 {
-    // The outcome is no error: a copy absorbs each operation.
+    // The outcome is no error: each operation can be absorbed.
     let (writer, _outcome) = writer.publish_as::<Sees<J>, R>(rt);
     writer
 }
 
-/// Makes room for two operations, as many as are ever queued: those that the copy shown has and the other lacks, and those that
-/// neither has. Two that change nothing are queued and published, and published again, which takes them off.
+/// Reserves room for two operations, the most that are ever queued: one that the published copy has
+/// and the other lacks, and one that neither has. Two operations that change nothing are queued and
+/// published; a second publication removes them from the queue.
 pub(crate) fn with_room<J: Naming, R: Wait>(
     rt: &R,
     writer: CopyWriter<J>,

@@ -1,4 +1,4 @@
-//! Looking for a name among places.
+//! Looking up a name among places.
 
 ghost use Rattle.std.specs.Prelude.{◌≡◌, ◌<◌, length, map, position, IfSome};
 ghost use Rattle.tfs_rules.specs.History.{state_of};
@@ -10,7 +10,7 @@ ghost use Rattle.tfs_published.specs.Published.{ArePlacesOf};
 use crate::lookup::Lookup;
 use crate::place::{Place, is_of};
 
-/// What places have of a name.
+/// Returns what the places have of a name.
 pub(crate) fn find(places: &[Place], name: &str) -> Lookup
     ensures value { (j : Journal) → ArePlacesOf j (map place_view places.now) → IsLookup result (state_of (acts_of name.now j)) }
 {
@@ -20,7 +20,7 @@ pub(crate) fn find(places: &[Place], name: &str) -> Lookup
     }
 }
 
-/// The number of the first place of a name.
+/// Returns the number of the first place with this name.
 fn number_of(places: &[Place], name: &str) -> Option<usize>
     ensures value { result
         ≡ position (λ place. has_name name.now (place_view place)) places.now }
@@ -29,7 +29,7 @@ fn number_of(places: &[Place], name: &str) -> Option<usize>
     places.iter().position(|place| is_of(place, name))
 }
 
-/// What a place has. A clone of its version may be refused.
+/// Returns what a place has. The clone of its version may be refused.
 fn at(place: &Place) -> Lookup
     ensures value { IfSome (place_view place.now) (λ view. IsLookup result view.state) }
 {

@@ -1,9 +1,10 @@
-//! What a session sees in a copy.
+//! What a session reads in a copy.
 
 use crate::lookup::Lookup;
 use crate::token::Token;
 
-/// What a session sees in a copy: how far the copy goes, its position, and what it has of a name.
+/// What a session reads of a name in a copy: the copy's token, its position, and what it has of the
+/// name.
 #[derive(Drop)]
 pub struct Snapshot {
     pub token: Token,

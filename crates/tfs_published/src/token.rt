@@ -1,4 +1,4 @@
-//! Beginnings of a history.
+//! Tokens: prefixes of a history.
 
 ghost use Rattle.std.specs.Prelude.{◌≡◌, ◌<◌, [], ◌∷◌, ◌++◌, true, false, length, IfSome};
 ghost use mathlib.Core.List.{IsPrefix};
@@ -11,7 +11,7 @@ use logbook::{Offer, Seen};
 use std::marker::Model;
 use tfs_table::Ready;
 
-/// A beginning of a history that was reached. It can be copied and handed to another thread.
+/// A prefix of a history that was reached. It can be copied and sent to another thread.
 #[derive(Drop)]
 pub struct Token {
     count: u64,
@@ -30,14 +30,14 @@ impl Model for Token {
 }
 
 impl Token {
-    /// How many changes it has.
+    /// Returns the number of changes in the prefix.
     pub fn count(&self) -> u64
         ensures value { result ≡ length self.now.changes }
     {
         self.count
     }
 
-    /// An equal token. It takes no memory.
+    /// Returns an equal token. Allocates nothing.
     pub fn again(&self) -> Token
         ensures value { result ≡ self.now }
     {
@@ -47,8 +47,8 @@ impl Token {
         }
     }
 
-    /// The token of the history with the change that is ready, as a session makes it, where the history has no other changes than this
-    /// token's. It takes no memory.
+    /// Adds a ready change, made by a session, to the history, and returns the token with it; or
+    /// returns `None` if the history has more changes than this token. Allocates nothing.
     pub(crate) fn with<J: Naming>(
         &self,
         history: &History<J>,
@@ -79,7 +79,7 @@ impl Token {
         })
     }
 
-    /// Whether it begins with another one of its history. If not, it is shorter.
+    /// Returns true if the token begins with another one of its history. If not, it is shorter.
     pub fn begins_with(&self, other: &Token) -> bool
         requires book { other.now.book ≡ self.now.book }
         ensures yes { result ≡ true → IsPrefix other.now.changes self.now.changes }
@@ -91,7 +91,7 @@ impl Token {
     }
 }
 
-/// The token of a new history's word, which has no changes yet.
+/// Returns the token of a new history, which has no changes yet.
 pub(crate) fn start(seen: Seen<Change, u64, Law>) -> Token
     requires empty { seen.log ≡ [] }
     ensures book { result.book ≡ seen.book }

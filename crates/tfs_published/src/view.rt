@@ -3,20 +3,21 @@
 use crate::token::Token;
 use tfs_state::Doc;
 
-/// What a place has in it: a name, and the state of that name.
+/// The contents of a place: a name, and the state of that name.
 pub struct PlaceView {
     pub name: [u8; 0],
     pub state: Option<Doc>,
 }
 
-/// What a copy has. A clause reads an array as a list of any length.
+/// The contents of a copy. A clause reads an array as a list of any length.
 pub struct CopyView {
     pub places: [Option<PlaceView>; 0],
     pub position: u64,
     pub token: Token,
 }
 
-/// What an update says: what is put into the place of a number, the position and the token afterwards.
+/// The contents of an update: the number of a place and what is put there, and the position and the
+/// token afterwards.
 pub struct UpdateView {
     pub number: usize,
     pub place: PlaceView,

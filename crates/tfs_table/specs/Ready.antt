@@ -1,4 +1,5 @@
--- Changes that a table has accepted, and that are yet to be made.
+-- Changes that a table hasn't made yet: prepared ones, which it hasn't judged, and ready ones,
+-- which it has accepted.
 use Rattle.std.specs.Prelude.{◌≡◌, ◌≤◌, ℕ, List, length, slice_get, Option, Some, None}
 use Rattle.tfs_state.specs.Document.{Document}
 use Rattle.tfs_rules.specs.Act.{ActValue}
@@ -8,7 +9,8 @@ use Rattle.tfs_records.specs.Format.{record_text}
 use Rattle.tfs_calls.specs.Pushed.{pushed_by}
 use Rattle.tfs_calls.specs.Transition.{act_refusal, open_model}
 
--- What a change keeps that no table has judged yet: its record is the entry's, and its version is of the document that it pushes.
+-- The invariant of a change that no table has judged yet: its name, act and record are the entry's,
+-- and its version is of the document that it pushes.
 pub record IsPrepared (e : EntryValue) (own_name : List ℕ) (own_act : ActValue) (own_version : Option Document) (bytes : List ℕ) : Type 0
   where
     pub name : own_name ≡ e.name
@@ -17,18 +19,19 @@ pub record IsPrepared (e : EntryValue) (own_name : List ℕ) (own_act : ActValue
     pub pushed : own_version ≡ pushed_by e.act
     pub text : bytes ≡ record_text e
 
--- What callers see of the parts of a change that may be long: the text of its record, and the document that it pushes.
+-- What callers see of the parts of a change that may be large: its encoded record, and the document
+-- that it pushes.
 pub record DeferredDropValue : Type 0 where
   pub text : List ℕ
   pub pushed : Option Document
 
--- The journal that the table had, and the entry that is to come.
+-- What callers see of a ready change: the journal that the table had, and the entry to be added.
 pub record ReadyValue : Type 0 where
   pub journal : Journal
   pub entry : EntryValue
 
--- What a change keeps that is ready: its journal accepts it, its number is that of the name, and its version that of the state that
--- the name has afterwards.
+-- The invariant of a ready change: its journal accepts it, its number is the name's, and its
+-- version is of the state that the name has afterwards.
 pub record IsReady (r : ReadyValue) (own_name : List ℕ) (own_number : ℕ) (own_act : ActValue) (own_version : Option Document) (bytes :
     List ℕ) : Type 0 where
   pub name : own_name ≡ r.entry.name

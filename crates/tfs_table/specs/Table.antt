@@ -1,4 +1,4 @@
--- What a table is to its callers, and what it keeps.
+-- What callers see of a table, and its invariant.
 use Rattle.std.specs.Prelude.{◌≡◌, ℕ, List, ◌++◌, All, Bool, true, false, Option, Some, None, Result, Ok, Err, ◌+◌}
 use Rattle.std.specs.Arc.{arc_value}
 use Rattle.std.specs.Io.KnownBytes.{Appends}
@@ -12,8 +12,9 @@ use Rattle.tfs_calls.specs.Transition.{TableModel}
 use Rattle.tfs_calls.specs.declared.impact.Impact.{Impact}
 use Rattle.tfs_calls.specs.declared.refusal.Refusal.{Refusal}
 
--- The journal, whether it is stopped, whether its sink tells the bytes that it was told, which they are, the faults that the sink has
--- counted, and how many changes can be finished without a request for memory.
+-- The journal, whether the table is stopped, whether the sink's bytes were known at first, the
+-- sink's known bytes, the number of faults that the sink has counted, and how many changes can be
+-- finished without allocating.
 pub record TableValue : Type 0 where
   pub journal : Journal
   pub stopped : Bool
@@ -22,11 +23,12 @@ pub record TableValue : Type 0 where
   pub faults : ℕ
   pub spare : ℕ
 
--- What its transition speaks of.
+-- The part of a table that the model has.
 abbrev pub model_of : TableValue → TableModel
 model_of t = record { journal = t.journal; stopped = t.stopped }
 
--- The bytes are the text of the journal and some first bytes of one record more, perhaps none or all of them.
+-- The bytes are the text of the journal followed by a prefix of one more record, which may be empty
+-- or complete.
 pub record TellsPart (j : Journal) (bytes : List ℕ) : Type 0 where
   pub entry : EntryValue
   pub read : IsEntry entry
@@ -35,17 +37,18 @@ pub record TellsPart (j : Journal) (bytes : List ℕ) : Type 0 where
   pub parts : record_text entry ≡ front ++ rest
   pub told : bytes ≡ journal_text j ++ front
 
--- What a sink that tells its bytes was told: the journal's text and, of a stopped table, a part of one record more.
+-- The bytes that the sink of a table has taken: the journal's text, and after it, if the table is
+-- stopped, a prefix of one more record.
 abbrev pub Tells : Bool → Journal → List ℕ → Type 0
 Tells false j bytes = bytes ≡ journal_text j
 Tells true j bytes = TellsPart j bytes
 
--- The bytes that a sink was told, which tells them.
+-- The sink's bytes are known, and are the bytes of this journal.
 abbrev pub IsTold : Bool → Journal → Option (List ℕ) → Type 0
 IsTold stopped j None = ⊥
 IsTold stopped j (Some bytes) = Tells stopped j bytes
 
--- What each table keeps.
+-- The invariant of each table.
 pub record IsTable (t : TableValue) : Type 0 where
   pub based : IsBase t.journal.base
   pub read : All IsEntry t.journal.entries
@@ -53,7 +56,7 @@ pub record IsTable (t : TableValue) : Type 0 where
   pub sound : t.stopped ≡ false → t.faults ≡ 0
   pub told : t.tells ≡ true → IsTold t.stopped t.journal t.told
 
--- Nothing has changed but the room.
+-- Only the reserved capacity may have changed.
 pub record IsSameTable (old new : TableValue) : Type 0 where
   pub journal : new.journal ≡ old.journal
   pub stopped : new.stopped ≡ old.stopped
@@ -61,7 +64,8 @@ pub record IsSameTable (old new : TableValue) : Type 0 where
   pub told : new.told ≡ old.told
   pub faults : new.faults ≡ old.faults
 
--- The sink has failed in place of an acceptance: the journal stays, the table is stopped, and the sink has counted a fault.
+-- The sink has failed at an accepted change: the journal is unchanged, the table is stopped, and
+-- the sink has counted a fault.
 pub record IsFault (old new : TableValue) : Type 0 where
   pub running : old.stopped ≡ false
   pub journal : new.journal ≡ old.journal
@@ -69,8 +73,8 @@ pub record IsFault (old new : TableValue) : Type 0 where
   pub tells : new.tells ≡ old.tells
   pub faults : new.faults ≡ old.faults + 1
 
--- A change was finished: the journal has its entry, which is the last of the acts up to this position, the table isn't stopped, and
--- the sink was told the entry's record.
+-- A change was finished: the journal has its entry, `position` is the journal's position after it,
+-- the table isn't stopped, and the sink has taken the entry's record.
 pub record IsFinished (old new : TableValue) (e : EntryValue) (position : ℕ) : Type 0 where
   pub position_is : position ≡ position_of old.journal + 1
   pub entered : new.journal ≡ with_entry old.journal e
@@ -78,7 +82,7 @@ pub record IsFinished (old new : TableValue) (e : EntryValue) (position : ℕ) :
   pub tells : new.tells ≡ old.tells
   pub told : Appends old.told new.told (record_text e)
 
--- The sink has failed at the record of an entry, of which it was told a part.
+-- The sink has failed at the record of an entry, and has taken a prefix of it.
 pub record IsFaultAt (old new : TableValue) (e : EntryValue) : Type 0 where
   pub fault : IsFault old new
   pub part : AppendsPart old.told new.told (record_text e)

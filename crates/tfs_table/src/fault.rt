@@ -6,19 +6,19 @@ ghost use Rattle.tfs_table.specs.declared.fault.OpenFault.TheVariants.{NoMemory}
 use std::alloc::AllocError;
 use thiserror::Error;
 
-/// Why a table isn't made.
+/// Why no table was made.
 #[derive(Clone, Copy, Debug, PartialEq, Eq, Error)]
 pub enum OpenFault {
-    /// The bytes are no journal: at this place they go wrong.
+    /// The bytes are damaged from this offset on.
     #[error("the journal is damaged at byte {0}")]
     Damaged(usize),
-    /// The record with this number, from 1, isn't accepted over those before it.
+    /// The record with this number, from 1, isn't accepted after the records before it.
     #[error("record {0} of the journal breaks the rules")]
     Unlawful(u64),
     /// The new sink has failed.
     #[error("the journal could not be written")]
     SinkFault,
-    /// A request for memory was refused.
+    /// Memory was refused.
     #[error("no memory for the table")]
     NoMemory,
     /// The bytes end inside the base.

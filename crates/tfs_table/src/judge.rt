@@ -1,4 +1,4 @@
-//! The judgement on an act.
+//! Judging an act.
 
 ghost use Rattle.std.specs.Prelude.{◌≡◌, ◌≢◌, ◌⊎◌, None, Some, IfOk, IfErr, OnOk, OnErr, length, option_map};
 ghost use Rattle.std.specs.Arc.{arc_value};
@@ -18,8 +18,9 @@ use tfs_calls::Refusal;
 use tfs_lock::LockInfo;
 use tfs_rules::{Act, Name, Record, Verdict};
 
-/// Judges an act over workspaces and a number of entries: the place of its name, or the first refusal by the rules and the limits. Want of
-/// memory comes in place of another refusal alone.
+/// Judges an act, given the workspaces and the number of entries. Returns the index of its name's
+/// workspace, or where to insert one; or the first refusal by the rules and the limits.
+/// `OutOfMemory` only replaces `Locked`.
 pub(crate) fn judge(
     count: usize,
     workspaces: &[Workspace],
@@ -45,7 +46,7 @@ pub(crate) fn judge(
     Ok(place)
 }
 
-/// Judges an act by the rules, over the workspace at a place, if there is one.
+/// Judges an act by the rules, given the index of its name's workspace, if there is one.
 fn judge_by_rules(
     workspaces: &[Workspace],
     name: &Name,
@@ -63,7 +64,7 @@ fn judge_by_rules(
     ensures memory { IfErr result (λ refusal. refusal_value refusal ≡ out_of_memory
         → verdict_over (standing_at name.now workspaces.now) (act_value act.now) ≡ Locked) }
 {
-    // The name stands in the contract alone: the place is its workspace's.
+    // Only the contract uses the name: the workspace at the index has it.
     let _ = name;
     match place {
         Ok(place) => {
@@ -74,7 +75,7 @@ fn judge_by_rules(
     }
 }
 
-/// The refusal that a verdict asks for, with the holder's information where that is in the way.
+/// Returns the refusal for a verdict. `Locked` carries the holder's lock information.
 fn heed(verdict: Verdict, holder: Option<&Arc<LockInfo>>) -> Result<(), Refusal>
     ensures accepted { OnOk result (refusal_of (option_map (λ info. arc_value info.now) holder.entry) verdict ≡ None) }
     ensures refused { IfErr result (λ refusal. (refusal_value refusal ≡ out_of_memory)
@@ -95,7 +96,8 @@ fn heed(verdict: Verdict, holder: Option<&Arc<LockInfo>>) -> Result<(), Refusal>
     }
 }
 
-/// The refusal by the limits, over the number of names, whether the name is new, and the number of entries.
+/// Judges by the limits, given the number of names, whether the name is new, and the number of
+/// entries.
 fn judge_by_limits(names: usize, is_new: bool, entries: usize) -> Result<(), Refusal>
     ensures accepted { OnOk result (full_refusal names is_new entries ≡ None) }
     ensures refused { IfErr result (λ refusal. full_refusal names is_new entries ≡ Some (refusal_value refusal)) }

@@ -1,4 +1,4 @@
-//! The table of workspaces over a journal that goes to a sink.
+//! The table of workspaces over a journal that is written to a sink.
 #![tactic(auto)]
 
 mod fault;
@@ -29,10 +29,10 @@ pub use tfs_calls::{
 };
 pub use workspace::Workspace;
 
-/// The most names that a table may have.
+/// The maximum number of names of a table.
 pub const MAX_NAMES: usize = 1_024;
 
-/// The most entries that a table's journal may have.
+/// The maximum number of entries of a table's journal.
 pub const MAX_ENTRIES: usize = 65_536;
 
 // The definitions have these limits as numbers.

@@ -1,4 +1,4 @@
-//! Making a change ready: all that it needs before it is made.
+//! Making a change ready: everything it needs before it is entered.
 
 ghost use Rattle.std.specs.Prelude.{◌≡◌, ◌<◌, ◌⊎◌, All, None, Some, IfOk, IfErr, OnOk, option_map, slice_get, length, vec_len, vec_capacity};
 ghost use Rattle.std.specs.Arc.{arc_value};
@@ -23,7 +23,8 @@ use tfs_index::Version;
 use tfs_records::{Base, Entry};
 use tfs_rules::{Act, Name};
 
-/// Judges an entry, and makes room for it. The place is that of its name among the workspaces.
+/// Judges an entry, and reserves room for it. Returns the index of its name's workspace, or where
+/// to insert one.
 pub(crate) fn make_way(
     entries: &mut Vec<Entry>,
     workspaces: &mut Vec<Workspace>,
@@ -51,7 +52,7 @@ pub(crate) fn make_way(
     Ok(place)
 }
 
-/// Makes room for one more entry and one more workspace.
+/// Reserves room for one more entry and one more workspace.
 fn make_room(entries: &mut Vec<Entry>, workspaces: &mut Vec<Workspace>) -> Result<(), AllocError>
     ensures entries { entries.new.items ≡ entries.old.items }
     ensures workspaces { workspaces.new.items ≡ workspaces.old.items }
@@ -63,7 +64,8 @@ fn make_room(entries: &mut Vec<Entry>, workspaces: &mut Vec<Workspace>) -> Resul
     Ok(())
 }
 
-/// The ready change, with all that is to be entered, of a prepared one that the journal accepts.
+/// Turns a prepared change that the journal accepts into a ready one, with all that is to be
+/// entered.
 pub(crate) fn make_ready(
     base: &Base,
     entries: &Vec<Entry>,
@@ -111,13 +113,13 @@ pub(crate) fn make_ready(
     })
 }
 
-/// The number that a name has among the names once it has one entry more.
+/// Returns the number that a name has among the names once it has one more entry.
 fn number_after(workspaces: &[Workspace], name: &Name, place: Result<usize, usize>) -> usize
     requires { IsFound name.now workspaces.now place }
     ensures { (j : Journal) (act : ActValue) → AreWorkspacesOf j workspaces.now
         → slice_get (names_of (with_entry j (record { name = name.now; act = act }))) result ≡ Some name.now }
 {
-    // The name stands in the contract alone: the place is its workspace's.
+    // Only the contract uses the name: the workspace at the index has it.
     let _ = name;
     match place {
         Ok(place) => workspaces[place].number,
@@ -125,7 +127,7 @@ fn number_after(workspaces: &[Workspace], name: &Name, place: Result<usize, usiz
     }
 }
 
-/// The version that a name has after an act, where it has a state then.
+/// Returns the version that a name has after an act, if it has a state then.
 fn version_after(
     workspaces: &[Workspace],
     name: &Name,
@@ -146,7 +148,7 @@ fn version_after(
     }
 }
 
-/// The version that a name has.
+/// Returns the version of a name, if it has a state.
 fn version_at(
     workspaces: &[Workspace],
     name: &Name,
@@ -156,7 +158,7 @@ fn version_at(
     requires versions { All HasVersion workspaces.now }
     ensures value { IfOk result (λ version. option_map arc_value version ≡ (standing_at name.now workspaces.now).state) }
 {
-    // The name stands in the contract alone: the place is its workspace's.
+    // Only the contract uses the name: the workspace at the index has it.
     let _ = name;
     let Ok(place) = place else {
         return Ok(None);

@@ -1,4 +1,4 @@
-//! Changes that a table has accepted and that are yet to be made.
+//! Changes that a table has accepted and not made yet.
 
 ghost use Rattle.std.specs.Prelude.{◌≡◌, ◌<◌, None, Some, option_map, slice_get};
 ghost use Rattle.std.specs.Arc.{arc_value};
@@ -13,8 +13,8 @@ use tfs_index::Version;
 use tfs_records::{Base, Entry};
 use tfs_rules::{Act, Name};
 
-/// A change that a table has accepted, with all the memory that it takes. Contracts see the journal that the table had, and the
-/// entry that is to come.
+/// A change that a table has accepted, with all the memory that it needs. Contracts see the journal
+/// that the table had, and the entry to be added.
 #[derive(Drop)]
 pub struct Ready {
     pub(crate) entry: Entry,
@@ -42,22 +42,22 @@ impl Model for Ready {
 }
 
 impl Ready {
-    /// The name that is changed.
+    /// Returns the name whose workspace is changed.
     pub fn name(&self) -> &Name
         ensures value { result.now ≡ self.now.entry.name }
     {
         &self.entry.name
     }
 
-    /// The entry that is to come.
+    /// Returns the entry to be added.
     pub fn entry(&self) -> &Entry
         ensures value { result.now ≡ self.now.entry }
     {
         &self.entry
     }
 
-    /// The number of the name afterwards, among the names of the journal in the order in which they came, from 0. It stays while the
-    /// table lives.
+    /// Returns the number that the name has afterwards among the journal's names, from 0, in the
+    /// order of their first occurrence. It stays the same while the table lives.
     pub fn number(&self) -> usize
         ensures value { slice_get (names_of (with_entry self.now.journal self.now.entry)) result ≡ Some self.now.entry.name }
         ensures most { result < 1024 }
@@ -65,7 +65,7 @@ impl Ready {
         self.number
     }
 
-    /// The version that the name has afterwards, where it has a state.
+    /// Returns the version that the name has afterwards, if it has a state then.
     pub fn version(&self) -> Option<&Arc<Version>>
         ensures value { option_map (λ version. arc_value version.now) result
             ≡ state_of (acts_of self.now.entry.name (with_entry self.now.journal self.now.entry)) }

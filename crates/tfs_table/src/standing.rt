@@ -1,4 +1,4 @@
-//! Records of what a workspace has.
+//! The records of workspaces: their state and holder.
 
 ghost use Rattle.std.specs.Prelude.{◌≡◌, Some, None, IfOk, option_map};
 ghost use Rattle.std.specs.Arc.{arc_value};
@@ -9,7 +9,7 @@ use tfs_lock::LockInfo;
 use tfs_rules::{Act, Record};
 use tfs_state::Doc;
 
-/// The record of a state and a holder, as far as they are there.
+/// Returns the record of a state and a holder, if there are any.
 pub(crate) fn record_of(
     state: Option<&Arc<Doc>>,
     holder: Option<&Arc<LockInfo>>,
@@ -26,7 +26,7 @@ pub(crate) fn record_of(
     }
 }
 
-/// The record of a state, if it is there, without a holder.
+/// Returns the record of a state, if there is one, without a holder.
 fn stated(state: Option<&Arc<Doc>>) -> Result<Record, AllocError>
     ensures { IfOk result (λ kept. kept ≡ record { state = option_map (λ doc. arc_value doc.now) state.entry; holder = None }) }
 {
@@ -36,7 +36,7 @@ fn stated(state: Option<&Arc<Doc>>) -> Result<Record, AllocError>
     }
 }
 
-/// The record of a push.
+/// Returns the record of a pushed document.
 fn pushed(doc: Arc<Doc>) -> Record
     ensures { result ≡ record { state = Some (arc_value doc); holder = None } }
 {
@@ -45,7 +45,7 @@ fn pushed(doc: Arc<Doc>) -> Record
     pushed
 }
 
-/// A record without a holder, with a lock more.
+/// Adds a holder to a record that has none.
 fn locked(mut kept: Record, info: Arc<LockInfo>) -> Record
     requires { kept.holder ≡ None }
     ensures { result ≡ record { state = kept.state; holder = Some (arc_value info) } }

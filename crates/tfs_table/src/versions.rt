@@ -10,7 +10,7 @@ use std::sync::Arc;
 use tfs_index::Version;
 use tfs_rules::Record;
 
-/// Gives each workspace the version of its state.
+/// Builds the version of each workspace's state.
 pub(crate) fn with_versions(
     alloc: Global,
     mut workspaces: Vec<Workspace>,
@@ -25,7 +25,7 @@ pub(crate) fn with_versions(
     Ok(workspaces)
 }
 
-/// Gives a workspace the version of its state.
+/// Builds the version of a workspace's state.
 fn give_version(alloc: Global, workspace: &mut Workspace) -> Result<(), AllocError>
     ensures row { OnOk result (row_of workspace.new ≡ row_of workspace.old) }
     ensures number { OnOk result (workspace.new.number ≡ workspace.old.number) }
@@ -35,7 +35,7 @@ fn give_version(alloc: Global, workspace: &mut Workspace) -> Result<(), AllocErr
     Ok(())
 }
 
-/// The version of the state of a record, where it has one.
+/// Builds the version of the state of a record, if it has one.
 fn version_of(alloc: Global, standing: &Record) -> Result<Option<Arc<Version>>, AllocError>
     ensures { IfOk result (λ version. option_map arc_value version ≡ standing.now.state) }
 {

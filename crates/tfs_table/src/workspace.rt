@@ -1,10 +1,11 @@
-//! What a table keeps of a name.
+//! The workspaces of a table.
 
 use std::sync::Arc;
 use tfs_index::Version;
 use tfs_rules::{Name, Record};
 
-/// A name, its number among the table's names in the order in which they came, what its acts leave, and the version of its state.
+/// A workspace: its name, the number of the name among the table's names in the order of their
+/// first occurrence, its state and holder, and the version of its state.
 #[derive(Drop)]
 pub struct Workspace {
     pub name: Name,

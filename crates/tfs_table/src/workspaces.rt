@@ -1,4 +1,4 @@
-//! Workspaces by their names.
+//! Searching and changing workspaces by their names.
 
 ghost use Rattle.std.specs.Prelude.{◌≡◌, ◌≢◌, ◌∷◌, [], ◌++◌, ◌<◌, ◌⊎◌, All, length, None, Some, option_map, vec_len};
 ghost use Rattle.std.specs.Prelude.{IfOk, IfErr, IfSome, is_some, OnOk, OnErr, slice_get, vec_capacity, false};
@@ -22,7 +22,8 @@ use tfs_lock::LockInfo;
 use tfs_rules::{Act, Name, Record};
 use tfs_state::Doc;
 
-/// The place of the workspace of a name or, where it has none, the place at which names rise with one.
+/// Returns the index of the workspace of a name or, if it has none, the index at which one keeps
+/// the names rising.
 pub(crate) fn place_of(workspaces: &[Workspace], name: &Name) -> Result<usize, usize>
     requires { Rise workspaces.now }
     ensures { IsFound name.now workspaces.now result }
@@ -41,7 +42,8 @@ pub(crate) fn place_of(workspaces: &[Workspace], name: &Name) -> Result<usize, u
     Err(low)
 }
 
-/// Takes an accepted act on the workspace of a name, which gets one where it has none. There is room for it.
+/// Commits an accepted act to the workspace of a name, which is created if there is none. The
+/// caller has reserved room for it.
 pub(crate) fn commit_at(
     workspaces: &mut Vec<Workspace>,
     place: Result<usize, usize>,
@@ -78,7 +80,7 @@ pub(crate) fn commit_at(
     }
 }
 
-/// The state of a name.
+/// Returns the state of a name.
 pub(crate) fn state_at(workspaces: &[Workspace], name: &Name) -> Result<Arc<Doc>, Refusal>
     requires { Rise workspaces.now }
     ensures found { IfOk result (λ doc. (standing_at name.now workspaces.now).state ≡ Some (arc_value doc)) }
@@ -95,7 +97,7 @@ pub(crate) fn state_at(workspaces: &[Workspace], name: &Name) -> Result<Arc<Doc>
     }
 }
 
-/// The holder of a name.
+/// Returns the holder of a name.
 pub(crate) fn holder_at<'w>(workspaces: &'w [Workspace], name: &Name) -> Option<&'w Arc<LockInfo>>
     requires { Rise workspaces.now }
     ensures { option_map (λ info. arc_value info.now) result ≡ (standing_at name.now workspaces.now).holder }
@@ -106,7 +108,7 @@ pub(crate) fn holder_at<'w>(workspaces: &'w [Workspace], name: &Name) -> Option<
     }
 }
 
-/// The version of the state of a name.
+/// Returns the version of the state of a name.
 pub(crate) fn version_of<'w>(workspaces: &'w [Workspace], name: &Name) -> Option<&'w Arc<Version>>
     requires rise { Rise workspaces.now }
     requires versions { All HasVersion workspaces.now }
@@ -121,7 +123,7 @@ pub(crate) fn version_of<'w>(workspaces: &'w [Workspace], name: &Name) -> Option
     }
 }
 
-/// The name of a number.
+/// Returns the name with this number.
 pub(crate) fn name_at(workspaces: &[Workspace], number: usize) -> Option<&Name>
     ensures { (j : Journal) → AreWorkspacesOf j workspaces.now → option_map (λ name. name.now) result ≡ slice_get (names_of j) number }
 {
@@ -131,7 +133,7 @@ pub(crate) fn name_at(workspaces: &[Workspace], number: usize) -> Option<&Name>
     }
 }
 
-/// The workspace of a number.
+/// Returns the workspace with this number.
 fn numbered(workspaces: &[Workspace], number: usize) -> Option<&Workspace>
     ensures { option_map (λ workspace. workspace.now) result ≡ find (has_number number) workspaces.now }
 {
@@ -140,7 +142,7 @@ fn numbered(workspaces: &[Workspace], number: usize) -> Option<&Workspace>
         .find(|workspace| workspace.number == number)
 }
 
-/// The number of a name.
+/// Returns the number of a name.
 pub(crate) fn number_of(workspaces: &[Workspace], name: &Name) -> Option<usize>
     requires { Rise workspaces.now }
     ensures found { IfSome result (λ number. (j : Journal) → AreWorkspacesOf j workspaces.now
