@@ -47,7 +47,7 @@ fn bare_text(alloc: Global, text: &str, len: usize) -> Result<String, AddrFault>
         let (front, key) = split_at_bracket(rest);
         keep(&mut bare, front)?;
         if key.is_empty() {
-            return Ok(fitted(bare)?);
+            return Ok(shrink_to_fit(bare)?);
         }
         rest = after_key(key)?;
     }
@@ -69,7 +69,7 @@ fn keep(bare: &mut String, front: &str) -> Result<(), AllocError>
 /// Returns the text with little spare capacity. A text that was created with capacity for its
 /// length isn't moved. Fails only if the allocator gave the text much more capacity and takes none
 /// back.
-fn fitted(mut text: String) -> Result<String, AllocError>
+fn shrink_to_fit(mut text: String) -> Result<String, AllocError>
     ensures kept { IfOk result (λ fit. string_bytes fit ≡ string_bytes text) }
     ensures room { IfOk result (λ fit. 4 * string_capacity fit ≤ 5 * string_len fit) }
     ensures err { OnErr result (5 * string_len text < 4 * string_capacity text) }

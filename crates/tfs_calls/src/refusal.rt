@@ -24,40 +24,40 @@ pub enum Methods {
 /// body in chunks come in the order of the bytes, and `NoCopy` comes before `JournalStopped`.
 #[derive(Drop, Error)]
 pub enum Refusal {
-    #[error("the head of the request is too large")]
+    #[error("the request head is too large")]
     HeadTooLarge,
-    #[error("the head of the request cannot be read")]
+    #[error("the request head is invalid")]
     BadHead,
-    #[error("the head of the request names no host, or several")]
+    #[error("the request has no Host field, or several")]
     NoHost,
-    #[error("the length of the body cannot be told")]
+    #[error("Content-Length is invalid")]
     BadLength,
-    #[error("the body has a transfer coding")]
+    #[error("the transfer coding is not supported")]
     TransferCoding,
     #[error("the body is too large")]
     BodyTooLarge,
-    #[error("the chunks of the body cannot be read")]
+    #[error("the chunked body is invalid")]
     BadChunk,
-    #[error("there is no such path")]
+    #[error("no such path")]
     NoRoute,
-    #[error("the path doesn't take this method")]
+    #[error("the path does not allow this method")]
     MethodNotAllowed(Methods),
-    #[error("this is no name of a workspace")]
+    #[error("the workspace name is invalid")]
     BadName,
-    #[error("the body hasn't the digest that the request tells")]
+    #[error("the body does not match Content-MD5")]
     BadDigest,
-    #[error("the body is no lock information, or the identifier is too long")]
+    #[error("the lock information is invalid, or the identifier is too long")]
     BadLockInfo,
-    #[error("the body is no state")]
+    #[error("the body is not a valid state")]
     BadState,
     #[error("the state has too many instances")]
     TooManyInstances,
-    #[error("the journal has failed and takes no more changes")]
+    #[error("the journal has failed: no change is accepted")]
     JournalStopped,
     /// The workspace is locked, with this lock information.
     #[error("the workspace is locked")]
     Locked(Arc<LockInfo>),
-    #[error("nobody holds the lock that the request names")]
+    #[error("the request names a lock, and no lock is held")]
     LockLost,
     #[error("the stored state has another lineage")]
     LineageDiffers,
@@ -65,24 +65,24 @@ pub enum Refusal {
     SerialTooLow,
     #[error("the stored state has this serial and other content")]
     SerialReused,
-    #[error("there is no state")]
+    #[error("the workspace has no state")]
     NoState,
     #[error("the query has no address")]
     NoAddress,
     #[error("the query has more than 64 addresses")]
     TooManyAddresses,
     /// An address of the query, with this number from 0, names no instance.
-    #[error("address {0} of the query names nothing")]
+    #[error("address {0} of the query names no instance")]
     UnknownAddress(usize),
     #[error("there are too many workspaces")]
     TableFull,
     #[error("the journal is full")]
     JournalFull,
-    #[error("no memory to answer")]
+    #[error("out of memory")]
     OutOfMemory,
     #[error("the journal could not be written")]
     JournalFault,
-    #[error("no copy of the states could be entered")]
+    #[error("the worker cannot read a recent snapshot")]
     NoCopy,
 }
 

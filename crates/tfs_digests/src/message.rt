@@ -72,13 +72,13 @@ fn end_of(text: &[u8]) -> [u8; 128]
     let used = text.len() % BLOCK_BYTES;
     let at = if used < 56 { 56 } else { 120 };
     let bits = (text.len() as u64).wrapping_mul(8);
-    let mut end = marked(&text[text.len() - used..]);
+    let mut end = final_blocks(&text[text.len() - used..]);
     end[at..at + 8].copy_from_slice(&bits.to_le_bytes());
     end
 }
 
 /// Returns `left`, which is shorter than a block, followed by the padding's first byte and zeros.
-fn marked(left: &[u8]) -> [u8; 128]
+fn final_blocks(left: &[u8]) -> [u8; 128]
     requires { length left.now < 64 }
     ensures { result ≡ left.now ++ 0x80 ∷ replicate (127 - length left.now) 0 }
 {

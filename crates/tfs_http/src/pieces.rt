@@ -133,7 +133,7 @@ fn listed_place<'r>(version: &'r Version, later: bool, numbers: &'r [usize]) -> 
     if end == *first {
         return None;
     }
-    let text = version.listed(*first, end)?;
+    let text = version.address_list(*first, end)?;
     let (_, shown) = text.split_at_checked(if later { 0 } else { 2 })?;
     let (_, behind) = numbers.split_at(end - *first);
     Some(Place {

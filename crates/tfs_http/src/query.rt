@@ -38,7 +38,7 @@ fn all_values(alloc: Global, pairs: RawPairs<'_>, called: &str) -> Result<Vec<Te
     let mut values = Vec::new(alloc);
     for (name, value) in pairs {
         if is_called(alloc, name, called)? {
-            values.push(Text::new(decoded(alloc, value)?))?;
+            values.push(Text::new(decode_value(alloc, value)?))?;
         }
     }
     Ok(values)
@@ -54,7 +54,7 @@ fn first_value(
 {
     for (name, value) in pairs {
         if is_called(alloc, name, called)? {
-            return Ok(Some(decoded(alloc, value)?));
+            return Ok(Some(decode_value(alloc, value)?));
         }
     }
     Ok(None)
@@ -68,7 +68,7 @@ fn is_called(alloc: Global, name: &[u8], called: &str) -> Result<bool, AllocErro
 }
 
 /// Decodes the value of a pair.
-fn decoded(alloc: Global, value: &[u8]) -> Result<String, AllocError>
+fn decode_value(alloc: Global, value: &[u8]) -> Result<String, AllocError>
     ensures { IfOk result (λ text. string_bytes text ≡ decoded value.now) }
 {
     decode(alloc, value)?.into_owned(alloc)

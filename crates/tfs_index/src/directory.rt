@@ -36,12 +36,12 @@ impl Directory {
     pub(crate) fn bucket(&self, text: &str) -> u32
         ensures { result ≡ bucket_of self.now.mask text.now }
     {
-        masked(text_digest(text), self.mask)
+        masked_digest(text_digest(text), self.mask)
     }
 }
 
 /// Returns the bits of a digest that the mask selects.
-fn masked(digest: u64, mask: u32) -> u32
+fn masked_digest(digest: u64, mask: u32) -> u32
     ensures { result ≡ bit_and digest mask }
 {
     (digest & u64::from(mask)) as u32
@@ -54,7 +54,7 @@ fn address_buckets(alloc: Global, doc: &Doc, mask: u32) -> Result<Vec<u32>, Allo
 {
     let mut numbers = Vec::with_capacity(alloc, doc.len())?;
     for v in 0..doc.len() {
-        numbers.push(masked(doc.address(v).digest(), mask))?;
+        numbers.push(masked_digest(doc.address(v).digest(), mask))?;
     }
     Ok(numbers)
 }
@@ -66,7 +66,7 @@ fn config_buckets(alloc: Global, doc: &Doc, mask: u32) -> Result<Vec<u32>, Alloc
 {
     let mut numbers = Vec::with_capacity(alloc, doc.len())?;
     for v in 0..doc.len() {
-        numbers.push(masked(doc.config_digest(v), mask))?;
+        numbers.push(masked_digest(doc.config_digest(v), mask))?;
     }
     Ok(numbers)
 }

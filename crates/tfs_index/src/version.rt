@@ -75,7 +75,7 @@ impl Version {
     /// of a list of JSON texts (RFC 8259, sections 5 and 7). Each is preceded by the closing quote
     /// of the previous address, a comma and its own opening quote. Returns `None` if they aren't
     /// kept.
-    pub fn listed(&self, first: usize, end: usize) -> Option<&[u8]>
+    pub fn address_list(&self, first: usize, end: usize) -> Option<&[u8]>
         ensures text { IfSome result (λ text. text.now ≡ addresses_from self.now first (end - first)) }
         ensures within { IfSome result (λ text. (first ≤ end) × (end ≤ length self.now.instances)) }
     {

@@ -116,7 +116,7 @@ impl Opened {
     }
 
     /// Returns the history under a name, and the token without changes.
-    pub(crate) fn named<J: Naming>(self) -> (History<J>, Token)
+    pub(crate) fn into_named<J: Naming>(self) -> (History<J>, Token)
         requires book { self ≡ J.book }
         ensures book { result.1.book ≡ J.book }
         ensures changes { result.1.changes ≡ [] }

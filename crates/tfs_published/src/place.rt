@@ -28,7 +28,7 @@ pub enum Place {
 }
 
 /// Returns the place of a name with its version. The version is lost if its clone is refused.
-pub(crate) fn filled(name: &PlaceName, version: &Option<Arc<Version>>, token: &Token) -> Place
+pub(crate) fn place_for(name: &PlaceName, version: &Option<Arc<Version>>, token: &Token) -> Place
     requires told { state_told token.now.changes ≡ option_map arc_value version.now }
     ensures value { place_view result
         ≡ Some (place_with name.now (option_map arc_value version.now)) }

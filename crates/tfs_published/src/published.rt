@@ -8,7 +8,7 @@ ghost use Rattle.tfs_published.specs.Published.{updated, place_given};
 ghost use Rattle.tfs_published.specs.Snapshot.{IsSnapshot};
 
 use crate::operation::{Operation, Update};
-use crate::place::{Place, filled, first_place, version_of};
+use crate::place::{Place, first_place, place_for, version_of};
 use crate::search::find;
 use crate::snapshot::Snapshot;
 use crate::token::Token;
@@ -94,7 +94,7 @@ impl Published {
     fn take(&mut self, update: &Update)
         ensures value { self.new ≡ updated self.old update.now }
     {
-        self.places[update.number] = filled(&update.name, &update.version, &update.token);
+        self.places[update.number] = place_for(&update.name, &update.version, &update.token);
         self.position = update.position;
         self.token = update.token.again();
     }

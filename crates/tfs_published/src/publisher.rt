@@ -80,7 +80,7 @@ impl<J: Naming> Publisher<J> {
         ensures journal { IfOk result (λ publisher. (publisher.journal ≡ J.opening) × (publisher.makers ≡ [])) }
         ensures idle { IfOk result (λ publisher. publisher.next ≡ None) }
     {
-        let (history, newest) = opened.named::<J>();
+        let (history, newest) = opened.into_named::<J>();
         let first = Published::of(alloc, table, &newest)?;
         let second = match Published::of(alloc, table, &newest) {
             Ok(second) => second,
@@ -114,7 +114,7 @@ impl<J: Naming> Publisher<J> {
         let Ok(reader) = writer.factory().reader() else {
             return None;
         };
-        let (token, position) = self.reached();
+        let (token, position) = self.published_position();
         Some(Reader::new(reader, token, position))
     }
 
@@ -158,12 +158,12 @@ impl<J: Naming> Publisher<J> {
     pub fn show(&self, reader: &mut Reader<J>)
         ensures value { reader.new ≡ record { journal = self.now.journal; makers = self.now.makers } }
     {
-        let (token, position) = self.reached();
+        let (token, position) = self.published_position();
         reader.see(token, position);
     }
 
     /// Returns the token of what is published, and its position.
-    fn reached(&self) -> (Token, u64)
+    fn published_position(&self) -> (Token, u64)
         ensures book { result.0.book ≡ J.book }
         ensures journal { (journal_after J.opening result.0.changes ≡ self.now.journal) × (makers_of result.0.changes ≡ self.now.makers) }
         ensures position { result.1 ≡ position_of self.now.journal }

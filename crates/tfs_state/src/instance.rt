@@ -55,13 +55,13 @@ fn given_deposed<'t>(value: &Tree<'t>) -> Option<Option<&'t str>>
     ensures { option_map option_copied result ≡ deposed_of (view value.now) }
 {
     match optional_text_at(value, "deposed")? {
-        Some(text) => Some(filled(text)),
+        Some(text) => Some(non_empty(text)),
         None => Some(None),
     }
 }
 
 /// Returns the text if it isn't empty.
-pub(crate) fn filled(text: &str) -> Option<&str>
+pub(crate) fn non_empty(text: &str) -> Option<&str>
     ensures { option_copied result ≡ filled_text text.now }
 {
     if text.is_empty() { None } else { Some(text) }

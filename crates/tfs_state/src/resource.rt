@@ -5,7 +5,7 @@ ghost use Rattle.tfs_json.specs.Tree.{tree_view as view};
 ghost use Rattle.tfs_state.specs.Resources.{mode_named, path_of, resource_members};
 ghost use Rattle.tfs_state.specs.Parts.{resource_view};
 
-use crate::instance::filled;
+use crate::instance::non_empty;
 use tfs_addr::Mode;
 use tfs_json::{Tree, list_at, optional_text_at, text_at};
 
@@ -25,8 +25,8 @@ pub(crate) fn resource_parts<'v, 't>(value: &'v Tree<'t>) -> Option<ResourcePart
 {
     let path = path_of(value)?;
     let mode = mode_named(text_at(value, "mode")?)?;
-    let kind = filled(text_at(value, "type")?)?;
-    let name = filled(text_at(value, "name")?)?;
+    let kind = non_empty(text_at(value, "type")?)?;
+    let name = non_empty(text_at(value, "name")?)?;
     let instances = list_at(value, "instances")?;
     Some(ResourceParts {
         path,

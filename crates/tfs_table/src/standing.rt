@@ -19,25 +19,25 @@ pub(crate) fn record_of(
       holder = option_map (λ info. arc_value info.now) holder.entry;
     }) }
 {
-    let kept = stated(state)?;
+    let kept = state_record(state)?;
     match holder {
-        Some(info) => Ok(locked(kept, info.clone()?)),
+        Some(info) => Ok(with_lock(kept, info.clone()?)),
         None => Ok(kept),
     }
 }
 
 /// Returns the record of a state, if there is one, without a holder.
-fn stated(state: Option<&Arc<Doc>>) -> Result<Record, AllocError>
+fn state_record(state: Option<&Arc<Doc>>) -> Result<Record, AllocError>
     ensures { IfOk result (λ kept. kept ≡ record { state = option_map (λ doc. arc_value doc.now) state.entry; holder = None }) }
 {
     match state {
-        Some(doc) => Ok(pushed(doc.clone()?)),
+        Some(doc) => Ok(push_record(doc.clone()?)),
         None => Ok(Record::empty()),
     }
 }
 
 /// Returns the record of a pushed document.
-fn pushed(doc: Arc<Doc>) -> Record
+fn push_record(doc: Arc<Doc>) -> Record
     ensures { result ≡ record { state = Some (arc_value doc); holder = None } }
 {
     let mut pushed = Record::empty();
@@ -46,7 +46,7 @@ fn pushed(doc: Arc<Doc>) -> Record
 }
 
 /// Adds a holder to a record that has none.
-fn locked(mut kept: Record, info: Arc<LockInfo>) -> Record
+fn with_lock(mut kept: Record, info: Arc<LockInfo>) -> Record
     requires { kept.holder ≡ None }
     ensures { result ≡ record { state = kept.state; holder = Some (arc_value info) } }
 {

@@ -127,14 +127,14 @@ pub(crate) fn version_of<'w>(workspaces: &'w [Workspace], name: &Name) -> Option
 pub(crate) fn name_at(workspaces: &[Workspace], number: usize) -> Option<&Name>
     ensures { (j : Journal) → AreWorkspacesOf j workspaces.now → option_map (λ name. name.now) result ≡ slice_get (names_of j) number }
 {
-    match numbered(workspaces, number) {
+    match workspace_at(workspaces, number) {
         Some(workspace) => Some(&workspace.name),
         None => None,
     }
 }
 
 /// Returns the workspace with this number.
-fn numbered(workspaces: &[Workspace], number: usize) -> Option<&Workspace>
+fn workspace_at(workspaces: &[Workspace], number: usize) -> Option<&Workspace>
     ensures { option_map (λ workspace. workspace.now) result ≡ find (has_number number) workspaces.now }
 {
     workspaces
