@@ -1,5 +1,5 @@
-"""What both programs acknowledge is on the disk: over a disk of which a power cut leaves only what
-was synced (lazy_disk.c), with each sync failing once, and with slow syncs and writes."""
+"""What both programs acknowledge is on the disk: with a power cut that leaves only what was synced
+(lazy_disk.c), with each sync failing once, and with slow syncs and writes."""
 import http.client
 import re
 import string

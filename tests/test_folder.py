@@ -186,7 +186,7 @@ def test_names_of_others_are_left_alone():
 
 
 def start_refused(case):
-    """Makes a start over journals of which number 4 can't be continued."""
+    """Makes a start over journals, in which number 4 can't be continued."""
     about, files, fault = case
     errors = refused(fresh(**files), fault, about)
     expect(named(4) in errors, True, f"{about}: {errors}")

@@ -283,8 +283,8 @@ STEPS = st.lists(st.sampled_from(["query"] * 15 + ["push"] * 4 + ["delete"]), mi
 
 @st.composite
 def graphs(draw):
-    """Draws a state of a few resources, many of which depend on one another, and texts that may
-    name them."""
+    """Draws a state of a few resources, with many dependencies among them, and texts that may name
+    them."""
     names = draw(ADDRESSES)
     known = [(module + "." if module else "") + kind + name for module, kind, name in names]
     resources, texts = [], known + ["x.y", "t.a[0]", "module.m.t.b", ""]

@@ -19,7 +19,7 @@ LOCK, STATE = b'{"ID":"i"}', chain(2)
 
 
 def expect_as_modelled(pieces, about):
-    """Checks that the program answers these pieces, each of which is a read, as the model does, and
+    """Checks that the program answers these pieces, each of them a read, as the model does, and
     ends as it does."""
     output, status = model.conversation(b"".join(pieces))
     expect(status, CLEAN, f"{about}: the model's end")
