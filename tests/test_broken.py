@@ -129,8 +129,8 @@ def test_a_reply_of_16384_bytes_is_one_write_and_a_longer_one_is_two(size, write
 
 
 def answers(server, *requests):
-    """Returns the statuses and bodies of the replies to requests, each on a connection of its own.
-    """
+    """Returns the statuses and bodies of the replies to requests, each on a connection of its
+    own."""
     return [server.ask(*request) for request in requests]
 
 

@@ -57,7 +57,7 @@ def test_a_journal_that_cant_grow_ends_the_server_or_stops_changes():
 
 
 def limit_stacks(size):
-    """Sets the size of each thread's stack."""
+    """Returns a function that limits the size of each thread's stack."""
     return lambda: resource.setrlimit(resource.RLIMIT_STACK, (size, size))
 
 
@@ -174,8 +174,8 @@ def start_on_a_full_disk(folder, pages):
 
 
 def why_not_mounted(folder):
-    """Mounts a small file system in a folder. Returns why it couldn't; an empty text if it could.
-    """
+    """Mounts a small file system in a folder. Returns why it couldn't; an empty text if it
+    could."""
     if not shutil.which("mount"):
         return "the command mount is missing"
     made = subprocess.run(["mount", "-t", "tmpfs", "-o", "size=64k", "none", str(folder)], stderr=subprocess.PIPE, check=False)

@@ -97,7 +97,7 @@ def test_the_packages_are_those_of_the_readme_and_of_ci():
 
 
 def imported(path):
-    """Returns the modules that a file imports."""
+    """Yields the modules that a file imports."""
     for node in ast.walk(ast.parse(path.read_text(encoding="utf-8"))):
         if isinstance(node, ast.ImportFrom):
             yield node.module

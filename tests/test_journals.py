@@ -64,8 +64,8 @@ def run(pieces, *words, **how):
 
 
 def expect_read(texts):
-    """Compares how the program and the plain reader read each text, and the text of what they read.
-    """
+    """Compares how the program and the plain reader read each text, and the text of what they
+    read."""
     output, status, errors = run(texts)
     expect((status, errors), (0, ""), "the program")
     lines = output.splitlines()
@@ -105,7 +105,7 @@ def behind(front, rows):
 
 
 def flipped(text):
-    """Yields the text with each of its bits flipped."""
+    """Returns the text with each of its bits flipped."""
     number = int.from_bytes(text, "big")
     return [(number ^ 1 << bit).to_bytes(len(text), "big") for bit in range(8 * len(text))]
 

@@ -39,7 +39,8 @@ def push_on(server, name, acknowledged, told, seed):
 
 
 def lawful(data, about):
-    """Checks that the bytes of a journal are whole or torn, and lawful."""
+    """Checks that the bytes of a journal are whole or torn, and lawful. Returns the path of a file
+    with them."""
     file = fresh(data)
     checked = run("check", file)
     expect(checked[1] in (0, 3), True, f"{about}: check says {checked}")

@@ -114,8 +114,8 @@ def test_a_client_that_reads_nothing_is_left_after_a_while():
 
 
 def read_in_pieces(server, size, pause):
-    """Returns what a client gets of the long state if it reads this many bytes before each pause.
-    """
+    """Returns what a client gets of the long state if it reads this many bytes before each
+    pause."""
     text = b""
     with small_connection(server) as connection, connection.makefile("rb", buffering=65536) as file, contextlib.suppress(ConnectionError):
         connection.sendall(request_text("GET", "/state/a", more="Connection: close\r\n"))

@@ -280,8 +280,8 @@ def random_lock_info(chance):
 
 
 def random_part(chance, text):
-    """Returns a text as part of a query: letters are plain or percent-encoded, a space also as `+`.
-    """
+    """Returns a text as part of a query: letters are plain or percent-encoded, a space also as
+    `+`."""
     written = ""
     for letter in text:
         encoded = "".join(f"%{byte:02x}" for byte in letter.encode())

@@ -45,8 +45,8 @@ def run_refused(first, last, word="stdio", data=PUSH_AND_GET):
 
 
 def ample_counts(data=PUSH_AND_GET, wanted=DONE + STATE):
-    """Returns how many requests a conversation makes, and how many of them are for the arguments.
-    """
+    """Returns how many requests a conversation makes, and how many of them are for the
+    arguments."""
     output, status, errors, requests, others = run_refused(0, 0, data=data)
     expect((output, status, errors, others), (wanted, 0, b"", 0), "no request is refused")
     output, status, errors, for_arguments, others = run_refused(0, 0, "other")

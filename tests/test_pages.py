@@ -53,7 +53,7 @@ def test_each_link_leads_to_a_file():
 
 
 def paths_of(line):
-    """Returns the paths in a line between backquotes: paths of files, and paths below a folder of
+    """Yields the paths in a line between backquotes: paths of files, and paths below a folder of
     the repository."""
     for word in re.findall(r"`([^`\s]+)`", line):
         named = FILE.match(word) or word.partition("/")[0] in FOLDERS and "/" in word
@@ -62,7 +62,7 @@ def paths_of(line):
 
 
 def missing_paths(page, line):
-    """Returns the paths of a line that lead nowhere. A path may continue in the folder of a
+    """Yields the paths of a line that lead nowhere. A path may continue in the folder of a
     previous one, and a path of a crate is looked for in all crates."""
     folders = [page.parent, TOP, TOP / "crates", TOP / "tests", TOP / "tests" / "models", TOP / "tests" / "support"]
     if TOP / "crates" not in page.parents:

@@ -117,8 +117,8 @@ def served():
 
 
 def idle():
-    """Returns the same with a journal that has no changes since its base, which a start replaces.
-    """
+    """Returns the same with a journal that has no changes since its base, which a start
+    replaces."""
     disk, told = copy_of(served)
     started(disk).listens().kill()
     return disk, told
@@ -294,8 +294,8 @@ def test_a_power_cut_before_each_call_of_a_start_loses_nothing(make, how):
 
 def expect_reported(report, failed, place, about):
     """Checks what a server reports of a compaction: that it is done, unless a call failed before.
-    Then the earlier journal continues, if the newest one still has its number, or the server ended.
-    """
+    Then the earlier journal continues, if the newest one still has its number, or the server
+    ended."""
     status, text, is_same = report
     if failed is None or place < failed:
         expect((status, " bytes in place of " in text), (None, True), f"{about}: {text}")

@@ -121,8 +121,8 @@ SAYS = {
 
 
 def said(words):
-    """Returns what the program prints about a state with these words; for a fault, with its text.
-    """
+    """Returns what the program prints about a state with these words; for a fault, with its
+    text."""
     name, _, numbers = words.rstrip(")").partition("(")
     return f"{words}: {SAYS[name].format(*numbers.split(', '))}" if name in SAYS else words
 

@@ -256,7 +256,7 @@ def head_lines(draw):
 
 
 def heads():
-    """Generates requests without a body."""
+    """Returns a strategy for requests without a body."""
     return st.builds(bytes.__add__, REQUEST_LINES, head_lines())
 
 

@@ -42,8 +42,8 @@ def end_between_connections(server):
 
 
 class Refusing(Server):
-    """A server with one worker, whose requests for memory from the first to the last are refused.
-    """
+    """A server with one worker, whose requests for memory from the first to the last are
+    refused."""
 
     def __init__(self, first, last):
         reading, writing = os.pipe()

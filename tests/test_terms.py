@@ -176,7 +176,7 @@ def failed_turn(*words):
 
 @pytest.fixture(scope="module", autouse=True)
 def failed(tfstatectl):
-    """Returns a server whose compaction failed before the first test began; its minute passes
+    """Yields a server whose compaction failed before the first test began; its minute passes
     meanwhile."""
     made = failed_turn()
     STARTED.clear()
@@ -217,8 +217,8 @@ def test_a_journal_that_fails_in_a_later_term_ends_the_server():
 
 
 def killed_at(turn):
-    """Kills a server before the call with this number, while a client pushes. The next start has
-    all that was acknowledged."""
+    """Kills a server before the call with this number, while a client pushes, and checks that the
+    next start has all that was acknowledged. Returns the number of retired journals."""
     folder = fresh()
     how = {"env": {**os.environ, "LD_PRELOAD": SHIM, "TURN": str(turn)}}
     server = serving(folder, "--compact-entries", "3", **how)

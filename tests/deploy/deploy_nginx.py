@@ -139,8 +139,8 @@ class Nginx:
         return http.client.HTTPSConnection(LOOPBACK, self.port, timeout=SECONDS, context=context)
 
     def ask(self, method, target, body=None, headers=WITH_PASSWORD):
-        """Returns the status and the body of the reply to one request, on a connection of its own.
-        """
+        """Returns the status and the body of the reply to one request, on a connection of its
+        own."""
         connection = self.connect()
         try:
             return ask_over(connection, method, target, body, headers)

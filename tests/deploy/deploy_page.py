@@ -186,8 +186,8 @@ def check_users():
 
 
 def waits_for_status(user, password, wanted):
-    """Returns true if a user gets a status before long, because nginx takes a moment for new files.
-    """
+    """Returns true if a user gets a status before long, because nginx takes a moment for new
+    files."""
     end = time.monotonic() + SECONDS
     while time.monotonic() < end:
         if ask("GET", "/state/network.prod", headers=signed(user, password))[0] == wanted:

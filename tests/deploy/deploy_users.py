@@ -26,8 +26,8 @@ class Users:
             self.add(name)
 
     def run(self, *words, status=0):
-        """Returns what the script writes to standard output, or to standard error if it is to fail.
-        """
+        """Returns what the script writes to standard output, or to standard error if it is to
+        fail."""
         variables = {**os.environ, "TFSTATED_NGINX": str(self.folder)}
         how = {"stdin": subprocess.DEVNULL, "capture_output": True, "text": True, "timeout": SECONDS, "check": False}
         ran = subprocess.run([str(SCRIPT), *words], env=variables, **how)

@@ -179,7 +179,7 @@ def has_ended(process, seconds):
 
 @contextlib.contextmanager
 def process_of(name):
-    """Returns a descriptor of the process of the server or of nginx; none if there is no such
+    """Yields a descriptor of the process of the server or of nginx; none if there is no such
     process."""
     try:
         process = os.pidfd_open(pid_of(name)) if pid_of(name) else None
@@ -228,8 +228,8 @@ def act(verb, unit):
 
 
 def tell(verb, unit):
-    """Prints the outcome of a unit: `is-failed` has status 0 if it failed, `status` has 3 if it
-    doesn't run."""
+    """Prints the outcome of a unit. Returns a status: `is-failed` has 0 if it failed, `status` has
+    3 if it doesn't run."""
     path, runs = ROOM / f"{unit}.service.failed", unit == "tfstated" and alive()
     failed = not runs and path.exists() and path.read_text() == "failed"
     print("failed" if failed else "active" if runs else "inactive", flush=True)

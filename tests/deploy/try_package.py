@@ -105,7 +105,7 @@ def do(*titles):
 
 
 def waits_for(script, text=""):
-    """Waits until a script in the container succeeds and writes a text."""
+    """Waits until a script in the container succeeds and writes a text. Returns what it writes."""
     end, found = time.monotonic() + SECONDS, (1, "")
     while time.monotonic() < end and (found[0] or text not in found[1]):
         found = BOX.run(script)

@@ -61,8 +61,8 @@ def waiting(model, thread):
 
 
 def thread_step(model, thread):
-    """Returns the model after the next step of a thread: it writes, or it waits; None after these.
-    """
+    """Returns the model after the next step of a thread: it writes, or it waits; None after
+    these."""
     outcome = model.outcomes[thread]
     if outcome == NOTHING:
         written = model.written + 1

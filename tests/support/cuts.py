@@ -17,7 +17,7 @@ def cut_at(data, places):
 
 
 def some_pieces(data, most):
-    """Generates the bytes, cut at some places."""
+    """Returns a strategy for the bytes, cut at some places."""
     places = st.sets(st.integers(0, len(data) - 1), max_size=most)
     return places.map(functools.partial(cut_at, data))
 
@@ -28,5 +28,5 @@ def shortened(data, count):
 
 
 def without_end(data):
-    """Generates the bytes, or a beginning that lacks some of the last ones."""
+    """Returns a strategy for the bytes, or a beginning that lacks some of the last ones."""
     return LACKING.map(functools.partial(shortened, data))

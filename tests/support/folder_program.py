@@ -70,8 +70,8 @@ class Serving:
         return LocalConnection(self.path) if self.path else http.client.HTTPConnection(LOOPBACK, self.port, timeout=SECONDS)
 
     def ask(self, method, target, body=None):
-        """Returns the status and the body of the reply to one request, on a connection of its own.
-        """
+        """Returns the status and the body of the reply to one request, on a connection of its
+        own."""
         connection = self.connect()
         try:
             return ask_over(connection, method, target, body)
@@ -108,8 +108,8 @@ def served(folder, *words, **how):
 
 
 def limit_files(size):
-    """Returns a function that limits the size of files and ignores the signal for a longer write.
-    """
+    """Returns a function that limits the size of files and ignores the signal for a longer
+    write."""
     def limit():
         signal.signal(signal.SIGXFSZ, signal.SIG_IGN)
         resource.setrlimit(resource.RLIMIT_FSIZE, (size, size))

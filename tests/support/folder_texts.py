@@ -25,7 +25,7 @@ def is_sound(data):
 
 
 def sound(draw, made):
-    """Draws from a strategy. Most of the time it is repeated until the journal is valid."""
+    """Draws from a strategy, most of the time until the journal is valid."""
     data = draw(made)
     while not is_sound(data) and not draw(one_in(20)):
         data = draw(made)

@@ -85,7 +85,8 @@ def free_port():
 
 
 def at_once(work, cases):
-    """Does the work of each case, a few of them concurrently. Fails if one fails."""
+    """Does the work of each case, a few of them concurrently. Returns the
+    results. Fails if one fails."""
     with concurrent.futures.ThreadPoolExecutor(8) as pool:
         return list(pool.map(work, cases))
 

@@ -21,8 +21,8 @@ def slow(**how):
 
 
 class Disk:
-    """A disk at this path, or a new one with a folder of journals and a file of the least position.
-    """
+    """A disk at this path, or a new one with a folder of journals and a file of the least
+    position."""
 
     def __init__(self, root=None):
         shim()

@@ -55,8 +55,8 @@ class Pusher:
 
 
 def serials_of(folder):
-    """Returns the serials that names pushed, in order, over all journals of a folder, each of which
-    continues at the position of the previous one."""
+    """Returns the serials that names pushed, in order, over all journals of a folder. Each journal
+    must continue at the position of the previous one."""
     found, position = {}, None
     for _, data in sorted({**journals(folder), **journals(folder / "old")}.items()):
         _, base, rows, entries, end = read_journal(data)

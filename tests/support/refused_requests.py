@@ -57,8 +57,8 @@ def fault_of(words, ample, first, last, data=b""):
 
 
 def count_of(words, ample, data=b""):
-    """Returns how many requests a program makes with ample memory, when it must write this output.
-    """
+    """Returns how many requests a program makes with ample memory, when it must write this
+    output."""
     output, status, fault, own, _ = run_refused(words, 0, 0, data)
     if (output, status, fault) != (ample, 0, b"") or not own:
         raise AssertionError(f"with ample memory: {output[-200:]}, status {status}, {fault}, {own} requests")

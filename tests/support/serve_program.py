@@ -52,8 +52,8 @@ class Server:
         return connection
 
     def ask(self, method, target, body=b"", more=""):
-        """Returns the status and the body of the reply to one request, on a connection of its own.
-        """
+        """Returns the status and the body of the reply to one request, on a connection of its
+        own."""
         with self.connect() as connection:
             return asked(connection, method, target, body, more)
 
@@ -209,8 +209,8 @@ def crowd(length):
 
 
 def push_large(server, text, statuses):
-    """Pushes a text, and records the status of the reply; none if the connection ends without one.
-    """
+    """Pushes a text, and records the status of the reply; none if the connection ends without
+    one."""
     try:
         reply = server.ask("POST", "/state/large", text)
     except OSError:

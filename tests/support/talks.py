@@ -69,7 +69,8 @@ def expect_replies(output, replies, requests, about):
 
 
 def expect_talk(rows):
-    """Runs rows of method, target, body and reply as one conversation, over the program and over the model's table."""
+    """Runs rows of method, target, body and reply as one conversation, over the program and
+    over the model's table."""
     requests, wanted = [row[:3] for row in rows], [row[3] for row in rows]
     table = Table()
     expect_replies(b"".join(table.reply(Request(*request)) for request in requests), wanted, requests, "the model")

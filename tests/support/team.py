@@ -18,8 +18,8 @@ GONE = (OSError, http.client.HTTPException)
 
 
 class Changes:
-    """The requested changes, and when each was sent and acknowledged. No change is requested twice.
-    """
+    """The requested changes, and when each was sent and acknowledged. No change is requested
+    twice."""
 
     def __init__(self):
         self.sent, self.acknowledged = {}, {}
@@ -94,16 +94,16 @@ class Team:
                 self.orphans.add(orphan)
 
     def lose(self, server, error):
-        """Records that a client lost its connection, which is right only if its server was killed.
-        """
+        """Records that a client lost its connection, which is right only if its server was
+        killed."""
         with self.guard:
             self.lost += 1
             if server is self.server:
                 self.failures.append(f"a connection ends while the server goes on: {error!r}")
 
     def take_orphan(self, server, name, holder):
-        """Returns true if a holder that this server reported has gone; the caller must then unlock.
-        """
+        """Returns true if a holder that this server reported has gone; the caller must then
+        unlock."""
         with self.guard:
             is_left = server is self.server and name not in self.inside and holder in self.orphans
             self.orphans -= {holder} if is_left else set()
@@ -125,7 +125,8 @@ class Team:
 
 
 class Client(threading.Thread):
-    """One machine with Terraform: it changes workspaces under their locks, on a connection that it keeps."""
+    """One machine with Terraform: it changes workspaces under their locks, on a persistent
+    connection."""
 
     def __init__(self, number, team):
         super().__init__(daemon=True)

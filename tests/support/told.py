@@ -54,8 +54,8 @@ class Told:
 
 
 def ask_on(server, step):
-    """Sends requests until the server is gone. A server that compacts its journal ends connections.
-    """
+    """Sends requests until the server is gone. A server that compacts its journal ends
+    connections."""
     connection = http.client.HTTPConnection(LOOPBACK, server.port, timeout=10)
     while server.process.poll() is None:
         try:
