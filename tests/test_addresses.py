@@ -1,8 +1,8 @@
-"""Refuses the requests for memory that the program `tfs_probe` makes: each one in turn, and all
-from each one on. Each call of `tfs_addr` must then report that memory ran out, or answer as with
-ample memory; a text with a fault must have its fault.
+"""Refuses the requests for memory that the program `tfs_probe` makes: each request, one in each
+run, and all from each one on. Each call of `tfs_addr` must then report that memory ran out, or
+answer as with ample memory; a text with a fault must have its fault.
 
-It needs gcc, and builds the program if it isn't built. The last line counts what passed."""
+It needs gcc, and builds the program if it isn't built."""
 import pytest
 
 import refused_requests

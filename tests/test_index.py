@@ -1,7 +1,7 @@
 """Refuses the requests for memory of the program `tfs_probe`, which reads a small state, builds its
-index and queries it for any and all of two addresses: each request in turn, and all from each one
-on. Each run writes what it writes with ample memory, or complete lines of it and that memory ran
-out."""
+index and queries it for any and all of two addresses: each request, one in each run, and all from
+each one on. Each run writes what it writes with ample memory, or complete lines of it and that
+memory ran out."""
 import pytest
 
 from checking import expect

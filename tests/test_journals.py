@@ -3,7 +3,7 @@ reads, and encodes again, is compared with a plain reader and writer: four journ
 flipped, also under right MD5s, each prefix, and random journals. How prefixes, flipped bits, and
 fields at their limits read is also worked out by hand (journal_rows.py). Its files are compared
 with what it prints about each append: complete ones, a limit on the size of files, a full device, a
-pipe, a closed descriptor. Its requests for memory are refused in turn."""
+pipe, a closed descriptor. Its requests for memory are refused, one in each run."""
 import os
 import resource
 import signal

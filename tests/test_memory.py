@@ -1,8 +1,8 @@
 """Refuses the built program's requests for memory, by a preloaded shim: each request of a
-conversation in turn, and all from each one on. Each run ends by itself, and its output is complete
-replies that the model allows. One conversation is the stored run, whose outputs are written here by
-hand; two are like it, with a state that doesn't come in one read, in chunks in one of them; the
-last has locks, unlocks and a deletion.
+conversation, one in each run, and all from each one on. Each run ends by itself, and its output is
+complete replies that the model allows. One conversation is the stored run, whose outputs are
+written here by hand; two are like it, with a state that doesn't come in one read, in chunks in one
+of them; the last has locks, unlocks and a deletion.
 
 All requests are the program's own, by malloc and realloc; the loader and the C library make none.
 The first ones are for the arguments: if they are refused, the arguments can't be read and count as

@@ -1,7 +1,7 @@
 """Refuses requests for memory of a server with one worker, by a preloaded shim: each request of a
-talk in turn, and all from each one on. A refused request gets that reply, or its connection ends,
-and it changes nothing. With ample memory, a call of a shared table requests memory hardly more
-often than the same call of a table alone, however large the state is."""
+talk, one in each run, and all from each one on. A refused request gets that reply, or its
+connection ends, and it changes nothing. With ample memory, a call of a shared table requests memory
+hardly more often than the same call of a table alone, however large the state is."""
 import io
 import os
 from pathlib import Path

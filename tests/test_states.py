@@ -1,7 +1,7 @@
 """Refuses the requests for memory of the program `tfs_probe`, which reads small states of each
-shape: each request in turn, and all from each one on. Each run writes what it writes with ample
-memory, or that memory ran out. Then reads texts of the shapes that take the most memory for their
-bytes: none takes more than 30 times its bytes and 64 KB."""
+shape: each request, one in each run, and all from each one on. Each run writes what it writes with
+ample memory, or that memory ran out. Then reads texts of the shapes that take the most memory for
+their bytes: none takes more than 30 times its bytes and 64 KB."""
 from itertools import product
 from string import printable
 

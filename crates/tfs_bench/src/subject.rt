@@ -31,9 +31,9 @@ impl Subject<'_, '_> {
     }
 }
 
-/// Makes all calls in turn, for this number of rounds, and prints the nanoseconds of the shortest
-/// of each, and its last count. Without a number, makes each call once, and prints its count. With
-/// 0 rounds only the input is made.
+/// Makes each call once in each round, and prints the nanoseconds of the shortest of each call, and
+/// its last count. Without a number of rounds, makes each call once, and prints its count. With 0
+/// rounds only the input is made.
 pub(crate) fn print_calls<R: Clock + Print + AllocGlobal>(
     rt: &R,
     subject: Subject,
