@@ -25,7 +25,7 @@ from stdio_program import PROGRAM, request_text
 
 pytestmark = pytest.mark.usefixtures("tfstated", "tfstatectl")
 SIZE = 4_096
-# Instructions for a byte of a push: a record takes 12, of these its digest takes 10.
+# Limits of the instructions for a byte of a push: a record takes 12, and its digest 10 of these.
 RECORD, DIGEST = 15, 12
 
 

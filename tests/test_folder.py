@@ -19,7 +19,7 @@ from repository import TOP
 
 pytestmark = pytest.mark.usefixtures("tfstatectl")
 EMPTY = b"TFJ1\n"
-# For a start whose journals have 100 KB of current state.
+# The memory limit of a start whose journals have 100 KB of current state.
 MOST_MEMORY = 24_000_000
 
 

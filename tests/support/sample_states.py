@@ -23,7 +23,7 @@ def resource(name, instances, **members):
 
 def written(count, more):
     """Returns a state as Terraform writes it: resources of one instance, each with `more`
-    attributes in addition to those that all have."""
+    attributes in addition to the common ones."""
     return text_of([written_resource(number, more) for number in range(count)])
 
 
