@@ -2,9 +2,9 @@
 of the built programs, two files at once.
 
 Each line has the time since the start before it; lines that report no fault, as a proved function
-or a passed test, are left out. out/gate.log has all of them, out/gate-times.json the time of each part, and
-out/junit/ a report of each file of tests. Failures are shown once more at the end. The last line is
-`N passed, M failed`, over all. The exit status is 1 if anything failed."""
+or a passed test, are left out. out/gate.log has all of them, out/gate-times.json the time of each
+part, and out/junit/ a report of each file of tests. Failures are shown once more at the end. The
+last line is `N passed, M failed`, over all. The exit status is 1 if anything failed."""
 import datetime
 import json
 import os
