@@ -1,5 +1,5 @@
-"""Collects the figures of a run of `make bench` for the page that it prints. A benchmark notes
-rows; the file that the variable FIGURES names gets them, a line each."""
+"""Collects the figures of a run of `make bench` for the page that it prints. Benchmarks note rows,
+which are appended to the file that the variable FIGURES names, one a line."""
 import json
 import os
 
@@ -17,7 +17,7 @@ def rate(value):
 
 
 def times_as_fast(own, other):
-    """Returns how many times as high an own rate is as another one."""
+    """Returns the ratio of an own rate to another one."""
     return f"{own / other:.2f}"
 
 

@@ -1,4 +1,4 @@
-"""Builds the program `tfs_bench`, and measures calls by it."""
+"""Builds the program `tfs_bench`, and measures calls with it."""
 import os
 import shutil
 import subprocess
@@ -19,12 +19,13 @@ CALLGRIND = [VALGRIND, "--tool=callgrind", "--callgrind-out-file=/dev/null"]
 
 
 def say_where():
-    """Prints on what is measured."""
+    """Prints what the measurements run on."""
     print(f"{os.cpu_count()} cores, {datetime.now(timezone.utc):%Y-%m-%d}, load {os.getloadavg()[0]:.1f}", flush=True)
 
 
 def build(cpu=CPUS[0]):
-    """Builds the program for a processor, and compares what it makes of its stored input. Ends the script where it fails."""
+    """Builds the program for a processor, and compares its output for its stored input. Ends the
+    script if that fails."""
     with open(CRATE / "stdin", "rb") as stored:
         ran = subprocess.run(["rt", "run", "--cpu", cpu], cwd=CRATE, stdin=stored, capture_output=True, check=False)
     if ran.returncode or ran.stdout != (CRATE / "stdout").read_bytes():
@@ -32,7 +33,8 @@ def build(cpu=CPUS[0]):
 
 
 def compile_c(source, target, *options):
-    """Builds a program in C, by clang where there is one. Ends the script where there is no compiler."""
+    """Builds a program in C, by clang if it is installed. Ends the script if there is no
+    compiler."""
     compiler = shutil.which("clang") or shutil.which("gcc")
     if not compiler:
         sys.exit("clang or gcc is missing")
@@ -41,7 +43,8 @@ def compile_c(source, target, *options):
 
 
 def ran(words, data, before=(), **how):
-    """Runs the program over input: what it wrote, and what was written on standard error. Ends the script where it fails."""
+    """Runs the program over input. Returns its output, and what was written to standard error. Ends
+    the script if it fails."""
     ended = subprocess.run([*before, str(PROGRAM), *map(str, words)], input=data, capture_output=True, check=False, **how)
     if ended.returncode:
         sys.exit(f"tfs_bench {words} ends with status {ended.returncode}: {ended.stderr[-200:]}")
@@ -49,31 +52,32 @@ def ran(words, data, before=(), **how):
 
 
 def measured(subject, rounds, calls, data, *number, **how):
-    """The shortest times of calls, in nanoseconds, and what each gave, by their names. They take turns."""
+    """Returns the shortest times of calls, in nanoseconds, and the result of each, by their names.
+    The calls take turns."""
     lines = ran([subject, rounds, *number, *calls], data, **how)[0].splitlines()
     return {name: (int(time), int(count)) for name, time, count in map(str.split, lines)}
 
 
 def times(subject, rounds, calls, data, *number, **how):
-    """The shortest times alone, in the order of the calls."""
+    """Returns only the shortest times, in the order of the calls."""
     found = measured(subject, rounds, calls, data, *number, **how)
     return [found[call][0] for call in calls]
 
 
 def collected(told):
-    """The instructions that callgrind tells on standard error."""
+    """Returns the instructions that callgrind reports on standard error."""
     return int(told.rpartition(b"Collected :")[2].split()[0])
 
 
 def instructions(subject, call, data, *number):
-    """The instructions of a call that is made once, less those of making its input."""
+    """Returns the instructions of a call that is made once, without those for making its input."""
     without, once = (collected(ran([subject, rounds, *number, call], data, CALLGRIND)[1]) for rounds in (0, 1))
     return once - without
 
 
 def kept(subject, data, folder):
-    """What the program holds of memory once it has read its input, beyond what it held before, as the C library gives it out; the
-    bytes of the input, and what was counted in it."""
+    """Returns the memory that the program holds once it has read its input, beyond what it held
+    before, as the C library counts it; the bytes of the input; and what was counted in it."""
     shim = folder / "live_memory.so"
     compile_c(TOP / "bench" / "state" / "live_memory.c", shim, "-shared", "-fPIC")
     reading, writing = os.pipe()
@@ -87,5 +91,5 @@ def kept(subject, data, folder):
 
 
 def journal_of(states):
-    """The bytes of a journal of pushes of states to one name."""
+    """Returns the bytes of a journal of pushes of states to one name."""
     return b"TFJ2\n" + base_text(0, []) + b"".join(record_text(3, b"a", push_content(b"", state)) for state in states)

@@ -1,4 +1,4 @@
-"""Makes the page docs/PERFORMANCE.md of the figures that a run of `make bench` noted."""
+"""Makes the page docs/PERFORMANCE.md from the figures that a run of `make bench` noted."""
 import json
 
 INTRODUCTION = """# Performance
@@ -46,7 +46,7 @@ def table(columns, rows):
 
 
 def page(where, noted):
-    """Returns the text of the page for rows that are noted, each with the name of its table."""
+    """Returns the text of the page for noted rows, each with the name of its table."""
     parts = [INTRODUCTION.format(where=where), PEERS]
     for name, (heading, text, columns) in TABLES.items():
         rows = [row[1:] for row in noted if row[0] == name]

@@ -1,8 +1,9 @@
-"""What each test has: the built programs, a limit on its time, and an end of what it has started.
+"""The fixtures of the tests: the built programs, a limit on each test's time, and an end of the
+programs that it has started.
 
 A test that runs a program uses the fixture of its name, which finds it in `crates/*/out/`, or by
-the variable of its name in capitals, as `TFSTATED`. If it isn't built or is older than its sources, the
-fixture proves and builds it, after a notice. Collecting tests does neither."""
+the variable of its name in capitals, such as `TFSTATED`. If it isn't built or is older than its
+sources, the fixture proves and builds it, after a notice. Collecting tests does neither."""
 import contextlib
 import os
 import signal
@@ -23,7 +24,8 @@ settings.load_profile("gate")
 
 
 def found(request, program):
-    """The path of a program. Whoever runs the tests sees the notice of a proof before it begins."""
+    """Returns the path of a program. The notice of a proof is visible to the user before the proof
+    begins."""
     capture = request.config.pluginmanager.getplugin("capturemanager")
     with capture.global_and_fixture_disabled() if capture else contextlib.nullcontext():
         return os.fspath(program)
@@ -31,25 +33,25 @@ def found(request, program):
 
 @pytest.fixture(scope="session")
 def tfstated(request):
-    """The path of `tfstated`."""
+    """Returns the path of `tfstated`."""
     return found(request, TFSTATED)
 
 
 @pytest.fixture(scope="session")
 def tfstatectl(request):
-    """The path of `tfstatectl`."""
+    """Returns the path of `tfstatectl`."""
     return found(request, TFSTATECTL)
 
 
 @pytest.fixture(scope="session")
 def tfs_probe(request):
-    """The path of `tfs_probe`."""
+    """Returns the path of `tfs_probe`."""
     return found(request, TFS_PROBE)
 
 
 @pytest.fixture(scope="session")
 def tfs_bench(request):
-    """The path of `tfs_bench`."""
+    """Returns the path of `tfs_bench`."""
     return found(request, TFS_BENCH)
 
 
@@ -64,8 +66,8 @@ def pytest_runtest_call():
 
 
 def pytest_make_parametrize_id(val):
-    """A short name of a case that is a text or bytes, in printed ASCII: whoever reads the names of the
-    tests, or a report, finds each on a line of its own. pytest numbers those of one name."""
+    """Returns a short name of a case that is a text or bytes, in printed ASCII, so that a list of
+    names or a report has each on a line of its own. pytest numbers those of one name."""
     if isinstance(val, bytes):
         val = val.decode("latin-1")
     return ascii(val)[1:-1][:40] if isinstance(val, str) else None

@@ -1,7 +1,8 @@
-"""Refuses the requests for memory that the program `tfs_probe` makes: each one in turn, and all from each one on. Each call of
-`tfs_addr` then answers that memory ran out, or what it answers with ample memory; a text with a fault has its fault.
+"""Refuses the requests for memory that the program `tfs_probe` makes: each request, one in each
+run, and all from each one on. Each call of `tfs_addr` must then report that memory ran out, or
+answer as with ample memory; a text with a fault must have its fault.
 
-It needs gcc, and builds the program where it isn't built. The last line counts what passed."""
+It needs gcc, and builds the program if it isn't built."""
 import pytest
 
 import refused_requests
@@ -12,13 +13,14 @@ from repository import TOP
 pytestmark = pytest.mark.usefixtures("tfs_probe")
 PROGRAM = [TFS_PROBE, "addresses"]
 CALLS = ("strip", "config", "instance")
-# What the program writes of these calls in its stored run.
+# What the program writes about these calls in its stored run.
 STORED = (TOP / "crates" / "tfs_probe" / "stdout").read_text(encoding="utf-8").splitlines()
 AMPLE = [line for line in STORED if line.split(":")[0] in CALLS]
 
 
 def run_refused(first, last):
-    """Runs the program, whose requests from the first to the last are refused: its lines, its status, and its requests."""
+    """Runs the program, whose requests from the first to the last are refused. Returns its lines,
+    its status, and its number of requests."""
     output, status, _, own, _ = refused_requests.run_refused(PROGRAM, first, last)
     return output.decode("utf-8").splitlines(), status, own
 
@@ -28,8 +30,8 @@ def call_of(line):
 
 
 def may_run_out(place):
-    """Whether the call that answers in this place asks for memory, and has no fault to tell first. `strip` of a text of which nothing is
-    left asks for none."""
+    """Returns true if the call that answers in this place requests memory and has no fault to
+    report first. `strip` requests none if nothing is left of the text."""
     return AMPLE[place] != "strip: " and "a bracket is" not in AMPLE[place]
 
 
@@ -38,7 +40,8 @@ def out_of_memory(line):
 
 
 def refused_places(lines, about):
-    """The places of the calls that answered that memory ran out; all other lines are as with ample memory."""
+    """Returns the places of the calls that ran out of memory. All other lines must be as with ample
+    memory."""
     assert len(lines) == len(AMPLE), f"{about}: {len(lines)} lines"
     places = {place for place, line in enumerate(lines) if line != AMPLE[place]}
     for place in places:

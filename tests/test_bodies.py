@@ -1,6 +1,7 @@
-"""Drives `tfstated stdio` with bodies of a told length that don't come in one read with their heads, and `tfstated serve` with some
-that never come to their end. However a request is cut, the replies are those that are written here by hand for all of it: no byte of
-a body is lost, doubled or taken from the next request, and what comes behind a body waits for a read of its own."""
+"""Drives `tfstated stdio` with bodies of a stated length that don't come in one read with their
+heads, and `tfstated serve` with some that never come to their end. However a request is cut, the
+replies are those written here by hand for all of it: no byte of a body is lost, doubled or taken
+from the next request, and bytes after a body wait for a read of their own."""
 import socket
 
 import pytest
@@ -21,38 +22,39 @@ MISSING = (1, 2, 65_536, 100_000, 199_999, LONG)
 
 
 def text_of(size, state=S1):
-    """A state and spaces behind it, of so many bytes in all, or the first so many bytes of the state."""
+    """Returns a state followed by spaces, of this many bytes in all, or this many first bytes of
+    the state."""
     return state[:size].ljust(size)
 
 
 def head_of(body):
-    """The head of a request that pushes a body, which may be empty."""
+    """Returns the head of a request that pushes a body, which may be empty."""
     return b"POST /state/a HTTP/1.1\r\nHost: h\r\nContent-Length: %d\r\n\r\n" % len(body)
 
 
 def push_and_get(body):
-    """A request that pushes a body, and one that reads the state right behind it."""
+    """Returns a request that pushes a body, directly followed by one that reads the state."""
     return head_of(body) + body + GET
 
 
 def replies_to(body):
-    """The replies to these two."""
+    """Returns the replies to these two."""
     return DONE + reply_text(200, body) if body.startswith(S1) else refusal_text("BadState") + NO_STATE
 
 
 def cut_at(data, *places):
-    """The bytes cut at these places; what is longer than the most of one read is cut further."""
+    """Returns the bytes cut at these places; pieces above the limit of one read are cut further."""
     starts = [0, *places, len(data)]
     return [data[at : min(at + MAX_READ, end)] for start, end in zip(starts, starts[1:]) for at in range(start, end, MAX_READ)]
 
 
 def pieces_of(data, size):
-    """The bytes in pieces of so many."""
+    """Returns the bytes in pieces of this size."""
     return [data[at : at + size] for at in range(0, len(data), size)]
 
 
 def expect_replies(pieces, body, about):
-    """A push of this body and a read are answered as they are in one piece."""
+    """Checks that a push of this body and a read are answered as they are in one piece."""
     expect(run_in_pieces(pieces), (replies_to(body), CLEAN, b""), f"a body of {len(body):,} bytes, {about}")
 
 
@@ -106,7 +108,8 @@ def test_a_long_body_comes_byte_by_byte():
 
 
 def run_in_packets(packets):
-    """Runs the program on packets: a read that asks for less than a packet has loses the packet's end."""
+    """Runs the program on packets. A read that asks for fewer bytes than a packet has loses the
+    packet's end."""
     near, far = socket.socketpair(socket.AF_UNIX, socket.SOCK_SEQPACKET)
     talk = Talk(stdin=far)
     far.close()

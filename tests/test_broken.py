@@ -1,5 +1,6 @@
-"""Conversations that a fault breaks off: input, output or a journal's file that fails at any byte, by sockets that are reset and
-files that may not grow. What must be written before the fault stands here by hand. And how many writes a reply takes."""
+"""Conversations that a fault breaks off: input, output or a journal's file that fails at any byte,
+with sockets that are reset and files that may not grow. The output before the fault is written here
+by hand. Also counts the writes of a reply."""
 import os
 import resource
 import signal
@@ -25,19 +26,21 @@ REPLIES = (
     b"HTTP/1.1 200 OK\r\nContent-Type: application/json\r\nContent-Length: 41\r\n\r\n"
     b'{"version":4, "serial":1 ,"lineage":"L1"}'
 )
-# The same push in chunks, behind empty lines and with a trailer, and the same read; where its head has ended, and where its body has.
+# The same push in chunks, after empty lines and with a trailer, and the same read; the end of the
+# push's head, and of its body.
 CHUNKS_AND_GET = (
     b"\r\n\n\r\nPOST /state/a HTTP/1.1\r\nHost: h\r\nTransfer-Encoding: chunked\r\n\r\n"
     b'0B;x=y\r\n{"version":\r\n1e\r\n4, "serial":1 ,"lineage":"L1"}\r\n000\r\nA: b\nB:\r\n\r\n' + GET
 )
 CHUNKS_HEAD_BYTES, CHUNKS_BYTES = 68, 141
 A = b'{"ID":"A" ,"Who":""}'
-# A journal with one push of S1 to a, and what `check` tells of it.
+# A journal with one push of S1 to a, and what `check` prints about it.
 JOURNAL, LINES = b"TFJ2\n" + base_text(0, []) + record_text(3, b"a", push_content(b"", S1)), b"base 0 0\n1 push a\nwhole\n"
 
 
 def limited(size):
-    """What lets files grow to a size in front of the program; a write past it is an error, and no signal."""
+    """Returns a function that limits the size of files before the program starts. A write past the
+    limit is an error without a signal."""
     def limit():
         signal.signal(signal.SIGXFSZ, signal.SIG_IGN)
         resource.setrlimit(resource.RLIMIT_FSIZE, (size, size))
@@ -45,7 +48,8 @@ def limited(size):
 
 
 def run_into(size, words, data=b""):
-    """Runs the program with its output in a file of at most so many bytes: what the file holds, the status, and standard error."""
+    """Runs the program with its output in a file of at most `size` bytes. Returns the file's bytes,
+    the status, and standard error."""
     path = Path(fresh())
     with open(path, "wb") as output:
         ran = subprocess.run([PROGRAM, *words], input=data, stdout=output, stderr=subprocess.PIPE, timeout=SECONDS, check=False,
@@ -54,7 +58,7 @@ def run_into(size, words, data=b""):
 
 
 def run_and_reset(data):
-    """Runs the program on an input that fails behind these bytes."""
+    """Runs the program on an input that fails after these bytes."""
     near, far = socket.socketpair()
     far.sendall(b"unread")  # With bytes that it didn't read, a socket that is closed resets its peer.
     near.sendall(data)
@@ -100,7 +104,7 @@ def test_a_writer_that_fails_has_a_front_of_the_lines_of_a_check():
 
 
 def state_of(size):
-    """A state of so many bytes."""
+    """Returns a state of this many bytes."""
     start, end = b'{"version":4,"serial":1,"lineage":"L1","filler":"', b'"}'
     return start + b"x" * (size - len(start) - len(end)) + end
 
@@ -125,7 +129,8 @@ def test_a_reply_of_16384_bytes_is_one_write_and_a_longer_one_is_two(size, write
 
 
 def answers(server, *requests):
-    """The statuses and bodies of the replies to requests, each on a connection of its own."""
+    """Returns the statuses and bodies of the replies to requests, each on a connection of its
+    own."""
     return [server.ask(*request) for request in requests]
 
 

@@ -1,5 +1,6 @@
-"""Drives `tfstated stdio` with bodies in chunks, and with heads on which two readers could differ. What it must write is
-written here by hand; chunks of Hypothesis are answered by the plain model of stdio_model.py."""
+"""Drives `tfstated stdio` with bodies in chunks, and with heads that two readers could understand
+differently. The expected output is written here by hand; chunks of Hypothesis are answered by the
+plain model of stdio_model.py."""
 from hypothesis import given, settings, strategies as st
 import pytest
 
@@ -18,18 +19,18 @@ PUSHED = DONE + reply_text(200, S1)
 CODED = b"29\r\n" + S1 + b"\r\n0\r\n\r\n"
 SMALL = b"".join(b"1\r\n%c\r\n" % byte for byte in S1) + b"0\r\nX: y\r\n\r\n"
 MAX_BODY = 16777216
-# A state in two chunks, with an extension behind each size, and a trailer of two fields.
+# A state in two chunks, with an extension after each size, and a trailer of two fields.
 EXTENDED = b'3;k="v"\r\n{"v\r\n026 \t;x\r\n' + S1[3:] + b"\r\n0;y\r\nDate: today\r\nX: z\r\n\r\n"
 PADDED = b"0029 \t;x=y\r\n" + S1 + b"\r\n000;\r\nA: b\n\n"
 
 
 def chunked(body, method=b"POST", coding=b"Transfer-Encoding: chunked\r\n", version=1):
-    """A request whose body is coded already."""
+    """Returns a request whose body is already encoded."""
     return b"%s /state/a HTTP/1.%d\r\nHost: h\r\n%s\r\n%s" % (method, version, coding, body)
 
 
 def expect_refused(data, name, about):
-    """The program refuses the message, which no later one can follow."""
+    """Checks that the program refuses the message, after which no message can follow."""
     expect(run(data + GET), (refusal_text(name, close=True), REFUSED, b""), about)
 
 
@@ -181,14 +182,14 @@ def test_an_empty_body_in_chunks_forces_a_lock_off():
 
 SPACES, SIZES = st.sampled_from([0, 0, 1, 300]), st.sampled_from([300, 16, 7, 1])
 EXTENSIONS = st.sampled_from([b"", b"", b";", b";a=b", b" \t", b"\t;c"])
-# What follows the last chunk, whose size has one zero or three.
+# The bytes after the last chunk, whose size has one zero or three.
 TRAILERS = st.sampled_from([b"\r\n".join((zeros, field)) + end for zeros in (b"0", b"000") for field in (b"", b"", b"X: y\r\n", b"\x00\n")
                             for end in (b"\r\n", b"\n")])
 
 
 @st.composite
 def coded_bodies(draw):
-    """A body in chunks, now and then a wrong one."""
+    """Draws a body in chunks, now and then an invalid one."""
     text, coded = S1 + b" " * draw(SPACES), b""
     while text:
         size, extension = draw(SIZES), draw(EXTENSIONS)
@@ -203,7 +204,7 @@ REQUESTS = st.lists(st.one_of(st.just(GET), coded_bodies().map(chunked)), min_si
 
 @st.composite
 def streams(draw):
-    """Requests, some of which have a body in chunks, without their end perhaps, in pieces."""
+    """Draws requests, some with a body in chunks, perhaps without their end, in pieces."""
     return draw(some_pieces(draw(without_end(draw(REQUESTS))), 60))
 
 

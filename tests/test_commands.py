@@ -1,5 +1,6 @@
-"""Runs `tfstated check` and `tfstated rebase` on files. What they must write is written here by hand; for random journals it is that of
-a plain reader (journal_reader.py) and of the plain table (stdio_model.py)."""
+"""Runs `tfstated check` and `tfstated rebase` on files. The expected output is written here by
+hand; for random journals a plain reader (journal_reader.py) and the plain table (stdio_model.py)
+give it."""
 import resource
 import signal
 import subprocess
@@ -28,7 +29,7 @@ MAX_POSITION, MAX_NAMES = 2**62, 1024
 
 
 def path_of(name, content=None):
-    """A file of this content, or a path at which there is none."""
+    """Returns the path of a file with this content, or a path without a file."""
     path = Path(FOLDER.name) / name
     path.unlink(missing_ok=True)
     if content is not None:
@@ -37,24 +38,24 @@ def path_of(name, content=None):
 
 
 def run(*words, **how):
-    """Runs the program: what it wrote, its status, and what it wrote on standard error."""
+    """Runs the program. Returns its output, its status, and what it wrote to standard error."""
     how = {"stdout": subprocess.PIPE, **how}
     ran = subprocess.run([PROGRAM, *words], stderr=subprocess.PIPE, stdin=subprocess.DEVNULL, timeout=SECONDS, check=False, **how)
     return ran.stdout, ran.returncode, ran.stderr
 
 
 def told(*lines):
-    """The bytes of lines."""
+    """Returns the bytes of lines."""
     return "".join(line + "\n" for line in lines).encode()
 
 
 def check(data):
-    """What `check` says of these bytes."""
+    """Returns what `check` prints about these bytes."""
     return run("check", path_of("journal", data))
 
 
 def rebase(data):
-    """What `rebase` says of these bytes, and what the new file holds."""
+    """Returns what `rebase` prints about these bytes, and the bytes of the new file."""
     new = path_of("new")
     return *run("rebase", path_of("old", data), new), Path(new).read_bytes()
 
@@ -135,7 +136,8 @@ def test_a_full_standard_output_is_a_fault():
 
 
 def limited(size):
-    """What lets files grow to a size in front of the program; a write past it is an error, and no signal."""
+    """Returns a function that limits the size of files before the program starts. A write past the
+    limit is an error without a signal."""
     def limit():
         signal.signal(signal.SIGXFSZ, signal.SIG_IGN)
         resource.setrlimit(resource.RLIMIT_FSIZE, (size, size))
@@ -167,8 +169,8 @@ def test_other_arguments(arguments):
 
 
 def refused_runs(*words):
-    """What the program does where each of its requests for memory is refused, alone, and with all after it; no file `new` is there
-    before. With it, what the file holds afterwards."""
+    """Yields the outcomes of the program if each of its requests for memory is refused, alone, and
+    with all after it, without a file `new` before. Each has the bytes of that file afterwards."""
     requests = run_refused([PROGRAM, *words], 0, 0)[3]
     for first in range(1, requests + 2):
         for last in (first, FOREVER):
@@ -179,7 +181,7 @@ def refused_runs(*words):
 
 
 def expect_refused(words, ample, faults):
-    """Each request for memory of a command that is refused is reported, or does no harm."""
+    """Checks that each refused request for memory of a command is reported, or does no harm."""
     runs, usage = list(refused_runs(*words)), (b"", 2, USAGE, None)
     expect({ran for is_ample, ran in runs if is_ample}, {ample}, "no further request")
     seen = {ran for _, ran in runs}
@@ -201,7 +203,7 @@ def test_refused_memory_of_a_rebase_is_told_or_does_no_harm():
 
 
 def checked(data):
-    """What `check` says of these bytes, by the plain programs."""
+    """Returns what `check` prints about these bytes, by the plain programs."""
     form, position, rows, entries, end = read_journal(data)
     lines = [f"base {position} {len(rows)}"] if form == 2 and end not in ("torn 5", "damaged 5") else []
     lines += [f"{number} {kind} {name}" for number, (kind, name, _) in enumerate(entries, 1)]
@@ -212,7 +214,8 @@ def checked(data):
 
 
 def rebased(data):
-    """What `rebase` says of these bytes, and what the new file holds, by the plain programs."""
+    """Returns what `rebase` prints about these bytes, and the bytes of the new file, by the plain
+    programs."""
     form, position, rows, entries, end = read_journal(data)
     table, number = replay(rows, entries)
     position += len(entries)

@@ -1,5 +1,6 @@
-"""Copies folders by `tfstatectl copy`, also in the middle of writes, kills the servers, and starts others from the copies: they have all that
-was acknowledged before the last copy began, and go on."""
+"""Copies folders by `tfstatectl copy`, also in the middle of writes, kills the servers, and starts
+others from the copies: they have all that was acknowledged before the last copy began, and
+continue."""
 import http.client
 import json
 import os
@@ -31,13 +32,15 @@ def state_of(serial):
 
 
 def copy(source, target, *words, **how):
-    """The status of a copy, the journals of the target, and what it wrote on standard error."""
+    """Makes a copy. Returns its status, the journals of the target, and what it wrote to standard
+    error."""
     status, _, errors = run("copy", source, target, *words, **how)
     return status, journals(target), errors
 
 
 def refused(source, target, fault, *words):
-    """A copy that ends with a fault, and keeps the journals and the identity of the target: its text on standard error."""
+    """Makes a copy that must end with a fault, and keep the journals and the identity of the
+    target. Returns its text on standard error."""
     before = all_of(target)
     ended, _, errors = copy(source, target, *words)
     after = {name: data for name, data in all_of(target).items() if not name.endswith(".part")}
@@ -88,7 +91,8 @@ def test_a_copy_only_grows(files):
 
 
 def test_copies_go_on_over_starts():
-    """What the source put away since is copied whole before its next journal, so that each one follows the one before it."""
+    """Journals that the source has retired since are copied completely before the next one, so that
+    each follows its predecessor."""
     source, target = fresh(n1=EMPTY), fresh()
     for serial in range(1, 5):
         server = Serving(source).listens()
@@ -103,7 +107,8 @@ def test_copies_go_on_over_starts():
 
 
 def copies_of(source, target, wanted, moves):
-    """Copies this often at least, until the server has retired journals a number of times meanwhile. Returns how each copy ended."""
+    """Makes at least this many copies, until the server has retired journals a number of times
+    meanwhile. Returns how each copy ended."""
     ends, seen, end = [], set(), time.monotonic() + SECONDS
     while len(ends) < wanted or len(seen) <= moves:
         expect(time.monotonic() < end, True, f"the server retires journals: {seen}")
@@ -136,7 +141,8 @@ def test_copies_beside_compactions_all_end_well():
 
 @pytest.mark.parametrize("to, wanted", [("old", {1: NEWEST}), (None, {})])
 def test_a_copy_reads_what_moves_away_meanwhile(to, wanted):
-    """A journal is put into `old/`, or removed, after the folder was listed and before the journal is read."""
+    """A journal is moved into `old/`, or removed, after the folder was listed and before the
+    journal is read."""
     source, target = fresh(n1=NEWEST, n2=REBASED), fresh()
     (source / "old").mkdir()
     path = source / f"{named(1)}.tfj"
@@ -210,7 +216,8 @@ def test_a_folder_that_was_served_takes_no_copies():
 
 
 def kill_at(turn):
-    """Kills a copy before the call whose turn it is: the target can be served as it is, and the next copy goes on."""
+    """Kills a copy before the call with this number: the target can be served as it is, and the
+    next copy continues."""
     source, target = owned(n2=NEWEST, n3=REBASED), owned(n2=NEWEST[:-3])
     (target / f"{named(2)}.tfj.part").write_bytes(b"left")
     ended = copy(source, target, env={**os.environ, "LD_PRELOAD": SHIM, "TURN": str(turn)})[0]
@@ -231,7 +238,8 @@ def test_a_kill_at_each_call_leaves_a_folder_that_is_served():
 
 
 def push_on(port, name, acknowledged, first=1):
-    """Pushes rising serials to a name until the server is gone, and keeps the last one that was acknowledged."""
+    """Pushes rising serials to a name until the server is gone, and records the last acknowledged
+    one."""
     connection, serial = http.client.HTTPConnection(LOOPBACK, port, timeout=SECONDS), first
     try:
         while ask_over(connection, "POST", f"/state/{name}", state_of(serial))[0] == 200:
@@ -255,7 +263,7 @@ class Writers:
             thread.start()
 
     def wait_for(self, more):
-        """Waits until each name has so many acknowledged changes more."""
+        """Waits until each name has this many more acknowledged changes."""
         wanted = {name: self.acknowledged.get(name, 0) + more for name in self.names}
         end = time.monotonic() + SECONDS
         while any(self.acknowledged.get(name, 0) < count for name, count in wanted.items()):
@@ -268,7 +276,7 @@ class Writers:
 
 
 def serial_at(server, name):
-    """The serial of the state of a name."""
+    """Returns the serial of the state of a name."""
     status, body = server.ask("GET", f"/state/{name}")
     return json.loads(body)["serial"] if status == 200 else 0
 
@@ -297,7 +305,7 @@ def test_a_standby_takes_over_from_a_copy():
 
 
 def test_a_copy_that_is_underway_when_the_server_is_killed_is_good_or_not_kept():
-    """The first is killed while its file is copied, at many moments."""
+    """The server is killed while its file is copied, at many moments."""
     source, target, acknowledged, before = fresh(n1=EMPTY), fresh(), {}, {}
     for turn in range(4):
         first = Serving(source).listens()

@@ -1,7 +1,8 @@
-"""Counts instructions, which don't change with the load of a machine: a head's end is found in one pass however the head is cut, an order of rows costs
-little beside their closure, a push makes its index and each digest once, a rebase reads a state and makes its index once, a journal in
-pieces is read once, a query finds an address without a look at each instance, and writes addresses that follow one another from
-the list that the version keeps."""
+"""Counts instructions, which don't change with the load of a machine. A head's end is found in one
+pass however the head is cut. An order of rows costs little in comparison with their closure. A push
+makes its index and each digest once. A rebase reads a state and makes its index once. A journal in
+pieces is read once. A query finds an address without a look at each instance, and writes
+consecutive addresses from the list that the version keeps."""
 import base64
 import hashlib
 import os
@@ -24,12 +25,12 @@ from stdio_program import PROGRAM, request_text
 
 pytestmark = pytest.mark.usefixtures("tfstated", "tfstatectl")
 SIZE = 4_096
-# Instructions for a byte of a push: a record takes 12, of which its digest takes 10.
+# Limits of the instructions for a byte of a push: a record takes 12, and its digest 10 of these.
 RECORD, DIGEST = 15, 12
 
 
 def counted(data, *arguments, **how):
-    """The instructions of a conversation over the standard input, or of another command."""
+    """Returns the instructions of a conversation over standard input, or of another command."""
     expect(shutil.which("valgrind") is not None, True, "valgrind, which counts instructions, is there")
     words = [*CALLGRIND, PROGRAM, *(arguments or ("stdio",))]
     ran = subprocess.run(words, input=data, capture_output=True, timeout=2 * SECONDS, check=False, **how)
@@ -38,7 +39,7 @@ def counted(data, *arguments, **how):
 
 
 def long_head(fields):
-    """A request with this many fields of 500 bytes."""
+    """Returns a request with this many fields of 500 bytes."""
     return request_text("GET", "/state/a", more=f"X: {'x' * 495}\r\n" * fields)
 
 
@@ -49,7 +50,7 @@ def test_the_end_of_a_head_is_sought_in_one_pass_however_it_is_cut():
 
 
 def relation(pairs):
-    """Pairs of numbers, as the program of measurements reads them."""
+    """Returns pairs of numbers as bytes, as the benchmark program reads them."""
     return struct.pack("<HH", SIZE, 0) + b"".join(struct.pack("<HH", *pair) for pair in pairs)
 
 
@@ -80,13 +81,13 @@ def test_a_push_makes_its_index_and_each_digest_once(state):
 
 
 def rebased(*states):
-    """The instructions of a rebase of a journal that pushes these states."""
+    """Returns the instructions of a rebase of a journal that pushes these states."""
     records = b"".join(record_text(3, b"a", push_content(b"", state)) for state in states)
     return counted(b"", "rebase", fresh(b"TFJ2\n" + base_text(0, []) + records), fresh())
 
 
-# It costs as much as a push of the state, and the text of the base. One more index costs a third of the push of the dense state, and one
-# more document two thirds of that or more.
+# It costs as much as a push of the state, and the text of the base. One more index costs a third of
+# the push of the dense state, and one more document two thirds of that or more.
 @pytest.mark.parametrize("state, most", [(dense(2_048), 1.2), (written(500, 10), 1.5)], ids=["dense", "written"])
 def test_a_rebase_reads_a_state_once_and_makes_its_index_once(state, most):
     push = counted(request_text("POST", "/state/a", state)) - counted(b"")
@@ -95,7 +96,7 @@ def test_a_rebase_reads_a_state_once_and_makes_its_index_once(state, most):
 
 
 def listed(*states):
-    """The instructions of `tfstatectl history` over a journal that pushes these states."""
+    """Returns the instructions of `tfstatectl history` over a journal that pushes these states."""
     records = b"".join(record_text(3, b"a", push_content(b"", state)) for state in states)
     folder = folders.fresh(n1=b"TFJ2\n" + base_text(0, []) + records)
     ran = subprocess.run([*CALLGRIND, FOLDER_PROGRAM, "history", folder, "a", "--json"], capture_output=True, timeout=2 * SECONDS, check=False)
@@ -117,7 +118,8 @@ def test_a_query_finds_an_address_without_a_look_at_each_instance():
 
 
 def each_answer(depends):
-    """The instructions of a query whose answer has 2,000 of 4,000 instances: those with these numbers."""
+    """Returns the instructions of a query whose answer has 2,000 of 4,000 instances: those with
+    these numbers."""
     texts = [resource(f"r{number}", [{"dependencies": ["t.source"] if depends(number) else []}]) for number in range(1_000, 5_000)]
     push, query = request_text("POST", "/state/a", text_of([resource("source", [{}]), *texts])), request_text("GET", "/impact/a/any?of=t.source")
     return (counted(push + query * 11) - counted(push + query)) / 10

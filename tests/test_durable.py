@@ -1,5 +1,5 @@
-"""What both programs acknowledge is on the disk: over one of which a power cut leaves only what was synced (lazy_disk.c), with a sync that fails
-at each turn, and syncs and writes that take long."""
+"""What both programs acknowledge is on the disk: with a power cut that leaves only what was synced
+(lazy_disk.c), with each sync failing once, and with slow syncs and writes."""
 import http.client
 import re
 import string
@@ -29,12 +29,13 @@ ORDERS = re.compile(r'ORDERS: &str = "([^"]*)"')
 
 
 def events_in(path):
-    """The letters of a trace, each with its thread."""
+    """Returns the letters of a trace, each with its thread."""
     return [tuple(line.split(" ")[:2]) for line in path.read_text().splitlines()]
 
 
 def expect_synced(path, about):
-    """Before the first byte of a reply to a change, a sync was done that began after the change was written. Gives how many such replies there are."""
+    """Checks that before the first byte of a reply to a change, a sync was complete that began
+    after the change was written. Returns the number of such replies."""
     events, begun, written, synced, replies = events_in(path), {}, {}, -1, 0
     for place, (letter, thread) in enumerate(events):
         if letter == "s":
@@ -65,13 +66,14 @@ def test_no_reply_is_written_before_its_sync():
 
 
 def has_failed_elsewhere(trace):
-    """Whether a sync of another file than a journal has failed."""
+    """Returns true if a sync of another file than a journal has failed."""
     return any(letter in "no" for letter, _ in events_in(trace))
 
 
 def fail_at(turn):
-    """Has a sync fail. The server ends with a fault, and after a restart it has all that it acknowledged. If the sync is not of the journal but of
-    the folder's identity, a running server continues. Returns true if the server was running."""
+    """Has a sync fail. The server ends with a fault, and after a restart it has all that it
+    acknowledged. If the sync is not of the journal but of the folder's identity, a running server
+    continues. Returns true if the server was running."""
     disk, told, trace = Disk(), Told(), fresh() / "trace"
     words = (disk.folder, "--first", "--keep", "1000000")
     server = Serving(*words, workers="8", env=disk.env(DELAY=500, FAIL=turn, TRACE=trace))
@@ -112,7 +114,7 @@ class FolderDisk:
         self.port = self.server.port
 
     def cut(self):
-        """Kills the server and cuts the power: the bytes of its journal."""
+        """Kills the server and cuts the power. Returns the bytes of its journal."""
         self.server.kill()
         self.disk.cut()
         [data] = journals(self.disk.folder).values()
@@ -120,7 +122,8 @@ class FolderDisk:
 
 
 class FileDisk:
-    """`tfstated` on a new journal of a disk that keeps each name at once, since this program syncs none."""
+    """`tfstated` on a new journal of a disk that keeps each name at once, because this program
+    syncs no names."""
 
     def __init__(self, **how):
         self.disk = Disk(serve_program.FOLDER.name)
@@ -128,18 +131,19 @@ class FileDisk:
         self.port = int(self.server.address.split(":")[1])
 
     def cut(self):
-        """Kills the server: the bytes of its journal that a power cut would leave."""
+        """Kills the server. Returns the bytes of its journal that a power cut would leave."""
         self.server.kill()
         return self.disk.kept_bytes(self.server.new)
 
 
 def journal_of(name, states):
-    """The bytes of a new journal after pushes to a name."""
+    """Returns the bytes of a new journal after pushes to a name."""
     return b"TFJ2\n" + base_text(0, []) + b"".join(record_text(3, name, push_content(b"", text)) for text in states)
 
 
 def expect_bodies(program, in_chunks):
-    """Pushes bodies: each is on the disk once it is acknowledged, with Content-Length or in chunks."""
+    """Pushes bodies with Content-Length or in chunks, and checks that each is on the disk once it
+    is acknowledged."""
     trace, texts = fresh() / "trace", []
     server = program(TRACE=trace)
     connection = http.client.HTTPConnection(LOOPBACK, server.port, timeout=SECONDS)
@@ -173,7 +177,7 @@ def test_a_write_or_a_sync_that_a_signal_interrupts_is_made_once(program):
 
 
 def rate(server, names, seconds):
-    """How many changes a second are made by a writer on each name."""
+    """Returns how many changes a second a writer on each name makes."""
     told, end = Told(), time.monotonic() + seconds
 
     def write(name):
@@ -197,7 +201,7 @@ def test_one_sync_serves_many():
 
 
 def count(port, end, step, counts):
-    """Takes steps over a connection until a moment, and appends how many there were."""
+    """Takes steps over a connection until a moment, and appends their number."""
     connection, number = http.client.HTTPConnection(LOOPBACK, port, timeout=10), 0
     while time.monotonic() < end:
         step(connection)
@@ -207,7 +211,8 @@ def count(port, end, step, counts):
 
 
 def counted(env, *steps):
-    """How often each step is taken in two seconds beside the others, of a server with states of two names."""
+    """Returns how often each step is taken in two seconds, concurrently with the others, of a
+    server with states of two names."""
     server, told = serving(fresh(), workers="4", env=env), Told()
     connection = http.client.HTTPConnection(LOOPBACK, server.port, timeout=10)
     for name in ("busy", "still"):

@@ -1,5 +1,6 @@
-"""Faults of `tfstated serve`. Of two that wait at a start, the one that comes first in docs/PROTOCOL.md (The program) is told, and nothing
-is done that comes after it. In running: no connection that can be taken, and clients that go away at any byte."""
+"""Faults of `tfstated serve`. If a start has several, it reports the first one in the order of
+docs/PROTOCOL.md (The program), and does nothing that comes after it. While it runs: no connection
+can be accepted, and clients go away at any byte."""
 import itertools
 import os
 import resource
@@ -23,7 +24,8 @@ EMPTY = b"TFJ2\n" + base_text(0, [])
 WHOLE = EMPTY + PUSH1 + record_text(1, b"a", B)
 DAMAGED, UNLAWFUL = WHOLE[:40] + bytes([WHOLE[40] ^ 1]) + WHOLE[41:], EMPTY + PUSH2 + PUSH1
 ROOM = 10
-# The faults of a start in their order, with their statuses, what they come of, and what NEW holds after them, where it wasn't there.
+# The faults of a start in their order, with their statuses, their causes, and the bytes of NEW
+# after them, if it didn't exist before.
 FAULTS = [
     ("CannotRead", 1, {"old": None}, None),
     ("CannotCreate", 1, {"new": b"kept"}, b"kept"),
@@ -34,24 +36,26 @@ FAULTS = [
     ("CannotBind", 1, {"taken": True}, WHOLE),
     ("Write", 1, {"full": True}, WHOLE),
 ]
-# A client that goes away amid a long reply is noticed by the next write; what waits for ten seconds waited for the client.
+# The next write notices a client that goes away during a long reply; what waits for ten seconds
+# waited for the client.
 NOTICED = 8
 LONG = S1.ljust(16 << 20)
 
 
 def leave_no_room():
-    """Lets no file grow over a few bytes, and takes the signal away that would tell."""
+    """Lets no file grow over a few bytes, and ignores the signal for a longer write."""
     signal.signal(signal.SIGXFSZ, signal.SIG_IGN)
     resource.setrlimit(resource.RLIMIT_FSIZE, (ROOM, ROOM))
 
 
 def files_in(folder):
-    """What the files of a folder hold."""
+    """Returns the bytes of a folder's files by their names."""
     return {path.name: path.read_bytes() for path in folder.iterdir()}
 
 
 def start_with(given):
-    """Starts the server where these faults wait for it: its status and what it wrote on standard error, and what its folder has then."""
+    """Starts the server with the causes of these faults. Returns its status, what it wrote to
+    standard error, and the files of its folder then."""
     folder = Path(fresh())
     folder.mkdir()
     for name in ("old", "new"):
@@ -67,7 +71,8 @@ def start_with(given):
 
 
 def expect_first(faults):
-    """Fails where a start with some faults, which are in order, doesn't end by the first, or changes other files than that one does."""
+    """Checks that a start with some faults, which are in order, ends by the first, and changes only
+    the files that that fault changes."""
     name, status, first, left = faults[0]
     given = {"old": WHOLE}
     for _, _, one, _ in reversed(faults):
@@ -78,7 +83,7 @@ def expect_first(faults):
 
 
 def fit(faults):
-    """Whether faults come of different things."""
+    """Returns true if faults have different causes."""
     return all(not first[2].keys() & second[2].keys() for first, second in itertools.combinations(faults, 2))
 
 
@@ -135,7 +140,7 @@ def test_a_worker_that_is_given_no_connection_ends_alone():
 
 
 def seconds_of(server):
-    """The processor time that a server has taken, in seconds."""
+    """Returns the processor time that a server has taken, in seconds."""
     fields = Path(f"/proc/{server.process.pid}/stat").read_text().rpartition(")")[2].split()
     return sum(map(int, fields[11:13])) / os.sysconf("SC_CLK_TCK")
 
@@ -155,7 +160,7 @@ def test_workers_go_on_once_descriptors_are_there_again():
     time.sleep(0.5)  # in which they find no descriptor, more than once
     expect(seconds_of(server) - began < 0.25, True, "they pause in between")
     server.leave_free(256)
-    # Each keeps a worker until its last byte, so that four have to go on.
+    # Each keeps a worker until its last byte, so all four must continue.
     for connection, request in reversed(list(zip(held, requests))):
         connection.sendall(request[-1:])
         with connection.makefile("rb") as file:
@@ -166,7 +171,7 @@ def test_workers_go_on_once_descriptors_are_there_again():
 
 
 def go_away(server, data, count=0, reset=False):
-    """Sends bytes on a connection, reads so many, and closes it, or resets it."""
+    """Sends bytes on a connection, reads this many, and closes it, or resets it."""
     with server.connect() as connection:
         if reset:
             connection.setsockopt(socket.SOL_SOCKET, socket.SO_LINGER, b"\1\0\0\0\0\0\0\0")

@@ -1,6 +1,6 @@
-"""Runs `tfstatectl` on folders of journals: starts on whole and broken ones, histories that parted, starts that were cut off, and folders at
-random, which are compared with a plain model. No change that was acknowledged may be missing afterwards, and what a person has to look
-at is never passed over."""
+"""Runs `tfstatectl` on folders of journals: starts on valid and damaged ones, diverged histories,
+interrupted starts, and random folders, which are compared with a plain model. No acknowledged
+change may be missing afterwards, and nothing that a person has to look at is passed over."""
 import os
 import shutil
 from pathlib import Path
@@ -19,12 +19,12 @@ from repository import TOP
 
 pytestmark = pytest.mark.usefixtures("tfstatectl")
 EMPTY = b"TFJ1\n"
-# Of a start whose journals have 100 KB that live.
+# The memory limit of a start whose journals have 100 KB of current state.
 MOST_MEMORY = 24_000_000
 
 
 def refused(folder, fault, about, *words):
-    """A start that ends with a fault, and changes nothing: what it tells."""
+    """Makes a start that must end with a fault, and change nothing. Returns its report."""
     before = all_of(folder)
     status, output, errors = ended(folder, *words)
     expect((status, output, f": {fault}" in errors, len(errors.splitlines())), (STATUSES[fault], "", True, 1), f"{about}: {errors}")
@@ -33,7 +33,7 @@ def refused(folder, fault, about, *words):
 
 
 def old_of(folder):
-    """What the journals hold that were put away, by their numbers."""
+    """Returns the bytes of the retired journals, by their numbers."""
     return journals(folder / "old")
 
 
@@ -143,7 +143,7 @@ def test_each_start_goes_on_in_a_shorter_journal():
 @pytest.mark.parametrize("files, numbers, new", [
     ({"n4": NEWEST}, [4], 5), ({"n3": NEWEST, "n4": REBASED}, [3], 4), ({"n1": EMPTY + PUSH1, "n3": NEWEST, "n4": REBASED}, [1, 3], 4)])
 def test_journals_that_went_before_are_put_away(files, numbers, new):
-    """One without changes keeps its number."""
+    """A journal without changes keeps its number."""
     folder = fresh(**files)
     answer, line = served(folder)
     expect((answer, f"{named(new)}.tfj from position 3: 92 bytes, 1 names, " in line), ((200, S2), True), line)
@@ -152,18 +152,19 @@ def test_journals_that_went_before_are_put_away(files, numbers, new):
 
 
 def large_state(serial):
-    """A state of 100 KB."""
+    """Returns a state of 100 KB."""
     return S1.replace(b"1 ", b"%d " % serial) + b" " * 100_000
 
 
 def large_pushes(first, last):
-    """Records of pushes of such states."""
+    """Returns records of pushes of such states."""
     return b"".join(record_text(3, b"a", push_content(b"", large_state(serial))) for serial in range(first, last + 1))
 
 
 @pytest.mark.parametrize("is_left", [False, True])
 def test_journals_beside_one_another_are_started_from_in_little_memory(is_left):
-    """Two journals of 40 MB, of which 100 KB live, and perhaps one that was left behind them."""
+    """Two journals of 40 MB with 100 KB of current state, and perhaps one that a failed start left
+    after them."""
     base, next_base = (b"TFJ2\n" + base_text(last, [(b"a", b"", large_state(last))]) for last in (400, 800))
     files = {"n3": EMPTY + large_pushes(1, 400), "n4": base + large_pushes(401, 800), **({"n5": next_base[:-1]} if is_left else {})}
     server = Serving(fresh(**files)).listens()
@@ -185,7 +186,7 @@ def test_names_of_others_are_left_alone():
 
 
 def start_refused(case):
-    """A start over journals of which that of number 4 can't be gone on with."""
+    """Makes a start over journals, in which number 4 can't be continued."""
     about, files, fault = case
     errors = refused(fresh(**files), fault, about)
     expect(named(4) in errors, True, f"{about}: {errors}")
@@ -204,7 +205,7 @@ def test_what_cant_be_gone_on_with_stops_the_start():
 @pytest.mark.parametrize("make", [Path.mkdir, lambda path: path.symlink_to("nowhere")], ids=["folder", "link"])
 @pytest.mark.parametrize("files", [{}, {"n3": NEWEST}, {"n5": REBASED}, {"n3": NEWEST, "n5": REBASED}])
 def test_a_journal_that_cant_be_read_stops_the_start(files, make):
-    """Number 4 is a folder, which can be opened, or leads nowhere."""
+    """Number 4 is a folder, which can be opened, or a link to nothing."""
     folder = fresh(**files)
     make(folder / f"{named(4)}.tfj")
     errors = refused(folder, "CannotRead", f"beside {sorted(files)}")
@@ -217,7 +218,8 @@ def test_a_journal_that_cant_be_read_stops_the_start(files, make):
     ({"n3": NEWEST, "n4": EMPTY}, "an empty one"), ({"n3": SHORT, "n4": EMPTY + PUSH1}, "the same in format 1"),
     ({"n3": NEWEST, "n4": NEWEST}, "the same bytes")])
 def test_histories_that_parted_stop_the_start(files, about):
-    """A went on with number 3 when B had gone on from it, or another history has the later number."""
+    """A continued number 3 when B had already continued from it, or another history has the later
+    number."""
     errors = refused(fresh(**files), "Parted", about)
     expect(named(4) in errors, True, errors)
 
@@ -237,7 +239,8 @@ def test_changes_of_two_servers_from_one_journal_stop_the_start():
 
 
 def start_over_a_cut_base(count):
-    """Starts where the start before was cut off when it had written so many bytes of the new journal."""
+    """Makes a start after the previous start was cut off when it had written this many bytes of the
+    new journal."""
     folder = fresh(n3=NEWEST, n4=REBASED[:count])
     expect(served(folder)[0], (200, S2), f"the first {count} bytes")
     is_cut = count < len(REBASED)
@@ -277,7 +280,8 @@ def test_the_lock_keeps_two_servers_off_one_folder():
 
 
 def expect_as_the_model(files):
-    """A start on a folder of these files does what the model says, and so does `check`: the name of the fault, or of none."""
+    """Checks that a start on a folder of these files does what the model says, and so does `check`.
+    Returns the name of the fault, or of none."""
     folder = fresh()
     for name, data in files.items():
         (folder / name).write_bytes(data)

@@ -1,5 +1,5 @@
-"""Starts of `tfstatectl` that are killed at each call, on disks that are full, and over journals of which a byte has changed: the next start has
-all that was acknowledged, or ends with a named fault."""
+"""Starts of `tfstatectl` that are killed at each call, on full disks, and over journals with a
+changed byte: the next start has all that was acknowledged, or ends with a named fault."""
 import os
 import resource
 import shutil
@@ -57,7 +57,7 @@ def test_a_journal_that_cant_grow_ends_the_server_or_stops_changes():
 
 
 def limit_stacks(size):
-    """Lets each thread have a stack of a size."""
+    """Returns a function that limits the size of each thread's stack."""
     return lambda: resource.setrlimit(resource.RLIMIT_STACK, (size, size))
 
 
@@ -80,12 +80,13 @@ def test_a_server_whose_listener_is_shut_tells_the_error():
     expect((status, told in errors), (STATUSES["AcceptFault"], True), errors)
 
 
-# What failed starts have left behind a journal with changes, and behind one without any, which the next start replaces.
+# Journals that failed starts have left after a journal with changes, and after one without any,
+# which the next start replaces.
 LEFT = ({"n2": EMPTY + PUSH1, "n3": NEWEST, "n5": REBASED[:50]}, {"n2": EMPTY + PUSH1, "n3": NEWEST, "n4": REBASED, "n5": REBASED[:50]})
 
 
 def kill_at(case):
-    """Kills a start before the call whose turn it is, and starts again."""
+    """Kills a start before the call with this number, and starts again."""
     files, turn = case
     folder, about = fresh(**files), f"turn {turn} over {sorted(files)}"
     (folder / f"{named(6)}.tfj.part").write_bytes(REBASED[:50])
@@ -107,7 +108,7 @@ def test_a_kill_at_each_call_loses_nothing():
 
 
 def kill_first_at(turn):
-    """Kills the first start of a folder before the call whose turn it is, and asks for it again."""
+    """Kills the first start of a folder before the call with this number, and makes it again."""
     folder = fresh()
     server = Serving(folder, "--first", env={**os.environ, "LD_PRELOAD": SHIM, "TURN": str(turn)})
     expect(server.end()[0], -signal.SIGKILL, f"turn {turn}")
@@ -124,7 +125,8 @@ def test_a_first_start_that_is_killed_is_done_again():
 
 
 def start_over_a_changed_byte(place):
-    """Turns a byte's lowest bit: the start ends, or, where a length now reaches over the end, nothing before it is missing."""
+    """Flips a byte's lowest bit. The start ends or, if a length now reaches past the end, nothing
+    before it is missing."""
     data = NEWEST[:place] + bytes([NEWEST[place] ^ 1]) + NEWEST[place + 1 :]
     folder, (_, _, _, entries, end) = fresh(n4=data), read_journal(data)
     if end.startswith("damaged") or end == "torn 5":
@@ -142,7 +144,7 @@ def test_changed_bytes_of_the_newest_journal():
 
 
 def fill(path, pages):
-    """Fills a disk by a file, but for so many pages."""
+    """Fills a disk with a file, except for this many pages."""
     with open(path, "wb", buffering=0) as file:
         try:
             while file.write(bytes(4096)):
@@ -153,7 +155,8 @@ def fill(path, pages):
 
 
 def start_on_a_full_disk(folder, pages):
-    """Whether a start fails on a disk with so many pages left. What is acknowledged there is there when the disk has room."""
+    """Returns true if a start fails on a disk with this many pages left. What is acknowledged on it
+    must exist once the disk has room."""
     fill(folder / "filled", pages)
     server = Serving(folder)
     if server.line:
@@ -171,7 +174,8 @@ def start_on_a_full_disk(folder, pages):
 
 
 def why_not_mounted(folder):
-    """Makes a small file system in a folder: why there is none, or nothing where there is."""
+    """Mounts a small file system in a folder. Returns why it couldn't; an empty text if it
+    could."""
     if not shutil.which("mount"):
         return "the command mount is missing"
     made = subprocess.run(["mount", "-t", "tmpfs", "-o", "size=64k", "none", str(folder)], stderr=subprocess.PIPE, check=False)
@@ -179,7 +183,8 @@ def why_not_mounted(folder):
 
 
 def test_a_full_disk_loses_nothing():
-    """If a small file system can't be made, it is skipped: then only the tests with files that can't grow remain."""
+    """Skipped if a small file system can't be made; only the tests with files that can't grow
+    remain then."""
     folder = fresh()
     why = why_not_mounted(folder)
     if why:

@@ -45,7 +45,7 @@ def test_collecting_builds_nothing_and_is_quick(tmp_path):
 
 
 def counted(tmp_path, monkeypatch, names, report, status, page=""):
-    """What counts tests of a file over a report, and its lines."""
+    """Returns the counts of a file's tests over a report, and its lines."""
     monkeypatch.setattr(checks, "REPORTS", tmp_path)
     monkeypatch.setattr(checks, "may_be_skipped", lambda: set(re.findall(r"`(test_[^`]+)`", page)))
     lines = []
@@ -97,7 +97,7 @@ def test_the_packages_are_those_of_the_readme_and_of_ci():
 
 
 def imported(path):
-    """The modules that a file imports."""
+    """Yields the modules that a file imports."""
     for node in ast.walk(ast.parse(path.read_text(encoding="utf-8"))):
         if isinstance(node, ast.ImportFrom):
             yield node.module

@@ -1,5 +1,6 @@
-"""Only one server writes a folder. It ends before it acknowledges another change if its folder, its journal or its lock file is removed, moved or
-replaced. A start refuses journals of another folder, and a folder whose `old/` has a journal with changes that the newest one lacks."""
+"""Only one server writes a folder. It ends before it acknowledges another change if its folder, its
+journal or its lock file is removed, moved or replaced. A start refuses journals of another folder,
+and a folder whose `old/` has a journal with changes that the newest one lacks."""
 import http.client
 import os
 import re
@@ -25,7 +26,8 @@ IDENTITY = re.compile(r"[0-9a-f]{32}\n(journal-[0-9]{10}\.tfj [0-9]+ [0-9a-f]{32
 
 
 def refused(folder, fault, about, *words):
-    """A start that ends with a fault, and changes nothing. Returns its text on standard error."""
+    """Makes a start that must end with a fault, and change nothing. Returns its text on standard
+    error."""
     before = all_of(folder)
     status, output, errors = ended(folder, *words)
     expect((status, output, f": {fault}: " in errors, len(errors.splitlines())), (STATUSES[fault], "", True, 1), f"{about}: {errors}")
@@ -34,12 +36,12 @@ def refused(folder, fault, about, *words):
 
 
 def open_journal(folder):
-    """The path of the journal that a server has open."""
+    """Returns the path of the journal that a server has open."""
     return max(folder.glob("*.tfj"))
 
 
 def swap(path):
-    """Puts a copy of a file or of a folder in its place."""
+    """Replaces a file or a folder by a copy."""
     moved = path.rename(path.parent / f"{path.name}-moved")
     (shutil.copytree if moved.is_dir() else shutil.copy2)(moved, path)
 
@@ -54,19 +56,20 @@ def lose(path):
     path.rename(path.parent / f"{path.name}-lost")
 
 
-# What is done to a folder that is served, each with the path that it is done to.
+# Changes to a folder that is served, each with the path that it changes.
 DEEDS = [(place, deed) for place in (lambda folder: folder / "lock", open_journal) for deed in (Path.unlink, swap, link, lose)]
 DEEDS += [(Path, deed) for deed in (shutil.rmtree, swap, lose)]
 
 
 def expect_replaced(server, about):
-    """A server ends by itself, and says why."""
+    """Checks that a server ends by itself, and reports why."""
     status, errors = server.end()
     expect((status, f"{server.folder}: Replaced: " in errors), (STATUSES["Replaced"], True), f"{about}: {errors}")
 
 
 def do_beside_a_change(case):
-    """Does something to a folder whose server had a change, and asks for another one, which isn't acknowledged."""
+    """Changes a folder whose server had a change, and requests another change, which isn't
+    acknowledged."""
     place, deed = case
     server = Serving(fresh(n1=EMPTY)).listens()
     expect(server.ask("POST", "/state/a", S1), (200, b""))
@@ -85,7 +88,7 @@ def test_no_change_is_acknowledged_once_something_was_replaced():
 
 
 def do_beside_an_idle_server(case):
-    """Does the same to a folder whose server nobody asks for anything."""
+    """Does the same to a folder whose server has no requests."""
     place, deed = case
     server = Serving(fresh(n1=NEWEST)).listens()
     path = place(server.folder)
@@ -106,20 +109,20 @@ def test_a_later_journal_is_guarded_as_the_first_one():
 
 
 def stopped(folder):
-    """A server on a folder that is stopped: it looks at nothing."""
+    """Returns a stopped server on a folder: it checks nothing."""
     server = Serving(folder).listens()
     server.process.send_signal(signal.SIGSTOP)
     return server
 
 
 def go_on(server):
-    """Has a stopped server go on, which ends then."""
+    """Has a stopped server continue; it must then end."""
     server.process.send_signal(signal.SIGCONT)
     expect_replaced(server, "it goes on")
 
 
 def test_each_of_three_locks_keeps_a_second_server_off():
-    """That of the folder itself, of its lock file, and of its journal."""
+    """The locks of the folder itself, of its lock file, and of its journal."""
     folder = fresh(n1=NEWEST)
     server = stopped(folder)
     (folder / "lock").unlink()
@@ -138,7 +141,7 @@ def test_each_of_three_locks_keeps_a_second_server_off():
 
 
 def test_a_server_goes_on_beside_changes_of_other_files():
-    """Files of other names, copies, a folder below, and what asks for a compaction."""
+    """Files of other names, copies, a folder below, and a request for a compaction."""
     server, copies = Serving(fresh(n1=EMPTY)).listens(), fresh()
     expect(server.ask("POST", "/state/a", S1), (200, b""))
     (server.folder / "notes").write_text("of somebody")
@@ -241,7 +244,8 @@ def test_copies_of_another_folder_are_refused():
 @pytest.mark.parametrize("has_copies", [False, True])
 @pytest.mark.parametrize("taken", [2, 7])
 def test_a_journal_of_another_folder_is_not_copied(taken, has_copies):
-    """It has the number of the source's own, or another one; the copies are new, or have the source's journal."""
+    """The journal has the number of the source's own, or another one; the copies are new, or have
+    the source's journal."""
     source, target = owned(n2=NEWEST), owned(n2=NEWEST) if has_copies else fresh()
     before = all_of(target)
     of_another(source, taken, LATE)
@@ -268,7 +272,7 @@ def test_a_broken_identity_is_refused(text):
 
 
 def value_of(folder):
-    """The value of a folder's identity, which has to be one."""
+    """Returns the value of a folder's identity, which must be valid."""
     text = (folder / "identity").read_text()
     expect(bool(IDENTITY.fullmatch(text)), True, text)
     return text[:32]

@@ -1,5 +1,6 @@
-"""Drives `tfstated stdio` with queries for the impact of changes. What it must write is written here by hand; random queries over
-random states are answered by the plain models of stdio_model.py and impact_model.py."""
+"""Drives `tfstated stdio` with queries for the impact of changes. The expected output is written
+here by hand; random queries over random states are answered by the plain models of stdio_model.py
+and impact_model.py."""
 import json
 from urllib.parse import quote, quote_plus
 
@@ -16,27 +17,27 @@ pytestmark = pytest.mark.usefixtures("tfstated")
 
 
 def resource(name, *instances, **members):
-    """A resource of type t with these instances."""
+    """Returns a resource of type t with these instances."""
     return {"mode": "managed", "type": "t", "name": name, "instances": list(instances), **members}
 
 
 def depending(*texts, **members):
-    """An instance with these dependencies."""
+    """Returns an instance with these dependencies."""
     return {"dependencies": list(texts), **members}
 
 
 def state(*resources, serial=1):
-    """The bytes of a state."""
+    """Returns the bytes of a state."""
     return json.dumps({"version": 4, "serial": serial, "lineage": "L1", "resources": list(resources)}, ensure_ascii=False).encode()
 
 
 def ask(kind, *texts, name="a"):
-    """The bytes of a query."""
+    """Returns the bytes of a query."""
     return request_text("GET", f"/impact/{name}/{kind}?" + "&".join("of=" + quote(text) for text in texts))
 
 
 def answer(*instances, position=1, serial=1):
-    """The reply to a query, its body written without a reader or a writer of JSON."""
+    """Returns the reply to a query, with a body written without a JSON reader or writer."""
     names = ",".join(f'"{name}"' for name in instances)
     return reply_text(200, f'{{"instances":[{names}],"position":{position},"serial":{serial}}}'.encode())
 
@@ -48,7 +49,7 @@ UNKNOWN = refusal_text("UnknownAddress")
 
 
 def expect_answers(pushed, asked):
-    """Pushes a state, and asks in one conversation."""
+    """Pushes a state, and sends the queries in one conversation."""
     output = b"".join(reply for _, reply in asked)
     expect(run(request_text("POST", "/state/a", pushed) + b"".join(text for text, _ in asked)), (DONE + output, CLEAN, b""), pushed)
 
@@ -77,13 +78,13 @@ def test_all_meets_what_any_unites():
 
 
 def depends(name, *texts):
-    """The text of a resource with one instance, without blanks."""
+    """Returns the text of a resource with one instance, without blanks."""
     listed = ",".join(f'"{text}"' for text in texts)
     return f'{{"mode":"managed","type":"t","name":"{name}","instances":[{{"dependencies":[{listed}]}}]}}'
 
 
 def written(serial, *resources):
-    """The bytes of a state, without blanks."""
+    """Returns the bytes of a state, without blanks."""
     return f'{{"version":4,"serial":{serial},"lineage":"L1","resources":[{",".join(resources)}]}}'.encode()
 
 
@@ -117,14 +118,16 @@ def test_keys_of_modules_are_taken_out():
 
 
 def both_kinds(wanted_any, wanted_all, *texts):
-    """Both queries of these texts, with their answers: texts of instances, or a refusal's name."""
+    """Returns both queries of these texts, with their answers: texts of instances, or a refusal's
+    name."""
     def told(wanted):
         return refusal_text(wanted) if isinstance(wanted, str) else answer(*wanted)
     return [(ask("any", *texts), told(wanted_any)), (ask("all", *texts), told(wanted_all))]
 
 
 def expect_both(resources, *rows):
-    """Pushes a state, and asks for any and all of each row of texts. One answer in a row is that of both."""
+    """Pushes a state, and queries any and all of each row of texts. A row with one answer has it
+    for both."""
     expect_answers(state(*resources), [asked for texts, *wanted in rows for asked in both_kinds(wanted[0], wanted[-1], *texts)])
 
 
@@ -159,7 +162,7 @@ def test_what_no_text_has_in_common_is_none():
 
 
 def chain_of(count):
-    """A state in which each instance but the first depends on the one before."""
+    """Returns a state in which each instance except the first depends on the previous one."""
     return written(1, *(depends(f"i{i}", *([f"t.i{i - 1}"] if i else [])) for i in range(count)))
 
 
@@ -174,7 +177,8 @@ def test_a_chain_of_none_and_one_of_too_many():
 
 
 def expect_closure(relates, size, step):
-    """Asks what the last number of a relation and each multiple of a step reach, where the second number of a pair depends on the first."""
+    """Queries what the last number of a relation and each multiple of a step reach, when the second
+    number of a pair depends on the first."""
     pairs, pushed = pairs_of(relates, size), {j: [] for j in range(size)}
     for i, j in pairs:
         pushed[j].append(f"t.i{i}")
@@ -279,7 +283,8 @@ STEPS = st.lists(st.sampled_from(["query"] * 15 + ["push"] * 4 + ["delete"]), mi
 
 @st.composite
 def graphs(draw):
-    """A state of a few resources, of which many depend on one another, and the texts that may name them."""
+    """Draws a state of a few resources, with many dependencies among them, and texts that may name
+    them."""
     names = draw(ADDRESSES)
     known = [(module + "." if module else "") + kind + name for module, kind, name in names]
     resources, texts = [], known + ["x.y", "t.a[0]", "module.m.t.b", ""]
@@ -295,7 +300,7 @@ def graphs(draw):
 
 @st.composite
 def queries(draw, texts):
-    """The bytes of a query."""
+    """Draws the bytes of a query."""
     count, (method, name, kind, encode, more) = draw(COUNTS), draw(QUERIES)
     chosen = draw(st.lists(st.sampled_from(texts), min_size=min(count, 3), max_size=min(count, 3))) * (count if count > 3 else 1)
     return request_text(method, f"/impact/{name}/{kind}?" + "&".join([f"of={encode(text)}" for text in chosen[:count]] + more))
@@ -303,7 +308,7 @@ def queries(draw, texts):
 
 @st.composite
 def conversations(draw):
-    """Queries over states that are pushed and deleted between them."""
+    """Draws queries over states that are pushed and deleted between them."""
     requests, texts = [], ["t.a"]
     for step in draw(STEPS):
         if step == "push":

@@ -1,6 +1,7 @@
-"""Refuses the requests for memory of the program `tfs_probe`, which reads a small state, builds its index and asks it for any
-and all of two addresses: each request in turn, and all from each one on. Each run writes what it writes with ample memory, or
-whole lines of it and that memory ran out."""
+"""Refuses the requests for memory of the program `tfs_probe`, which reads a small state, builds its
+index and queries it for any and all of two addresses: each request, one in each run, and all from
+each one on. Each run writes what it writes with ample memory, or complete lines of it and that
+memory ran out."""
 import pytest
 
 from checking import expect
@@ -9,7 +10,8 @@ from refused_requests import FOREVER, count_of, fault_of, run_refused
 from sample_states import groups
 
 pytestmark = pytest.mark.usefixtures("tfs_probe")
-# Of eight resources with two instances each the last two depend, by one or more steps, on all of t.r5; t.r7 alone on t.r6[1].
+# Of eight resources with two instances each the last two depend, by one or more steps, on all of
+# t.r5; t.r7 alone on t.r6[1].
 ASKED = groups(16) + b"\nt.r5\nt.r6[1]\n"
 ANY, ALL = b"".join(b"any %d\n" % u for u in range(12, 16)), b"all 14\nall 15\n"
 AMPLE = b"read\nbuilt\n" + ANY + ALL

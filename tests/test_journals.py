@@ -1,8 +1,9 @@
-"""Runs the program `tfs_probe`, which has the journal's crates over real bytes and files. What it reads, and writes of it again, is
-compared with a plain reader and writer: four journals with each bit flipped, also under right MD5s, each prefix, and journals at
-random. How prefixes, flipped bits, and fields at their limits are read is worked out by hand, too (journal_rows.py). Its files are
-compared with what it says of each append: whole ones, a limit on the size of files, a full device, a pipe, a closed descriptor. Its
-requests for memory are refused in turn."""
+"""Runs the program `tfs_probe`, which has the journal's crates over real bytes and files. What it
+reads, and encodes again, is compared with a plain reader and writer: four journals with each bit
+flipped, also under right MD5s, each prefix, and random journals. How prefixes, flipped bits, and
+fields at their limits read is also worked out by hand (journal_rows.py). Its files are compared
+with what it prints about each append: complete ones, a limit on the size of files, a full device, a
+pipe, a closed descriptor. Its requests for memory are refused, one in each run."""
 import os
 import resource
 import signal
@@ -32,12 +33,13 @@ MORE_STATES = [
     b'{"version":4,"serial":0,"lineage":"x","resources":[{"mode":"managed","type":"t","name":"n","instances":[{}]}]}',
 ]
 LATER = [(3, b"b", push_content(b"", S2)), (2, b"a", b"B")]
-# The most requests for memory that the four journals below are read and written with, and the bytes of the longest one.
+# The limits of the requests for memory to read and write the four journals below, and of the bytes
+# of the longest one.
 MOST_REQUESTS, MOST_BYTES = 153, 2048
 
 
 def pieces_of(header, base, entries):
-    """The pieces of a journal's text: header and base, and the record of each entry."""
+    """Returns the pieces of a journal's text: header and base, and the record of each entry."""
     return [header + (base_text(*base) if base else b""), *(record_text(*entry) for entry in entries)]
 
 
@@ -47,21 +49,23 @@ TEXTS = [b"".join(pieces) for pieces in PIECES]
 
 
 def path_of(name):
-    """A path at which there is no file."""
+    """Returns a path without a file."""
     path = Path(FOLDER.name) / name
     path.unlink(missing_ok=True)
     return path
 
 
 def run(pieces, *words, **how):
-    """Runs the program on a line of hex digits for each piece: what it wrote, its status, and what it wrote on standard error."""
+    """Runs the program on a line of hex digits for each piece. Returns its output, its status, and
+    what it wrote to standard error."""
     lines = "".join(piece.hex() + "\n" for piece in pieces).encode()
     ran = subprocess.run([PROGRAM, *map(str, words or ["journal"])], input=lines, capture_output=True, timeout=SECONDS, check=False, **how)
     return ran.stdout.decode(), ran.returncode, ran.stderr.decode()
 
 
 def expect_read(texts):
-    """Compares how the program and the plain reader read each text, and the text of what they read."""
+    """Compares how the program and the plain reader read each text, and the text of what they
+    read."""
     output, status, errors = run(texts)
     expect((status, errors), (0, ""), "the program")
     lines = output.splitlines()
@@ -71,7 +75,8 @@ def expect_read(texts):
 
 
 def summary_of(line):
-    """Of a reading that the program prints: the format, the position, the number of rows, the number of entries, and the end."""
+    """Returns from a reading that the program prints: the format, the position, the number of rows,
+    the number of entries, and the end."""
     words = line.split()
     end = words[-1:] if words[-1] == "whole" else words[-2:]
     entries = sum(words.count(kind) for kind in ("lock", "unlock", "push", "delete"))
@@ -79,14 +84,15 @@ def summary_of(line):
 
 
 def expect_summaries(texts, wanted, about):
-    """Compares how the program reads each text with what is written here, which is one reading for each, or one for all."""
+    """Compares how the program reads each text with what is written here: one reading for each
+    text, or one for all."""
     output, status, errors = run(texts)
     expect((status, errors), (0, ""), "the program")
     expect([summary_of(line) for line in output.splitlines()[::2]], wanted if isinstance(wanted, list) else [wanted] * len(texts), about)
 
 
 def readings_of(runs):
-    """The readings of runs, one for each length or place."""
+    """Returns the readings of runs, one for each length or place."""
     readings = []
     for last, reading in (run.split(": ") for run in runs.split(", ")):
         readings += [reading] * (int(last) + 1 - len(readings))
@@ -94,12 +100,12 @@ def readings_of(runs):
 
 
 def behind(front, rows):
-    """Texts of format 2: behind the header stands a front, and a row of hex digits."""
+    """Returns texts of format 2: the header, a front, and a row of hex digits."""
     return [SECOND + bytes.fromhex(front + row) for row in rows.split("\n")[1:]]
 
 
 def flipped(text):
-    """The text with each of its bits flipped."""
+    """Returns the text with each of its bits flipped."""
     number = int.from_bytes(text, "big")
     return [(number ^ 1 << bit).to_bytes(len(text), "big") for bit in range(8 * len(text))]
 
@@ -136,7 +142,7 @@ def test_what_is_read_is_what_the_text_says():
 
 
 def filled(row):
-    """What is read, and its hex digits: each text by its own."""
+    """Returns what is read, and its hex digits, with the bytes of each text filled in."""
     texts = {"S1": S1.hex(), "S2": S2.hex(), "B": B.hex()}
     return [[texts.get(word, word) for word in part.split()] for part in row.split(": ")]
 
@@ -208,12 +214,12 @@ IDENTIFIERS = [b"", b"", b"B", b"a b", b"0", "\u00e9".encode(), b"x" * 256, b"\x
 INFOS = [B, b' {"Who":"", "ID":"\\u00e9"}\n', b'{"ID":""}', b'{"ID":"0"} ', b"[]"]
 STATES = [S1, S2, S1 + b"\n", *MORE_STATES, b"{}"]
 PUSHES = [(3, push_content(identifier, state)) for identifier in IDENTIFIERS for state in STATES]
-# What entries carry, each kind about as often as another: its number and its content.
+# The contents of entries, each kind about as often as another: its number and its content.
 CONTENTS = [(1, info) for info in INFOS] * 11 + [(kind, identifier) for kind in (2, 4) for identifier in IDENTIFIERS] * 7 + PUSHES
 
 
 def entry(name, content):
-    """The record of an entry, of which about one in ten is refused."""
+    """Returns the record of an entry; about one in ten is refused."""
     return record_text(content[0], name, content[1])
 
 
@@ -226,7 +232,7 @@ POSITIONS = st.one_of(st.sampled_from([0, 3, 2**62, 2**62 + 1]), st.integers(0, 
 
 @st.composite
 def some_journals(draw):
-    """The text of a journal, of which one in four is changed in a byte, and one in four is cut."""
+    """Draws the text of a journal; one in four has a changed byte, and one in four is cut."""
     text = FIRST
     if draw(st.booleans()):
         names = draw(ORDERS)(draw(ROWS))
@@ -254,7 +260,8 @@ def test_an_append_is_told_once_its_bytes_are_in_the_file():
 
 
 def limited(kind, limit):
-    """What sets a limit on a resource in front of a program; a write past a limit on size is an error, and no signal."""
+    """Returns a function that limits a resource before a program starts. A write past a limit on
+    size is an error without a signal."""
     def set_limit():
         signal.signal(signal.SIGXFSZ, signal.SIG_IGN)
         signal.signal(signal.SIGPIPE, signal.SIG_IGN)
@@ -263,8 +270,8 @@ def limited(kind, limit):
 
 
 def expect_prefix(journal, path, whole):
-    """The file of a journal reads as that journal with some first entries, whole or torn; of a journal whose front isn't in it
-    as nothing, and torn."""
+    """Checks that the file of a journal reads as that journal with some first entries, whole or
+    torn, or as nothing, and torn, if the file lacks a part of the journal's front."""
     text = path.read_bytes()
     form, position, rows, entries, end = read_journal(text)
     expect(end == "whole" or end.startswith("torn "), True, end)

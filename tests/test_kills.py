@@ -1,5 +1,6 @@
-"""Kills the server in the middle of work, and restarts it from its journal. Whatever was acknowledged has to be there, in order. Some
-clients push all the time; others (team.py) work as Terraform does, and some of them are killed, too."""
+"""Kills the server in the middle of work, and restarts it from its journal. Whatever was
+acknowledged must be in the journal, in order. Some clients push all the time; others (team.py) work
+as Terraform does, and some of them are killed, too."""
 import json
 import random
 import threading
@@ -17,7 +18,8 @@ pytestmark = pytest.mark.usefixtures("tfstated")
 
 
 def push_on(server, name, acknowledged, told, seed):
-    """Pushes rising serials to a name until the server is gone, and keeps what was acknowledged; some connections are cut."""
+    """Pushes rising serials to a name until the server is gone, and records what was acknowledged;
+    some connections are cut."""
     rng = random.Random(seed)
     try:
         while True:
@@ -37,7 +39,8 @@ def push_on(server, name, acknowledged, told, seed):
 
 
 def lawful(data, about):
-    """A file of a journal, which has to be whole or torn, and lawful."""
+    """Checks that the bytes of a journal are whole or torn, and lawful. Returns the path of a file
+    with them."""
     file = fresh(data)
     checked = run("check", file)
     expect(checked[1] in (0, 3), True, f"{about}: check says {checked}")
@@ -45,7 +48,7 @@ def lawful(data, about):
 
 
 def serials_in(data):
-    """The serials of the pushes that a journal has, in order, by names."""
+    """Returns the serials of the pushes that a journal has, in order, by names."""
     found = {}
     for kind, name, fields in entries_of(data):
         if kind == "push":
@@ -54,8 +57,9 @@ def serials_in(data):
 
 
 def expect_pushed(data, acknowledged, about):
-    """Every acknowledged push is in a journal, in order: the serials of a name rise by one. At most one more was sent and not acknowledged,
-    which may be there, and be pushed again."""
+    """Checks that every acknowledged push is in a journal, in order: the serials of a name rise by
+    one. At most one more was sent and not acknowledged; it may be in the journal, and be pushed
+    again."""
     serials = serials_in(data)
     for name, last in acknowledged.items():
         found = serials.get(name, [])
@@ -65,7 +69,7 @@ def expect_pushed(data, acknowledged, about):
 
 
 def expect_served(old, names):
-    """A server that goes on from a journal serves the last push of each name."""
+    """Checks that a server that continues a journal serves the last push of each name."""
     server, serials = Server(old=old), serials_in(Path(old).read_bytes())
     for name in names:
         status, text = server.ask("GET", f"/state/{name}")
@@ -73,8 +77,9 @@ def expect_served(old, names):
 
 
 def kill_often(turns, seed):
-    """Starts the server so often, each time from the journal of the last kill. A kill comes at a random moment after some
-    acknowledgements, and the next push after an acknowledged one has the next serial."""
+    """Starts the server this many times, each time from the journal of the last kill. A kill comes
+    at a random moment after some acknowledgements, and the next push after an acknowledged one has
+    the next serial."""
     old, acknowledged, rng = None, {}, random.Random(seed)
     for turn in range(turns):
         server, told = Server(workers=4, old=old), threading.Semaphore(0)
@@ -103,7 +108,8 @@ def test_another_hundred_kills_lose_nothing_acknowledged():
 
 
 def kill_and_restart(team, about):
-    """Kills the server of a team that works, seeks what was acknowledged in its journal, and has the team go on."""
+    """Kills the server of a team that works, looks for what was acknowledged in its journal, and
+    has the team continue."""
     data = team.kill()
     team.changes.expect_in(entries_of(data), about)
     expect(team.failures, [], about)

@@ -1,5 +1,6 @@
-"""Drives `tfstated stdio` through every length of a name, an identifier, a head and a body, each with its bytes in two reads, and through every
-character of a name. A program that gives up at one length, for one name, or at one place of a cut, answers other than the plain model of
+"""Drives `tfstated stdio` through every length of a name, an identifier, a head and a body, each
+with its bytes in two reads, and through every character of a name. A program that gives up at one
+length, for one name, or at one place of a cut, answers differently from the plain model of
 stdio_model.py."""
 import string
 
@@ -18,26 +19,27 @@ LOCK, STATE = b'{"ID":"i"}', chain(2)
 
 
 def expect_as_modelled(pieces, about):
-    """The program answers these pieces, each of which is a read, as the model does, and ends as it does."""
+    """Checks that the program answers these pieces, each of them a read, as the model does, and
+    ends as it does."""
     output, status = model.conversation(b"".join(pieces))
     expect(status, CLEAN, f"{about}: the model's end")
     expect(run_in_pieces(pieces), (output, status, b""), about)
 
 
 def in_chunks(body, method="POST", target="/state/a"):
-    """A request whose body is one chunk, if it has any bytes."""
+    """Returns a request whose body is one chunk, if it has any bytes."""
     coded = (b"%x\r\n%s\r\n" % (len(body), body) if body else b"") + b"0\r\n\r\n"
     return request_text(method, target, more="Transfer-Encoding: chunked\r\n") + coded
 
 
 def with_length(body, method="POST", target="/state/a"):
-    """A request whose body has its length in the head, also if that is 0."""
+    """Returns a request whose body has its length in the head, even if that is 0."""
     more = "" if body else "Content-Length: 0\r\n"
     return request_text(method, target, body, more)
 
 
 def halves(text):
-    """The two pieces of a text; one if it has a single byte."""
+    """Returns the two pieces of a text; one if it has a single byte."""
     middle = len(text) // 2
     return [piece for piece in (text[:middle], text[middle:]) if piece]
 
@@ -71,7 +73,7 @@ def test_each_length_of_an_identifier():
 
 
 def padded(request, length):
-    """A request whose head has this many bytes."""
+    """Returns a request whose head has this many bytes."""
     head, empty_line, body = request.partition(b"\r\n\r\n")
     room = length - len(head) - len(empty_line) - len(b"\r\nX:")
     return head + b"\r\nX:" + b"x" * room + empty_line + body if room >= 0 else None

@@ -1,5 +1,6 @@
-"""The limits of servers: how long a client may wait or make them wait, and how many connections they serve at once. The tests that wait for
-time to go by work at once, each on a server of its own."""
+"""The limits of servers: how long a client may wait or make them wait, and how many connections
+they serve at once. The tests that wait for time to pass work concurrently, each on a server of its
+own."""
 import concurrent.futures
 import contextlib
 import resource
@@ -20,23 +21,26 @@ pytestmark = pytest.mark.usefixtures("tfstated", "tfstatectl")
 STARTING = threading.Lock()
 MAX_WORKERS, MAX_WAITING = 16, 1024
 LONG = S1.ljust(16 << 20)
-# Ten seconds in which nothing can be written, after those in which the system's buffers take something.
+# Ten seconds in which nothing can be written, after those in which the system's buffers take
+# something.
 WRITE_SECONDS = (9, 30)
 IDLE_SECONDS = (1.9, 6)
-# Half a second, where no worker is free; two seconds for a client that is slow then.
+# Half a second, if no worker is free; two seconds for a client that is slow then.
 CROWDED_SECONDS = (0.4, 1.8)
 SLOW_SECONDS = (1.9, 8)
 REQUEST_SECONDS = (59, 72)
-# A minute, and a second for each 1,000,000 of the bytes of a long reply; then a look, and what was written before.
+# A minute, and a second for each 1,000,000 bytes of a long reply, then a check, and what was
+# written before.
 REPLY_SECONDS = (75, 90)
-# Five seconds where a term ends, which a server sees within a second.
+# Five seconds when a run ends for a compaction, which a server notices within a second.
 ENDING_SECONDS = (4.9, 30)
-# What the slow tests do, by their names.
+# The work of the slow tests, by their names.
 SLOW = {}
 
 
 def slow(work):
-    """Makes a test that waits for time to go by. All of them work at once, and each test fails as its own work did."""
+    """Makes a test that waits for time to pass. All of them work concurrently, and each test fails
+    as its own work did."""
     def test(slow_runs):
         slow_runs[work.__name__].result()
     SLOW[work.__name__] = work
@@ -46,20 +50,20 @@ def slow(work):
 
 @pytest.fixture(scope="module")
 def slow_runs(request, tfstated, tfstatectl):
-    """Does the work of those slow tests that are chosen, at once: how each of them ended."""
+    """Does the work of the chosen slow tests concurrently. Returns how each of them ended."""
     chosen = {getattr(item, "originalname", item.name) for item in request.session.items} & set(SLOW)
     with concurrent.futures.ThreadPoolExecutor(len(chosen)) as pool:
         return {name: pool.submit(SLOW[name]) for name in chosen}
 
 
 def started(workers):
-    """A server. No two look for a port at the same time."""
+    """Starts a server. No two look for a port at the same time."""
     with STARTING:
         return Server(workers=workers)
 
 
 def small_connection(server):
-    """A connection whose client has little room for what it doesn't read."""
+    """Returns a connection whose client has little room for what it doesn't read."""
     connection = socket.socket()
     connection.setsockopt(socket.SOL_SOCKET, socket.SO_RCVBUF, 16384)
     connection.settimeout(SECONDS)
@@ -68,7 +72,8 @@ def small_connection(server):
 
 
 def push_long(server):
-    """Pushes the long state. It is tried again, since the server may leave a silent client before a busy machine has sent anything."""
+    """Pushes the long state. Retries, because the server may leave a silent client before a busy
+    machine has sent anything."""
     text = request_text("POST", "/state/a", LONG)
     for _ in range(3):
         with contextlib.suppress(ConnectionError), small_connection(server) as connection, connection.makefile("rb") as file:
@@ -78,12 +83,13 @@ def push_long(server):
 
 
 def expect_between(seconds, limits, about):
-    """Fails where something took less or more time than it may."""
+    """Fails if a duration is outside its limits."""
     expect(limits[0] < seconds < limits[1], True, f"{about}: {seconds:.1f} s")
 
 
 def read_slowly(connection):
-    """Asks for the long state, and reads 4 KB twice a second, until there is nothing more or the connection is closed."""
+    """Asks for the long state, and reads 4 KB twice a second, until there is nothing more or the
+    connection is closed."""
     with contextlib.suppress(OSError):
         connection.sendall(request_text("GET", "/state/a"))
         while connection.recv(4096):
@@ -91,7 +97,7 @@ def read_slowly(connection):
 
 
 def expect_next(server, began, limits, about):
-    """Fails where the only worker doesn't get to the next client in that time."""
+    """Fails unless the only worker gets to the next client within these limits."""
     expect(server.ask("GET", "/state/b")[0], 404, about)
     expect_between(time.monotonic() - began, limits, about)
 
@@ -108,7 +114,8 @@ def test_a_client_that_reads_nothing_is_left_after_a_while():
 
 
 def read_in_pieces(server, size, pause):
-    """What comes of the long state to a client that reads so many bytes before each pause."""
+    """Returns what a client gets of the long state if it reads this many bytes before each
+    pause."""
     text = b""
     with small_connection(server) as connection, connection.makefile("rb", buffering=65536) as file, contextlib.suppress(ConnectionError):
         connection.sendall(request_text("GET", "/state/a", more="Connection: close\r\n"))
@@ -229,7 +236,7 @@ def test_clients_that_send_100_kb_a_second_are_not_slow():
 
 
 def pushed_in_pieces(server, name):
-    """The reply to a push that takes five seconds."""
+    """Returns the reply to a push that takes five seconds."""
     text = request_text("POST", f"/state/{name}", S1.ljust(500000))
     with server.connect() as connection, connection.makefile("rb") as file:
         for place in range(0, len(text), 50000):
@@ -239,7 +246,7 @@ def pushed_in_pieces(server, name):
 
 
 def is_left(connection):
-    """Whether a connection has been ended."""
+    """Returns true if a connection has been ended."""
     connection.setblocking(False)
     try:
         return connection.recv(1) == b""
@@ -248,8 +255,8 @@ def is_left(connection):
 
 
 def expect_left(server, beginning, piece, pause):
-    """Fails where a client that begins a request, and then sends a piece of it after each pause, isn't left after a minute without a
-    reply, or the only worker doesn't get to the next client."""
+    """Fails unless a client that begins a request, and then sends a piece of it after each pause,
+    is left after a minute without a reply, and the only worker gets to the next client."""
     with server.connect() as connection, server.connect() as waiting:
         waiting.sendall(request_text("GET", "/state/b"))
         connection.settimeout(pause)
@@ -264,7 +271,8 @@ def expect_left(server, beginning, piece, pause):
 
 
 def next_of(connection, piece):
-    """What a connection tells after a piece was sent, which is nothing where it ends; none where it tells nothing for a while."""
+    """Returns what a connection gives after a piece was sent: nothing if it ends, None if it gives
+    nothing for a while."""
     try:
         connection.sendall(piece)
         return connection.recv(1)
@@ -331,14 +339,14 @@ def test_what_is_underway_has_five_seconds_where_its_term_ends():
 
 def test_a_thousand_connections_wait_for_the_only_worker():
     server, text = started(1), request_text("GET", "/state/a")
-    # The system may let fewer wait.
+    # The system may let fewer connections wait.
     most = min(MAX_WAITING, int(Path("/proc/sys/net/core/somaxconn").read_text()))
     now, limit = resource.getrlimit(resource.RLIMIT_NOFILE)
     resource.setrlimit(resource.RLIMIT_NOFILE, (max(now, most + 100), limit))
     with server.connect() as served, contextlib.ExitStack() as waiting:
         served.sendall(text[:20])
         for _ in range(most):
-            # None is taken meanwhile: the one that is served is left after ten seconds.
+            # None is accepted meanwhile: the client that is served is left after ten seconds.
             waiting.enter_context(socket.create_connection(served.getpeername(), timeout=5))
         served.sendall(text[20:])
         with served.makefile("rb") as file:

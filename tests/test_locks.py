@@ -1,5 +1,6 @@
-"""Drives the built program over pipes: locks, unlocks, deletions and identifiers. The examples and what they must write are
-written here by hand; the random acts are answered by the plain model of stdio_model.py."""
+"""Drives the built program over pipes: locks, unlocks, deletions and identifiers. The examples and
+the expected output are written here by hand; random acts are answered by the plain model of
+stdio_model.py."""
 import json
 import random
 from collections import Counter
@@ -21,7 +22,7 @@ pytestmark = pytest.mark.usefixtures("tfstated")
 
 
 def lock_info(identifier):
-    """Lock information with this identifier, and with no escape in it."""
+    """Returns lock information with this identifier, without escapes."""
     return json.dumps({"ID": identifier}, ensure_ascii=False).encode()
 
 
@@ -258,7 +259,8 @@ MET = {
 
 
 def random_state(chance):
-    """A state's text, now and then with other bytes under the same serial, or what only looks like a state."""
+    """Returns a state's text, now and then with other bytes under the same serial, or an invalid
+    one."""
     serial, lineage = chance.randrange(4), chance.choice(["L1"] * 5 + ["L2"])
     text = f'{{"version":4,"serial":{serial},"lineage":"{lineage}"}}'.encode()
     if chance.random() < 0.1:
@@ -267,7 +269,7 @@ def random_state(chance):
 
 
 def random_lock_info(chance):
-    """Lock information in one of several spellings, or what only looks like it."""
+    """Returns lock information in one of several spellings, or an invalid one."""
     if chance.random() < 0.1:
         bad = [b"x", b"[]", b" ", b'{"ID":""}', b'{"ID":1}', b'{"id":"A"}', b'{"ID":"A","ID":[]}', lock_info("i" * 257)]
         return chance.choice(bad + ([A2 + b" " * 65527] if chance.random() < 0.2 else []))
@@ -278,7 +280,8 @@ def random_lock_info(chance):
 
 
 def random_part(chance, text):
-    """A text as part of a query: letters stand plain or percent-encoded, a space also as `+`."""
+    """Returns a text as part of a query: letters are plain or percent-encoded, a space also as
+    `+`."""
     written = ""
     for letter in text:
         encoded = "".join(f"%{byte:02x}" for byte in letter.encode())
@@ -288,7 +291,7 @@ def random_part(chance, text):
 
 
 def random_query(chance):
-    """A query, which gives an identifier or none."""
+    """Returns a query, with an identifier or without."""
     if chance.random() < 0.35:
         return chance.choice(["", "", "", "?", "?ID=", "?ID", "?id=A", "?ID=&ID=A", "?x=y&ID"])
     if chance.random() < 0.06:
@@ -298,7 +301,7 @@ def random_query(chance):
 
 
 def random_request(chance):
-    """A request of any kind: its method, target and body."""
+    """Returns a request of any kind: its method, target and body."""
     method = chance.choice(["GET", "POST", "POST", "POST", "DELETE", "LOCK", "UNLOCK", "UNLOCK"])
     name = chance.choice(NAMES)
     if chance.random() < 0.02:
@@ -314,12 +317,12 @@ def random_request(chance):
 
 
 def random_pieces(chance, data):
-    """The bytes, cut at random places."""
+    """Returns the bytes, cut at random places."""
     return cut_at(data, {chance.randrange(len(data)) for _ in range(chance.choice([0, 3, 300, 3000]))})
 
 
 def kind_of(reply):
-    """What a reply says: its status, and the refusal's name or whether there is a body."""
+    """Returns the status of a reply, and the refusal's name or whether it has a body."""
     head, _, body = reply.partition(b"\r\n\r\n")
     status = head.split(b" ")[1].decode()
     if status in ("200", "423"):
@@ -328,14 +331,15 @@ def kind_of(reply):
 
 
 def text_of(chance, requests):
-    """The bytes of requests, perhaps with the last one cut."""
+    """Returns the bytes of requests, perhaps with the last one cut."""
     more = ["", "", "", "Content-Type: application/json\r\n"]
     data = b"".join(request_text(*request, chance.choice(more)) for request in requests)
     return data[: len(data) - chance.choice([0, 0, chance.randrange(1, 20)])]
 
 
 def expect_as_the_model(requests, pieces, about):
-    """Runs a conversation of these requests, in pieces: the replies, which are the model's."""
+    """Runs a conversation of these requests, in pieces, and checks that the replies are the
+    model's. Returns them."""
     replies, status = model.replies_to(b"".join(pieces))
     output, found_status, errors = run_in_pieces(pieces)
     expect_replies(output, replies, requests, about)
@@ -345,7 +349,7 @@ def expect_as_the_model(requests, pieces, about):
 
 @st.composite
 def short_conversations(draw):
-    """A few requests, and their bytes in pieces."""
+    """Draws a few requests, and their bytes in pieces."""
     chance = draw(st.randoms(use_true_random=False))
     requests = [random_request(chance) for _ in range(draw(st.integers(1, 20)))]
     return requests, draw(some_pieces(text_of(chance, requests), 30))

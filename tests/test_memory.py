@@ -1,10 +1,12 @@
-"""Refuses the built program's requests for memory, by a preloaded shim: each request of a conversation in turn, and all
-from each one on. Each run ends by itself, and what it wrote is whole replies that the model allows. One conversation is the
-stored run, whose outputs are written here by hand; two are like it, with a state that doesn't come in one read, in chunks
-in one of them; the last has locks, unlocks and a deletion.
+"""Refuses the built program's requests for memory, by a preloaded shim: each request of a
+conversation, one in each run, and all from each one on. Each run ends by itself, and its output is
+complete replies that the model allows. One conversation is the stored run, whose outputs are
+written here by hand; two are like it, with a state that doesn't come in one read, in chunks in one
+of them; the last has locks, unlocks and a deletion.
 
-All requests are the program's own, by malloc and realloc; the loader and the C library make none. The first ones are
-for the arguments: refused, the arguments can't be had and count as other arguments."""
+All requests are the program's own, by malloc and realloc; the loader and the C library make none.
+The first ones are for the arguments: if they are refused, the arguments can't be read and count as
+invalid."""
 from itertools import combinations
 
 import pytest
@@ -43,7 +45,8 @@ def run_refused(first, last, word="stdio", data=PUSH_AND_GET):
 
 
 def ample_counts(data=PUSH_AND_GET, wanted=DONE + STATE):
-    """How many requests a conversation makes, and how many of them are for the arguments."""
+    """Returns how many requests a conversation makes, and how many of them are for the
+    arguments."""
     output, status, errors, requests, others = run_refused(0, 0, data=data)
     expect((output, status, errors, others), (wanted, 0, b"", 0), "no request is refused")
     output, status, errors, for_arguments, others = run_refused(0, 0, "other")
@@ -52,13 +55,14 @@ def ample_counts(data=PUSH_AND_GET, wanted=DONE + STATE):
 
 
 def whole_outputs(refused_once):
-    """The outputs of a conversation that ended without a fault, at least one of its replies being OutOfMemory."""
+    """Returns the outputs of a conversation that ended without a fault, with at least one reply
+    OutOfMemory."""
     outputs = {DONE + NO_MEMORY, NO_MEMORY + NO_STATE}
     return outputs if refused_once else outputs | {NO_MEMORY + NO_MEMORY}
 
 
 def expect_allowed(ran, request, for_arguments, refused_once):
-    """Fails where a run did something else than a refused request allows."""
+    """Fails if a run did something else than a refused request allows."""
     output, status, errors, _, others = ran
     expect(others, 0, f"request {request}: requests of others")
     if request <= for_arguments:
@@ -85,8 +89,8 @@ def test_each_request_of_the_stored_run_is_refused_in_turn():
 
 
 def expect_long_push_is_refused_in_turn(data, harmless=frozenset()):
-    """Refuses each request of a conversation with a long push and a read: each outcome that the model allows comes, and each that is
-    harmless, and no other."""
+    """Refuses each request of a conversation with a long push and a read: each outcome that the
+    model allows occurs, and each harmless one, and no other."""
     requests, for_arguments = ample_counts(data, DONE + LONG_STATE)
     faults = {(b"", 1, FAULT), (DONE, 1, FAULT)}
     allowed = faults | harmless | {(NO_MEMORY + NO_STATE, 0, b""), (DONE + NO_MEMORY, 0, b"")}
@@ -104,7 +108,7 @@ def test_each_request_of_a_push_that_comes_in_pieces_is_refused_in_turn():
 
 
 def test_each_request_of_a_push_in_chunks_is_refused_in_turn():
-    # A body that was joined is shrunk; where that is refused, it keeps its room.
+    # A body that was joined is shrunk; if that is refused, it keeps its room.
     expect_long_push_is_refused_in_turn(PUSH_IN_CHUNKS_AND_GET, {(DONE + LONG_STATE, 0, b"")})
 
 
@@ -116,18 +120,21 @@ def test_all_requests_from_each_one_on_are_refused():
 
 
 def replies_without(refused):
-    """The replies to the second conversation, where those of these numbers are OutOfMemory and change nothing."""
+    """Returns the replies to the second conversation if the ones with these numbers are OutOfMemory
+    and change nothing."""
     table = Table()
     return [NO_MEMORY if number in refused else table.reply(Request(*request)) for number, request in enumerate(LOCKS)]
 
 
 def whole_run(refused):
-    """What the second conversation writes, and its status, where it comes to its end."""
+    """Returns the output of the second conversation, its status and standard error, if it comes to
+    its end."""
     return b"".join(replies_without(refused)), 0, b""
 
 
 def broken_runs(refused):
-    """The same where it is broken off after some of its replies, and after each that was OutOfMemory."""
+    """Returns the same if it is broken off after some of its replies, and after each that was
+    OutOfMemory."""
     replies, first = replies_without(refused), max(refused, default=-1) + 1
     return {(b"".join(replies[:count]), 1, FAULT) for count in range(first, len(LOCKS) + 1)}
 
@@ -157,8 +164,9 @@ def test_all_requests_from_each_one_on_of_a_conversation_with_locks_are_refused(
         expect((tuple(ran) in allowed, others), (True, 0), f"request {request}, {ran}")
 
 
-# A state of three instances, a request before it, and the request that is counted with the most requests for memory that it may make. A
-# list that grows with the journal asks again now and then, so what twenty of them make is counted.
+# A state of three instances, a request before it, and the request that is counted with the limit of
+# its requests for memory. A list that grows with the journal requests more now and then, so the
+# requests of twenty of them are counted.
 THREE = (b'{"version":4,"serial":1,"lineage":"L1","resources":[{"mode":"managed","type":"t","name":"a","instances":[{}]},'
          b'{"mode":"managed","type":"t","name":"b","instances":[{"dependencies":["t.a"]}]},'
          b'{"mode":"managed","type":"t","name":"c","instances":[{"dependencies":["t.b"]}]}]}')
@@ -177,7 +185,8 @@ MOST = [
 
 
 def requests_of(request, times):
-    """How many requests for memory a conversation makes that pushes a state and then sends a request so many times."""
+    """Returns how many requests for memory a conversation makes that pushes a state and then sends
+    a request this many times."""
     data = request_text("POST", "/state/a", THREE) + request_text(*request) * times
     _, status, errors, requests, others = run_refused(0, 0, data=data)
     expect((status, errors, others), (0, b"", 0), "no request is refused")

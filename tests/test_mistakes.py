@@ -1,5 +1,6 @@
-"""Checks that each wrong body of tests/wrong_bodies.csv is refused by what its row names: an edit or a test of a crate, or a black-box test;
-and that there are no more edits than the gate has time for."""
+"""Checks that each wrong body of tests/wrong_bodies.csv is refused by what its row names: an edit
+or a test of a crate, or a black-box test; and that there are no more edits than the gate has time
+for."""
 import csv
 import re
 
@@ -10,18 +11,18 @@ MAX_EDITS = 150
 
 
 def rows():
-    """Each row of the table: the wrong body, and the names of what refuses it."""
+    """Returns each row of the table: the wrong body, and the names of what refuses it."""
     with open(TOP / "tests" / "wrong_bodies.csv", encoding="utf-8", newline="") as table:
         return [(body, words) for body, *words in list(csv.reader(table))[1:]]
 
 
 def names(pattern, text):
-    """What a pattern finds in all files of these paths."""
+    """Returns what a pattern finds in all files of these paths."""
     return {name for path in TOP.glob(pattern) for name in re.findall(text, path.read_text(encoding="utf-8"))}
 
 
 def refusers():
-    """The names of all edits and tests."""
+    """Returns the names of all edits and tests."""
     edits = {f"{path.parts[-3]}/{path.stem}" for path in TOP.glob("crates/*/must-fail/*.edit")}
     return edits | names("crates/*/src/**/*.rt", r"#\[test\]\n\s*fn (\w+)") | names("tests/test_*.py", r"\ndef (test_\w+)\(")
 

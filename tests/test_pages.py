@@ -1,5 +1,6 @@
-"""Checks all pages: links and paths lead to files, commands work over the built program, and names of calls, clauses and definitions are
-those of the crates. A block of the language `sh` is run, and the block of the language `text` or `json` straight after it is what it prints."""
+"""Checks all pages: links and paths lead to files, commands work over the built program, and names
+of calls, clauses and definitions are those of the crates. A block of the language `sh` is run, and
+a block of the language `text` or `json` directly after it is its output."""
 import re
 import shutil
 import subprocess
@@ -18,15 +19,16 @@ FOLDERS = ("crates", "docs", "deploy", "tests", "tools", "bench", "specs", "src"
 FILE = re.compile(r"^[\w.*-][\w.*/-]*\.(?:rt|antt|py|md|sh|conf|service|svg|txt|edit)$")
 MADE = re.compile(r"crates/\w+/out/|^out/")
 PLACEHOLDER = re.compile(r"[A-Z]{4}|\.\.")
-# Pages for those who read the code: each name in them is one of the repository's.
+# Pages for readers of the code: each name in them is one of the repository's.
 PRECISE = ("docs/ARCHITECTURE.md", "docs/DECISIONS.md", "docs/GUARANTEES.md", "docs/MODEL.md", "crates/*/README.md")
 ADDRESS, BUILT = "http://127.0.0.1:8080", "crates/tfstated/out/tfstated"
-# How pages ask the package's server. The program that runs here listens at an address alone.
+# How pages send requests to the package's server. The program that runs here listens only on an
+# address.
 SOCKET = re.compile(r"--unix-socket /run/tfstated/tfstated\.sock ('?)http://localhost")
 
 
 def pages():
-    """The text of each page, by its path."""
+    """Returns the text of each page, by its path."""
     found = [path for path in sorted(TOP.rglob("*.md")) if not {"out", ".git"} & set(path.relative_to(TOP).parts)]
     return {path: path.read_text() for path in found}
 
@@ -39,7 +41,7 @@ def without_blocks(text):
 
 
 def is_there(path, folders):
-    """Whether a path, perhaps with stars, leads somewhere from one of the folders."""
+    """Returns true if a path, perhaps with stars, leads somewhere from one of the folders."""
     return any(any(folder.glob(path)) for folder in folders if folder.is_dir())
 
 
@@ -51,7 +53,8 @@ def test_each_link_leads_to_a_file():
 
 
 def paths_of(line):
-    """The paths that a line names between backquotes: those of files, and those below a folder of the repository."""
+    """Yields the paths in a line between backquotes: paths of files, and paths below a folder of
+    the repository."""
     for word in re.findall(r"`([^`\s]+)`", line):
         named = FILE.match(word) or word.partition("/")[0] in FOLDERS and "/" in word
         if named and not PLACEHOLDER.search(word) and not MADE.search(word):
@@ -59,7 +62,8 @@ def paths_of(line):
 
 
 def missing_paths(page, line):
-    """The paths of a line that lead nowhere. A path may go on in the folder of one before it, and one of a crate is sought in all crates."""
+    """Yields the paths of a line that lead nowhere. A path may continue in the folder of a
+    previous one, and a path of a crate is looked for in all crates."""
     folders = [page.parent, TOP, TOP / "crates", TOP / "tests", TOP / "tests" / "models", TOP / "tests" / "support"]
     if TOP / "crates" not in page.parents:
         folders += TOP.glob("crates/*")
@@ -93,7 +97,7 @@ def test_each_crate_is_listed():
 
 
 def words_of_code():
-    """All words of the crates, the scripts and the list of crates."""
+    """Returns all words of the crates, the scripts and the list of crates."""
     patterns = ("crates/*/src/**/*.rt", "crates/*/specs/*.antt", "crates/*/proofs/*.antt", "tests/**/*.py", "tools/*.py")
     files = [path for pattern in patterns for path in TOP.glob(pattern)]
     return set(re.findall(r"\w+", "\n".join(path.read_text() for path in [*files, TOP / "crates.txt", TOP / "Makefile"])))
@@ -109,7 +113,7 @@ def test_each_name_is_one_of_the_code():
 
 
 def clauses():
-    """The names of the clauses of each function."""
+    """Returns the names of the clauses of each function."""
     found = {}
     for path in TOP.glob("crates/*/src/**/*.rt"):
         for name, contract in re.findall(r"\bfn (\w+)(.*?)(?=\n\s*\{\n|\{\}\n|;\n\}|;\n\n|\n\n)", path.read_text(), re.S):
@@ -125,7 +129,8 @@ def test_each_clause_stands_in_its_contract():
 
 
 def test_each_name_of_a_worked_change_is_in_a_file_of_it():
-    """Each file that a change of CONTRIBUTING.md names is there, and each other name is a word of one of them."""
+    """Each file that a change of CONTRIBUTING.md names exists, and each other name is a word of one
+    of them."""
     changes = PAGES[TOP / "CONTRIBUTING.md"].split("\n## Worked changes\n")[1].split("\n## ")[0].split("\n### ")[1:]
     expect(len(changes), 4, "worked changes")
     for change in changes:
@@ -158,22 +163,24 @@ def test_each_search_that_a_page_shows_finds_something():
 
 
 def blocks(text):
-    """The blocks that are run, each with what it is to print, which is empty where the page doesn't say so."""
+    """Returns the blocks that are run, each with its expected output, which is empty if the page
+    doesn't give it."""
     return re.findall(r"^```sh\n(.*?)^```$(?:\n\n```(?:text|json)\n(.*?)^```$)?", text, re.M | re.S)
 
 
 def is_of_make(content):
-    """Whether a block has targets of make alone."""
+    """Returns true if a block has only targets of make."""
     return all(line.startswith("make ") for line in content.splitlines())
 
 
 def can_run(content):
-    """Whether a block is for the built program: no target of make alone, and no program that isn't there."""
+    """Returns true if a block is for the built program: not only targets of make, and no missing
+    program."""
     return not is_of_make(content) and ("terraform " not in content or shutil.which("terraform") is not None)
 
 
 def run_block(content, server, folder):
-    """What a block prints, over a server and in a folder of its own."""
+    """Returns the output of a block, run with a server and in a folder of its own."""
     script = SOCKET.sub(rf"\1{ADDRESS}", content).replace(ADDRESS, f"http://{server.address}").replace(BUILT, str(PROGRAM))
     how = {"cwd": folder, "stdin": subprocess.DEVNULL, "stdout": subprocess.PIPE, "timeout": SECONDS}
     ran = subprocess.run(["sh", "-e", "-c", script], check=False, **how)
@@ -182,7 +189,7 @@ def run_block(content, server, folder):
 
 
 def run_page(text):
-    """Runs the blocks of a page in turn, over one server, until one can't be run."""
+    """Runs the blocks of a page in order, with one server, up to the first that can't be run."""
     with tempfile.TemporaryDirectory(prefix="tfstated-") as folder:
         server = Server(workers=2)
         for content, printed in blocks(text):

@@ -1,5 +1,5 @@
-"""Starts of `tfstatectl` below a least position, which a file has that the server and copies raise, and starts that pass over a journal whose
-entries the newest one lacks."""
+"""Starts of `tfstatectl` below a least position, which is in a file that the server and copies
+raise, and starts that discard a journal whose entries the newest one lacks."""
 from concurrent.futures import ThreadPoolExecutor
 
 import pytest
@@ -13,7 +13,7 @@ pytestmark = pytest.mark.usefixtures("tfstatectl")
 
 
 def refused(folder, fault, *words):
-    """A start that ends with a fault, and changes nothing: what it tells."""
+    """Makes a start that must end with a fault, and change nothing. Returns its report."""
     before = all_of(folder)
     status, output, errors = ended(folder, *words)
     expect((status, output, f": {fault}" in errors), (STATUSES[fault], "", True), errors)
@@ -22,7 +22,7 @@ def refused(folder, fault, *words):
 
 
 def position_in(path):
-    """The position that a file has."""
+    """Returns the position in a file."""
     return int(path.read_text())
 
 
@@ -106,7 +106,8 @@ def base_of(position, lock, state):
 
 
 def passed_over(folder, *words):
-    """Serves a folder, passes over its journal of number 3, and kills the server: the answer for `a`, and the lines of the start."""
+    """Serves a folder, discards its journal of number 3, and kills the server. Returns the answer
+    for `a`, and the lines of the start."""
     server = Serving(folder, "--accept-past", *words).listens()
     answer = server.ask("GET", "/state/a")
     return answer, server.kill().splitlines()
@@ -123,8 +124,8 @@ OTHER = base_of(1, b"", S2)
     (b"TFJ1\n" + PUSH1 + PUSH2, SHORT, S1, "1 of its entries are lost"), (SHORT, OTHER, S2, "0 of its entries are lost"),
     (NEWEST[:-1] + b"x", OTHER, S2, "it can't be read, and its entries are lost")])
 def test_a_journal_is_passed_over(past, newest, state, lost, changes):
-    """The journal of number 4 went on from one of the places of that of number 3, or from none: how many entries are lost. No later start is refused
-    because of that of number 3."""
+    """The journal of number 4 continued at one of the positions of number 3, or at none. Checks how
+    many entries are lost, and that no later start is refused because of number 3."""
     folder = fresh(n3=past, n4=newest + changes)
     answer, lines = passed_over(folder, folder / f"{named(3)}.tfj")
     expect((answer, len(lines), f"{named(3)}.tfj is passed over: {lost}" in lines[0]), ((200, state), 2, True), lines)

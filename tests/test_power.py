@@ -1,7 +1,7 @@
-"""What `tfstatectl serve` has acknowledged is there after a power cut, on a disk that loses bytes
-and names that weren't synced (lazy_disk.c): at random moments of a server that compacts its journal
+"""What `tfstatectl serve` has acknowledged exists after a power cut, on a disk that loses bytes and
+names that weren't synced (lazy_disk.c): at random moments of a server that compacts its journal
 often; right before each call of a compaction and of a start; and after each sync and each rename of
-them has failed. KILLS says how many random kills there are, SEED which ones."""
+them has failed. KILLS gives the number of random kills, SEED chooses them."""
 import copy
 import functools
 import http.client
@@ -24,12 +24,13 @@ from told import NAMES, Told, kill_beside
 
 pytestmark = pytest.mark.usefixtures("tfstatectl")
 KILLS, SEED = int(os.environ.get("KILLS", "20")), int(os.environ.get("SEED", "1"))
-# A disk keeps only what was synced; it also keeps each change of a name; or some, and some bytes.
+# A disk that keeps only what was synced; one that also keeps each change of a name; and one that
+# keeps some of them, and some bytes.
 DISKS = ({}, {"NAMES": 100}, {"NAMES": 40, "BYTES": 40})
 # More than a start or a compaction makes: syncs and changes of names; syncs; renames.
 CALLS, SYNCS, RENAMES = 18, 10, 5
 PUSHED = NAMES[:2]
-# The steps of a program that renames a file in place of another one, moves one, and removes one.
+# The steps of a program that replaces a file by a rename, moves one, and removes one.
 STEPS = """
 import os, sys
 def sync(path, flags=os.O_RDONLY, data=b""):
@@ -54,7 +55,7 @@ os.kill(os.getpid(), 9)
 
 
 def left_after(*steps, **how):
-    """What a power cut leaves of files after some steps of a program."""
+    """Returns what a power cut leaves of files after some steps of a program."""
     disk = Disk(fresh())
     for name in "abc":
         (disk.root / name).write_text(f"old {name}")
@@ -79,7 +80,7 @@ def test_the_disk_loses_what_was_not_synced():
 
 
 def push_all(server, told):
-    """Pushes to each name and reads it; returns false if the server doesn't answer."""
+    """Pushes to each name and reads it. Returns false if the server doesn't answer."""
     connection = http.client.HTTPConnection(LOOPBACK, server.port, timeout=SECONDS)
     try:
         for name in PUSHED:
@@ -93,21 +94,21 @@ def push_all(server, told):
 
 
 def started(disk, env=None):
-    """A start on a disk, which may fail."""
+    """Makes a start on a disk, which may fail."""
     first = () if journals(disk.folder) else ("--first",)
     words = ("--keep", "1000000", "--at-least-file", disk.least, *first)
     return Serving(disk.folder, *words, env=env)
 
 
 def new():
-    """A disk with an empty folder, and what was told of it."""
+    """Returns a disk with an empty folder, and what was reported about it."""
     disk = Disk()
     disk.least.write_text(f"{0:020}\n")
     return disk, Told()
 
 
 def served():
-    """A disk with a folder whose server acknowledged some changes, and what it told."""
+    """Returns a disk with a folder whose server acknowledged some changes, and what it reported."""
     disk, told = new()
     server = started(disk).listens()
     expect(push_all(server, told), True, "the first changes")
@@ -116,14 +117,15 @@ def served():
 
 
 def idle():
-    """The same with a journal that has no changes since its base, which a start replaces."""
+    """Returns the same with a journal that has no changes since its base, which a start
+    replaces."""
     disk, told = copy_of(served)
     started(disk).listens().kill()
     return disk, told
 
 
 def left():
-    """The same with the beginning of a journal, as a start leaves it that failed."""
+    """Returns the same with the beginning of a journal, as a failed start leaves it."""
     (disk, told), (other, _) = copy_of(served), made(idle)
     data = journals(other.folder)[newest(other.folder)]
     (disk.folder / f"{named(newest(disk.folder) + 1)}.tfj").write_bytes(data[: len(data) // 2])
@@ -135,13 +137,13 @@ STARTS = (new, served, idle, left)
 
 @functools.cache
 def made(make):
-    """What a function makes, once."""
+    """Returns what a function makes, made once."""
     return make()
 
 
 def copy_of(make):
-    """A copy of the disk that a function makes, with a least position that lags, and of what was
-    told of it."""
+    """Returns a copy of the disk that a function makes, with a least position that lags, and a copy
+    of what was reported about it."""
     (disk, told), copied = made(make), Disk()
     shutil.copytree(disk.root, copied.root, dirs_exist_ok=True)
     copied.least.write_text(f"{0:020}\n")
@@ -149,8 +151,8 @@ def copy_of(make):
 
 
 def expect_kept(disk, told, about, has_retired=True):
-    """A server on what is left of a disk has all that was told, and accepts further changes. The
-    retired journals are there, too, unless that isn't promised."""
+    """Checks that a server on what is left of a disk has all that was reported, and accepts further
+    changes, and that the retired journals exist, unless that isn't promised."""
     server = started(disk).listens()
     for name in PUSHED:
         status, text = server.ask("GET", f"/state/{name}")
@@ -164,8 +166,8 @@ def expect_kept(disk, told, about, has_retired=True):
 
 
 def kill_often(rng, kills):
-    """Kills a server that compacts often, after none to two compactions, and cuts most times the
-    power."""
+    """Kills a server that compacts often, after none to two compactions, and cuts the power most of
+    the time."""
     disk, told = Disk(), Told()
     for kill in range(kills):
         how = {"DELAY": rng.choice((0, 300, 3000)), "SEED": rng.randrange(10**6)}
@@ -188,12 +190,12 @@ def test_kills_lose_nothing_that_was_told():
 
 
 def events_in(trace):
-    """The letters of a trace."""
+    """Returns the letters of a trace."""
     return [line[0] for line in trace.read_text().splitlines()]
 
 
 def failure_in(events):
-    """The place of the first failure, if there is one."""
+    """Returns the place of the first failure, if there is one."""
     return next((place for place, letter in enumerate(events) if letter in "fonm"), None)
 
 
@@ -204,8 +206,8 @@ def has_failed(trace, directory):
 
 
 def is_idle(disk, trace):
-    """Returns true if a server has marked all bytes of its journal durably, which is the last that
-    it does after changes."""
+    """Returns true if a server has marked all bytes of its journal durably, which is its last step
+    after changes."""
     number = newest(disk.folder)
     data = (disk.folder / f"{named(number)}.tfj").read_bytes()
     mark = identity_text(**{f"n{number}": data}).splitlines()[1]
@@ -215,7 +217,7 @@ def is_idle(disk, trace):
 
 
 def compacting(disk, told, trace, **how):
-    """A server that is asked to compact its journal, with nothing else left to do. Calls are
+    """Starts a server that is asked to compact its journal, with nothing else left to do. Calls are
     counted from then on. Returns it with the number of events before."""
     server = started(disk, env=disk.env(ARMED=disk.armed, TRACE=trace, **how)).listens()
     expect(push_all(server, told), True, "the changes before a compaction")
@@ -227,8 +229,8 @@ def compacting(disk, told, trace, **how):
 
 
 def wait_until_over(server, trace, count):
-    """Waits until a server has ended, has reported a compaction of which a call failed, or has
-    made the last two syncs after its report: those of a retired journal's directories."""
+    """Waits until a server has ended, has reported a compaction with a failed call, or has made
+    the last two syncs after its report, of a retired journal's directories."""
     def is_over():
         events = events_in(trace)[count:]
         reported = events.index("p") if "p" in events else len(events)
@@ -291,8 +293,9 @@ def test_a_power_cut_before_each_call_of_a_start_loses_nothing(make, how):
 
 
 def expect_reported(report, failed, place, about):
-    """What a server reports of a compaction: that it is done, unless a call failed before. Then
-    the earlier journal continues, if the newest one still has its number, or the server ended."""
+    """Checks what a server reports of a compaction: that it is done, unless a call failed before.
+    Then the earlier journal continues, if the newest one still has its number, or the server
+    ended."""
     status, text, is_same = report
     if failed is None or place < failed:
         expect((status, " bytes in place of " in text), (None, True), f"{about}: {text}")
@@ -305,8 +308,8 @@ def expect_reported(report, failed, place, about):
 
 
 def fail_in_compaction(variable, is_cut, turn):
-    """Has a call of a compaction fail: it isn't reported as done, and all that was told is kept.
-    Returns true if there was the call."""
+    """Has a call of a compaction fail: it isn't reported as done, and all that was reported is
+    kept. Returns true if there was the call."""
     (disk, told), trace = copy_of(served), fresh() / "trace"
     about = f"{variable} {turn} fails in a compaction"
     server, count = compacting(disk, told, trace, **{variable: turn})
@@ -320,7 +323,7 @@ def fail_in_compaction(variable, is_cut, turn):
     expect_reported((status, report, is_same), failed, events.index("p"), about)
     if is_cut:
         disk.cut()
-    # Whether the names of retired journals are kept isn't known once their sync has failed.
+    # It isn't known whether the names of retired journals are kept after their sync has failed.
     expect_kept(disk, told, about, not (is_cut and has_failed(trace, "old")))
     return failed is not None
 
@@ -332,8 +335,8 @@ def test_a_compaction_of_which_a_sync_or_a_rename_fails_is_not_reported_as_done(
 
 
 def fail_in_start(make, variable, is_cut, turn):
-    """Has a call of a start fail: it doesn't listen, and all that was told before is kept. Returns
-    true if there was the call."""
+    """Has a call of a start fail: it doesn't listen, and all that was reported before is kept.
+    Returns true if there was the call."""
     (disk, told), trace = copy_of(make), fresh() / "trace"
     about = f"{make.__name__}, {variable} {turn} fails in a start"
     disk.armed.touch()

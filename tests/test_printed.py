@@ -1,5 +1,6 @@
-"""Texts from clients, as the tables, the JSON and the pictures of `tfstatectl` print them: characters of the Unicode categories Cc, Cf, Zl and Zp in
-lock information and in addresses of instances are escaped."""
+"""Texts from clients, as the tables, the JSON and the pictures of `tfstatectl` print them:
+characters of the Unicode categories Cc, Cf, Zl and Zp in lock information and in addresses of
+instances are escaped."""
 import json
 import sys
 import unicodedata
@@ -20,12 +21,13 @@ CATEGORIES = ("Cc", "Cf", "Zl", "Zp")
 SAMPLES = {"Cc": [0x00, 0x09, 0x0A, 0x1B, 0x7F, 0x85, 0x9B], "Zl": [0x2028], "Zp": [0x2029],
            "Cf": [0xAD, 0x061C, 0x180E, 0x200B, 0x200E, 0x202E, 0x2066, 0x2069, 0xFEFF, 0xFFFB, 0x110BD, 0x1BCA0, 0x1D173, 0xE0001, 0xE0020, 0xE007F]}
 HIDDEN = [chr(number) for numbers in SAMPLES.values() for number in numbers]
-# Of other categories: a letter, a mark that combines, spaces, a symbol, a private and an unassigned one, and the last of planes.
+# Characters of other categories: a letter, a combining mark, spaces, a symbol, a private and an
+# unassigned one, and the last ones of planes.
 SHOWN = ["\u00e9", "\u0301", "\u00a0", "\u2003", "\u3000", "\U0001f600", "\ue000", "\u0378", "\ufffd", "\U00010000", "\U0010fffd"]
 
 
 def every_hidden():
-    """The samples, and all characters that Python lists in these categories."""
+    """Returns the samples, and all characters that Python lists in these categories."""
     return sorted({*HIDDEN, *(chr(number) for number in range(sys.maxunicode + 1) if unicodedata.category(chr(number)) in CATEGORIES)})
 
 
@@ -46,7 +48,7 @@ def test_the_samples_are_of_their_categories():
 
 
 def locked(**words):
-    """A folder whose workspace `a` is locked with this information."""
+    """Returns a folder whose workspace `a` is locked with this information."""
     return fresh(n1=b"TFJ1\n" + record_text(1, b"a", json.dumps(words).encode()))
 
 
@@ -77,7 +79,8 @@ def test_all_characters_of_these_categories_are_escaped():
 
 
 def keyed(keys):
-    """A folder with a state whose instances have these keys, and the instances as the model reads them."""
+    """Returns a folder with a state whose instances have these keys, and the instances as the model
+    reads them."""
     data = text_of([resource("a", [{"index_key": key} for key in keys]), resource("b", [{"index_key": key, "dependencies": ["t.a"]} for key in keys])])
     return fresh(n1=b"TFJ1\n" + record_text(3, b"a", push_content(b"", data))), instances_of(dict(json_of(data)))
 

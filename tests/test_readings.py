@@ -1,5 +1,6 @@
-"""Has the program `tfs_probe` read texts of addresses, states and locks. What is wanted of the rows is written by hand; texts with
-random mistakes are to be read as the plain reader of state_reader.py reads them, and so are all rows."""
+"""Has the program `tfs_probe` read texts of addresses, states and locks. The expected readings of
+the rows are written by hand; texts with random mistakes must read as the plain reader of
+state_reader.py reads them, and so must all rows."""
 import subprocess
 
 from hypothesis import given, settings, strategies as st
@@ -18,24 +19,25 @@ UNCLOSED, STRAY = "a bracket is opened, and no key follows that ends", "a bracke
 
 
 def told(lines):
-    """What the program tells of each line."""
+    """Returns what the program prints about each line."""
     ran = subprocess.run([PROGRAM, "texts"], input="".join(f"{line}\n" for line in lines).encode(), capture_output=True, timeout=SECONDS, check=False)
     expect((ran.returncode, ran.stderr), (0, b""))
     return ran.stdout.decode().splitlines()
 
 
 def hexed(text):
-    """The hex digits of a text or of bytes."""
+    """Returns the hex digits of a text or of bytes."""
     return (text if isinstance(text, bytes) else text.encode()).hex()
 
 
 def text_of(digits):
-    """The text of hex digits; a dash is an empty one."""
+    """Returns the text of hex digits; a dash is an empty one."""
     return bytes.fromhex(digits.replace("-", "")).decode()
 
 
 def words_of(line):
-    """What a line of the program tells, in words: a text in quotes, a lock's identifier, a state, or a fault."""
+    """Returns a line of the program in words: a text in quotes, a lock's identifier, a state, or a
+    fault."""
     kind, rest = line.split(" ", 1)
     if kind == "state":
         front, *instances = rest.split(" instance ")
@@ -45,18 +47,18 @@ def words_of(line):
 
 
 def instance_words(part):
-    """The line of an instance."""
+    """Returns the line of an instance."""
     address, config, *numbers = part.split(" ")
     return f"{text_of(address)} of {text_of(config)}:" + "".join(f" {number}" for number in numbers)
 
 
 def pairs_of(table):
-    """The two sides of each row of a table."""
+    """Returns the two sides of each row of a table."""
     return [row.split(" => ") for row in table.splitlines()]
 
 
 def expect_rows(lines, wanted):
-    """Compares what the program tells of lines with words."""
+    """Compares what the program prints about lines with words."""
     found = list(map(words_of, told(lines)))
     expect(len(found), len(wanted))
     for line, one, other in zip(lines, found, wanted):
@@ -88,7 +90,8 @@ def test_the_first_bracket_without_a_key_is_refused(text, fault):
 
 def test_instance_addresses_have_their_module_as_it_came_and_their_keys():
     hard = "a\"b\\c\0\x01\b\t\n\x0b\f\r\x0e\x1f \x7f\u00e9\U0001f600]/"
-    # RFC 8259, section 7: a quote and a backslash are escaped, and a control character has its code.
+    # RFC 8259, section 7: a quote and a backslash are escaped, and a control character has its
+    # code.
     told_hard = 't.n["a\\"b\\\\c\\u0000\\u0001\\b\\t\\n\\u000b\\f\\r\\u000e\\u001f \x7f\u00e9\U0001f600]/"]'
     given = [
         ("", "", "", "t.n"), ("", "n0", "", "t.n[0]"), ("", f"n{2**64 - 1}", "", "t.n[18446744073709551615]"), ("", "t" + hexed("k"), "", 't.n["k"]'),
@@ -108,7 +111,7 @@ def test_large_texts_are_stripped(count):
     expect_rows(list(map(config_of, texts[3:])), [STRAY, UNCLOSED])
 
 
-# What a fault of a state tells behind its name.
+# What a fault of a state prints after its name.
 SAYS = {
     "NotJson": "the state is no JSON text", "Version": "the state's version isn't 4", "Serial": "the state's serial isn't an unsigned 64-bit whole number",
     "Lineage": "the state's lineage isn't a text, or is empty", "Resource": "resource {} of the state isn't one",
@@ -118,7 +121,8 @@ SAYS = {
 
 
 def said(words):
-    """What the program tells of a state in these words: of a fault, what it says too."""
+    """Returns what the program prints about a state with these words; for a fault, with its
+    text."""
     name, _, numbers = words.rstrip(")").partition("(")
     return f"{words}: {SAYS[name].format(*numbers.split(', '))}" if name in SAYS else words
 
@@ -128,14 +132,15 @@ def state_line(text):
 
 
 def expect_states(texts, fronts):
-    """Compares what states are read as with the plain reader's words, whose first line is written by hand."""
+    """Compares what states read as with the plain reader's words, whose first line is written by
+    hand."""
     words = [state_words(text if isinstance(text, bytes) else text.encode()) for text in texts]
     expect([word.split("\n")[0] for word in words], list(fronts), "by the plain reader")
     expect_rows(list(map(state_line, texts)), list(map(said, words)))
 
 
 def state_of(resources):
-    """A state's text with this text of its resources."""
+    """Returns a state's text with this text of its resources."""
     return f'{{"version":4,"serial":1,"lineage":"L1","resources":{resources}}}'
 
 
@@ -193,7 +198,7 @@ def test_a_state_as_terraform_writes_it_is_read():
     ('{"version":4,"serial":9,"lineage":"\\u00e9\\u004d\\t\\u00', "NotJson"),
 ])
 def test_a_state_is_read_as_it_is_alone_behind_a_long_one_and_a_refused_one(before, front):
-    # One run reads all of its states over one room.
+    # One run reads all of its states with one scratch buffer.
     texts, fronts = zip(*pairs_of(rows.STATES))
     expect_states([text for own in texts for text in (before, own)], [one for own in fronts for one in (front, own)])
 
@@ -214,7 +219,7 @@ def test_states_with_mistakes_are_read_as_the_plain_reader_reads_them():
 
 
 def expect_locks(texts, wanted):
-    """Compares what lock texts are read as with words by hand, and with the plain reader's."""
+    """Compares what lock texts read as with words by hand, and with the plain reader's."""
     texts = [text if isinstance(text, bytes) else text.encode() for text in texts]
     expect(list(map(lock_words, texts)), list(wanted), "by the plain reader")
     expect_rows([f"lock {hexed(text)}" for text in texts], list(wanted))

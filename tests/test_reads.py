@@ -1,5 +1,5 @@
-"""What a connection of `tfstated serve` is given: that what is written to it is sent at once, so many reads, and an end where a body has
-none."""
+"""What a connection of `tfstated serve` gets: replies are sent at once, the number of reads is
+limited, and a body without an end is ended."""
 import os
 import threading
 
@@ -15,7 +15,8 @@ MAX_READS = 1048576
 
 
 def expect_at_once(connection, trace):
-    """Fails where a connection, the only one that came since the trace was read, isn't told before its first reply to send at once."""
+    """Fails unless the only new connection of a trace is set to send at once before its first
+    reply."""
     expect(asked(connection, "GET", "/state/a")[0], 404)
     (word, near), *calls = calls_in(trace)
     expect((word, {descriptor for _, descriptor in calls}), ("nodelay", {near}), "before its first reply")
@@ -38,7 +39,7 @@ def test_what_is_written_to_each_connection_is_sent_at_once():
 
 
 def push_of(size):
-    """A push whose head and body have so many bytes together."""
+    """Returns a push whose head and body have this many bytes together."""
     head = request_text("POST", "/state/a", bytes(size - 80))
     rest = size - (len(head) - (size - 80))
     text = request_text("POST", "/state/a", S1.ljust(rest))
@@ -62,7 +63,8 @@ def test_a_body_gets_as_many_reads_as_a_connection_has(size, wanted):
 
 
 def expect_ended(server, beginning, piece, most):
-    """Fails where a connection doesn't end before so many pieces are sent, or the only worker doesn't get to the next client."""
+    """Fails unless a connection ends before this many pieces are sent, and the only worker gets to
+    the next client."""
     with server.connect() as connection:
         connection.sendall(beginning)
         ended = False

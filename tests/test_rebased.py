@@ -1,5 +1,6 @@
-"""Rebases journals with `tfstated rebase`, and serves what it wrote: states and holders are those of the old journal, names still
-count, and numbers go on behind the last entry of the old one. What must come is written here by hand."""
+"""Rebases journals with `tfstated rebase`, and serves the results: states and holders are those of
+the old journal, names still count, and positions continue after the last entry of the old one. The
+expected results are written here by hand."""
 import json
 from pathlib import Path
 
@@ -20,12 +21,12 @@ MAX_NAMES, MAX_ENTRIES, MAX_POSITION = 1024, 65536, 2**62
 
 
 def refused(status, name):
-    """The status and the body of a refusal."""
+    """Returns the status and the body of a refusal."""
     return status, b'{"error":"%s"}' % name.encode()
 
 
 def rebase(content, numbers):
-    """Rebases a journal of this content: the path of the new one. The old one stays."""
+    """Rebases a journal of this content. Returns the path of the new one. The old one stays."""
     old, new = fresh(content), fresh()
     expect(run("rebase", old, new), (f"rebased {numbers}\n".encode(), 0, b""))
     expect(Path(old).read_bytes() == content, True, "the old journal stays")
@@ -33,14 +34,15 @@ def rebase(content, numbers):
 
 
 def listed(path):
-    """The lines of `check` on a journal, and its status."""
+    """Returns the lines of `check` on a journal, and its status."""
     output, status, errors = run("check", path)
     expect(errors, b"")
     return output.decode().splitlines(), status
 
 
 def expect_number(server, name, number):
-    """The position that an impact of a state with the instance t.a, of serial 2, is told with is the number of the last entry."""
+    """Checks that the position of an impact of a state with the instance t.a, of serial 2, is the
+    number of the last entry."""
     answer = {"instances": [], "position": number, "serial": 2}
     status, body = server.ask("GET", f"/impact/{name}/any?of=t.a")
     expect((status, json.loads(body)), (200, answer), "the number of the last entry")

@@ -1,5 +1,6 @@
-"""Drives `tfstated stdio` with heads of every kind: hosts, versions, lengths, closings, digests, routes, methods and queries. What it
-must write is written here by hand; random heads are answered by the plain model of stdio_model.py."""
+"""Drives `tfstated stdio` with heads of every kind: hosts, versions, lengths, closings, digests,
+routes, methods and queries. The expected output is written here by hand; random heads are answered
+by the plain model of stdio_model.py."""
 import base64
 import hashlib
 import itertools
@@ -126,12 +127,12 @@ def test_digests_are_looked_at_last(data, name):
 
 
 def fields(count):
-    """A request of so many fields."""
+    """Returns a request with this many fields."""
     return b"GET /state/a HTTP/1.1\r\nHost: h\r\n" + b"A: b\r\n" * (count - 1) + b"\r\n"
 
 
 def length(*values):
-    """A head that states these lengths."""
+    """Returns a head that states these lengths."""
     lines = b"".join(b"Content-Length: %s\r\n" % value for value in values)
     return b"POST /state/a HTTP/1.1\r\nHost: h\r\n" + lines + b"\r\n"
 
@@ -230,7 +231,8 @@ def test_noise_is_refused_or_cut_as_the_model_says():
         expect(run(data), (*model.conversation(data), b""), f"noise {turn}")
 
 
-# Lines of a head: its hosts, its connection, another line, and a digest, each as often as it is to come.
+# Lines of a head: its hosts, its connection, another line, and a digest, each as often as it is to
+# occur.
 LINES = st.tuples(*map(st.sampled_from, (
     [[b"Host: h"]] * 6 + [[], [b"Host: h"] * 2],
     [[]] * 16 + [[b"Connection: " + word] for word in (b"close", b"x, Close", b"keep-alive", b"")],
@@ -247,14 +249,14 @@ REQUEST_LINES = st.builds(
 
 @st.composite
 def head_lines(draw):
-    """Lines of a head, most of which a request may have."""
+    """Draws lines of a head; most of them are valid."""
     lines = [line for part in draw(LINES) for line in part]
     end, order = draw(ENDS), draw(ORDERS[len(lines)])
     return end + b"".join(lines[place] + end for place in order) + end
 
 
 def heads():
-    """A request without a body."""
+    """Returns a strategy for requests without a body."""
     return st.builds(bytes.__add__, REQUEST_LINES, head_lines())
 
 

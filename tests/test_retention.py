@@ -1,5 +1,6 @@
-"""What a folder keeps over starts: a start without changes retires no journal, one that fails leaves none, and the files of `old/` are removed by
-number, age and size. The commands report the positions that are no longer kept."""
+"""What a folder keeps over starts: a start without changes retires no journal, a failed start
+leaves none, and the files of `old/` are removed by number, age and size. The commands report the
+positions that are no longer kept."""
 import os
 import subprocess
 import time
@@ -23,7 +24,7 @@ DAY = 86_400
 
 
 def kept(folder):
-    """All that a folder has and that is read of its past."""
+    """Returns the contents of a folder, and what is read of its past."""
     return all_of(folder), told(folder, "history", "a"), bytes_of("show", folder, "a", "--position", "1")
 
 
@@ -61,7 +62,7 @@ def test_no_number_of_a_journal_is_used_again(away, number):
 
 
 def elsewhere():
-    """A folder of another file system, or none."""
+    """Returns a folder of another file system, or None."""
     room = Path("/dev/shm")
     if not os.access(room, os.W_OK) or room.stat().st_dev == fresh().stat().st_dev:
         return None
@@ -71,7 +72,7 @@ def elsewhere():
 
 
 def fails_often(folder, fault, *words, **how):
-    """Starts that fail for the same cause leave the journals as they were."""
+    """Checks that starts that fail for the same cause leave the journals as they were."""
     before = {name: data for name, data in all_of(folder).items() if name != "identity"}
     for _ in range(3):
         status, _, errors = ended(folder, *words, **how)
@@ -83,7 +84,7 @@ def fails_often(folder, fault, *words, **how):
 @pytest.mark.parametrize("make, fault", [(lambda old: old.symlink_to("nowhere"), "CannotWrite"), (Path.touch, "CannotRead")])
 @pytest.mark.parametrize("files", [{"n1": NEWEST}, {"n1": NEWEST, "n2": REBASED, "n3": REBASED + PUSH2[:9]}])
 def test_a_start_that_fails_leaves_no_journal(files, make, fault):
-    """`old/` is a file or a link to nothing, so that no journal can be retired."""
+    """`old/` is a file or a link to nothing, so no journal can be retired."""
     folder = fresh(**files)
     make(folder / "old")
     fails_often(folder, fault)
@@ -128,7 +129,8 @@ def test_starts_whose_output_is_closed_leave_one_journal():
         expect((journals(folder), journals(folder / "old")), ({2: REBASED}, {1: NEWEST}), f"start {start}")
 
 
-# Files of 1,000 bytes with the numbers from 1 to 15; that of number N was written 3 * (16 - N) - 0.5 days ago.
+# Files of 1,000 bytes with the numbers from 1 to 15; number N was written 3 * (16 - N) - 0.5 days
+# ago.
 FILES = {f"n{number}": (b"%d" % number).ljust(1000) for number in range(1, 16)}
 STAYING = [((), 1), (("--keep-days", "30"), 6), (("--keep-days=29",), 7), (("--keep-days", "45"), 1), (("--keep-days", "44"), 2), (("--keep-days", "0"), 7),
            (("--keep-bytes", "11500"), 5), (("--keep-bytes=11K",), 5), (("--keep-bytes", "1K"), 7), (("--keep-bytes", "0"), 7), (("--keep-bytes", "10G"), 1),
@@ -137,7 +139,8 @@ STAYING = [((), 1), (("--keep-days", "30"), 6), (("--keep-days=29",), 7), (("--k
 
 
 def aged(days=3, **files):
-    """A folder with these journals, and with the old files, each a number of days older than the next."""
+    """Returns a folder with these journals, and with the old files, each a number of days older
+    than the next."""
     folder, now = put_away(fresh(**files), **FILES), time.time()
     for number in range(1, 16):
         os.utime(folder / "old" / f"{named(number)}.tfj", (now - (days * (16 - number) - 0.5) * DAY,) * 2)
@@ -150,7 +153,8 @@ def old_numbers(folder):
 
 @pytest.mark.parametrize("words, first", STAYING, ids=lambda value: "".join(value) or "default" if isinstance(value, tuple) else None)
 def test_files_of_old_stay_by_number_age_and_size(words, first):
-    """After a start, and after a copy, the old files from this number on stay, and the journal of number 16, which is retired."""
+    """After a start, and after a copy, the old files from this number on stay, and the journal of
+    number 16, which is retired."""
     folder = aged(n16=NEWEST)
     served(folder, *words)
     expect(old_numbers(folder), [*range(first, 17)], f"a start with {words}")

@@ -1,4 +1,5 @@
-"""Drives `tfstated stdio` with targets, methods and queries of every kind. What it must write is written here by hand."""
+"""Drives `tfstated stdio` with targets, methods and queries of every kind. The expected output is
+written here by hand."""
 import pytest
 
 from checking import S1, S2, expect
@@ -9,7 +10,8 @@ from stdio_program import run
 pytestmark = pytest.mark.usefixtures("tfstated")
 
 
-# Requests with no body, and the refusal of each: methods and targets are judged by the route, the method and the name in turn.
+# Requests without a body, and the refusal of each: methods and targets are judged by the route,
+# then the method, then the name.
 REFUSED_REQUESTS = """
 GET / NoRoute
 GET * NoRoute
@@ -107,7 +109,7 @@ def test_a_read_tells_the_state_of_its_name():
 
 
 def changes(query):
-    """A push, a deletion and an unlock of `a`, each with this query."""
+    """Returns a push, a deletion and an unlock of `a`, each with this query."""
     target = b"/state/a" + query
     return request(b"POST", b"", S1, target), request(b"DELETE", target=target), request(b"UNLOCK", target=target)
 
@@ -140,8 +142,8 @@ def test_a_lock_has_its_body_alone(target):
     expect(run(lock + push + GET), (DONE * 2 + reply_text(200, S1), CLEAN, b""), target)
 
 
-# Three instances, the second of which depends on the first and the third on the second; and four of one resource, with one more that
-# depends on them.
+# Three instances: the second depends on the first and the third on the second; and four of one
+# resource, with one more that depends on them.
 CHAIN = (
     b'{"version":4,"serial":2,"lineage":"L","resources":['
     b'{"mode":"managed","type":"t","name":"a","instances":[{"dependencies":["x.y"]}]},'

@@ -1,5 +1,6 @@
-"""Runs `tfstated serve` and talks to it over sockets: its faults, what clients that go away leave, journals that are gone on with,
-the order of syncing and replying, and bodies that are meant to take all memory."""
+"""Runs `tfstated serve` and talks to it over sockets: its faults, the effects of clients that go
+away, continued journals, the order of syncing and replying, and bodies that are meant to use up all
+memory."""
 import concurrent.futures
 import os
 import resource
@@ -24,7 +25,7 @@ MAX_READS = 1048576
 
 
 def fault(name, status=1):
-    """How a run that ends by a fault ends."""
+    """Returns how a run ends by a fault."""
     return b"", status, f"tfstated: {name}\n".encode()
 
 
@@ -105,7 +106,8 @@ def test_a_client_that_goes_away_ends_its_connection_alone():
 
 
 def expect_left(text, least, most):
-    """Fails where a client that has sent this, and is silent then, isn't left in this time, or the next one isn't served."""
+    """Fails unless a client that has sent this, and is then silent, is left within these limits,
+    and the next one is served."""
     server = Server(workers=1)
     with server.connect() as silent, server.connect() as waiting:
         waiting.sendall(request_text("GET", "/state/a"))
@@ -148,7 +150,7 @@ def test_a_slow_request_is_ended_after_a_minute():
 
 
 def limit_file_size():
-    """Lets files grow to 300 bytes, and takes the signal away that would tell."""
+    """Lets files grow to 300 bytes, and ignores the signal for a longer write."""
     signal.signal(signal.SIGXFSZ, signal.SIG_IGN)
     resource.setrlimit(resource.RLIMIT_FSIZE, (300, 300))
 
@@ -206,7 +208,7 @@ def test_a_connection_ends_after_1048576_reads():
 
 
 def pushed_by_sixteen(server, text):
-    """The statuses of sixteen pushes of a text at the same time."""
+    """Returns the statuses of 16 concurrent pushes of a text."""
     statuses = []
     threads = [threading.Thread(target=push_large, args=(server, text, statuses)) for _ in range(16)]
     for thread in threads:
@@ -226,7 +228,7 @@ def test_sixteen_hostile_bodies_end_nothing():
 
 
 def test_bodies_of_more_than_4_mib_are_read_two_at_a_time():
-    # One takes 75 MB. With one arena a thread's freed memory is there for the others.
+    # One takes 75 MB. With one arena, the other threads can use a thread's freed memory.
     server = Server(workers=16, env={"MALLOC_ARENA_MAX": "1"}, preexec_fn=limited(6 * 10**8))
     expect(pushed_by_sixteen(server, zeros((4 << 20) + 1)), [400] * 16, "two at a time fit")
     refused = any(503 in pushed_by_sixteen(server, zeros(4 << 20)) for _ in range(10))
@@ -234,7 +236,7 @@ def test_bodies_of_more_than_4_mib_are_read_two_at_a_time():
 
 
 def limit_stack():
-    """Lets each thread have a stack of 512 KiB."""
+    """Limits each thread's stack to 512 KiB."""
     resource.setrlimit(resource.RLIMIT_STACK, (1 << 19, 1 << 19))
 
 
@@ -278,7 +280,8 @@ def test_each_push_of_more_than_4_mib_gives_its_turn_back():
 
 
 def stop_and_continue(server):
-    """Stops the program and lets it go on, some times. A call that waits for a socket with a limit of time ends by EINTR then (signal(7))."""
+    """Stops and continues the program some times. A call that waits for a socket with a time limit
+    then ends with EINTR (signal(7))."""
     for _ in range(5):
         for number in (signal.SIGSTOP, signal.SIGCONT):
             time.sleep(0.02)

@@ -1,5 +1,5 @@
-"""What `tfstated serve` does where memory is refused at its start, by a preloaded shim; and what it needs of it for texts that are long or
-meant to take much."""
+"""What `tfstated serve` does if memory is refused at its start, by a preloaded shim, and how much
+memory it needs for texts that are long or meant to take much."""
 import contextlib
 import itertools
 import os
@@ -23,21 +23,26 @@ from stdio_program import PROGRAM, USAGE, request_text
 pytestmark = pytest.mark.usefixtures("tfstated")
 A, B = b'{"ID":"A" ,"Who":""}', b'{"ID":"B"}'
 WHOLE = b"TFJ2\n" + base_text(0, []) + record_text(3, b"a", push_content(b"", S1)) + record_text(1, b"a", B)
-# How long a small request may take beside bodies that are read for seconds, and how many are to be answered meanwhile. Who waits for one
-# of these bodies each time gets far fewer answers. Where memory runs out, some may be refused, at most a tenth.
+# The limit for a small request while bodies are read for seconds, and the least number of answers
+# meanwhile. A client that waits for one of these bodies each time gets far fewer answers. If memory
+# runs out, some requests may be refused, at most a tenth.
 SMALL_SECONDS, SMALL_ANSWERS = 5, 120
-# The most that fifteen such bodies take of which one is read at a time, which takes 0.4 GB.
+# The limit for 15 such bodies, which are read one after the other; reading one takes 0.4 GB.
 IN_TURN_BYTES = 1_000_000_000
-# A state of 8 MB and what comes of it take a few times its bytes: of the body, its document, the index and the journal's record.
+# A state of 8 MB and its results take a few times its bytes: the body, its document, the index and
+# the journal's record.
 TIMES_ITS_BYTES = 8
-# What an answer takes, however long it is, and how much the middle one of 200 times may differ from run to run.
+# The limit of memory for an answer of any length, and the variation of the median of 200 times from
+# run to run.
 ANSWER_BYTES, SPREAD_SECONDS = 10_000_000, 0.001
-# Long blocks of four pushes: of each its body, its record and its index, and what is freed of them.
+# The long blocks of four pushes: the body, the record and the index of each, and what is freed of
+# them.
 LONG_BLOCKS = 16
 
 
 def refused_starts(requests, words, new):
-    """How a start ends where each of its requests for memory is refused, alone, and with all after it, and what NEW then holds."""
+    """Yields how a start ends if each of its requests for memory is refused, alone, and with all
+    after it, and the bytes of NEW then."""
     with open("/dev/full", "wb", buffering=0) as full:
         for first in range(1, requests + 2):
             for last in (first, FOREVER):
@@ -48,7 +53,7 @@ def refused_starts(requests, words, new):
 
 
 def test_a_start_that_is_refused_memory_tells_it():
-    # It would serve for ever: where it is to end by itself, its standard output is full.
+    # The server would run without end. A full standard output makes it end by itself.
     new = fresh()
     words = [PROGRAM, "serve", f"{LOOPBACK}:{free_port()}", "2", new, fresh(WHOLE)]
     with open("/dev/full", "wb", buffering=0) as full:
@@ -64,20 +69,21 @@ def test_a_start_that_is_refused_memory_tells_it():
 
 
 def most_memory(server):
-    """The most bytes of memory that a server has had at once."""
+    """Returns the peak memory of a server in bytes."""
     lines = Path(f"/proc/{server.process.pid}/status").read_text().splitlines()
     return next(int(line.split()[1]) * 1024 for line in lines if line.startswith("VmHWM:"))
 
 
 def long_module_path(length):
-    """A state of 4,096 instances, of which 4,095 have a module path of so many bytes and depend on the other one."""
+    """Returns a state of 4,096 instances; 4,095 have a module path of this many bytes and depend on
+    the other one."""
     instances = ",".join('{"index_key":%d,"dependencies":["t.a"]}' % number for number in range(4095))
     own = '{"module":"module.%s","mode":"managed","type":"t","name":"n","instances":[%s]}' % ("m" * length, instances)
     return state(1, ("a",))[:-2] + b", " + own.encode() + b"]}"
 
 
 def answer_texts(length, position):
-    """The texts that are, one behind another, the body of the answer that tells these 4,095 instances."""
+    """Yields the texts that together are the body of the answer with these 4,095 instances."""
     yield b'{"instances":['
     for number in range(4095):
         yield b'%s"module.%s.t.n[%d]"' % (b"," * (number > 0), b"m" * length, number)
@@ -85,19 +91,20 @@ def answer_texts(length, position):
 
 
 def answer_length(length, position):
-    """How many bytes they have."""
+    """Returns their length in bytes."""
     return sum(map(len, answer_texts(0, position))) + 4095 * length
 
 
 def length_of_answer(file):
-    """The stated length of the body of an answer, whose head is read."""
+    """Reads the head of an answer, and returns the stated length of its body."""
     return int(re.search(rb"Content-Length: ([0-9]+)", b"".join(iter(file.readline, b"\r\n")))[1])
 
 
 @contextlib.contextmanager
 def asking(connection):
-    """Asks for the state of b five times a second on a connection, which is to be shown each time. A worker has to wait for a connection
-    meanwhile: where none waits, a connection without a request is ended after half a second, and a busy machine may take that long."""
+    """Asks for the state of b five times a second on a connection, and checks that each reply shows
+    it. A worker must wait for a connection meanwhile: if none waits, a connection without a request
+    is ended after half a second, and a busy machine may take that long."""
     ended, replies = threading.Event(), []
 
     def ask():
@@ -149,7 +156,7 @@ def test_an_answer_of_410_mb_takes_at_most_10_mb():
 
 
 def small_seconds(server):
-    """How long small requests take, the middle one of 200, on a connection."""
+    """Returns the median of the times of 200 small requests on a connection."""
     with server.connect() as connection:
         times = []
         for _ in range(200):
@@ -175,7 +182,8 @@ def test_twelve_clients_that_leave_long_answers_unread_leave_others_served():
 
 
 def in_chunks(text, size):
-    """A push of the text in chunks of so many bytes, each with an extension of 1,000 bytes on its line."""
+    """Returns a push of the text in chunks of this size, each with an extension of 1,000 bytes on
+    its line."""
     line = b"%x;%s\r\n" % (size, b"x" * 1000)
     chunks = b"".join(line + text[at : at + size] + b"\r\n" for at in range(0, len(text), size))
     return b"POST /state/a HTTP/1.1\r\nHost: h\r\nTransfer-Encoding: chunked\r\n\r\n" + chunks + b"0\r\n\r\n"
@@ -196,8 +204,8 @@ def test_chunks_take_the_memory_of_the_bytes_in_them():
 
 
 def ask_small(server, serial):
-    """A push, a read and a query, each on a connection of its own: the statuses, none where a connection ends without a reply; and the
-    seconds that the longest took."""
+    """Makes a push, a read and a query, each on a connection of its own. Returns the statuses, None
+    if a connection ends without a reply, and the seconds of the longest request."""
     statuses, longest = [], 0
     for request in (("POST", "/state/a", state(serial, ("a",), ("b", "t.a"))), ("GET", "/state/a"), ("GET", "/impact/a/any?of=t.a")):
         began = time.monotonic()
@@ -227,18 +235,19 @@ def test_small_clients_are_answered_beside_fifteen_hostile_bodies():
 
 
 def long_push(serial):
-    """A state of 600,000 bytes and 2,048 instances, whose index has 524,288 bytes."""
+    """Returns a state of 600,000 bytes and 2,048 instances, whose index has 524,288 bytes."""
     return chain(2048, serial=serial).ljust(600_000)
 
 
 def push_in_turn(server, count, replies):
-    """Pushes so many states of one name, one after the other."""
+    """Pushes this many states of one name, one after the other."""
     for serial in range(1, count + 1):
         replies.append(server.ask("POST", "/state/a", long_push(serial)))
 
 
 def test_no_long_block_is_asked_for_or_freed_under_the_lock():
-    # Who asks for a long block, or frees one, stands still until a change of another workspace is judged, which is refused and publishes nothing.
+    # A thread that requests or frees a long block is held until a change of another workspace is
+    # judged, which is refused and publishes nothing.
     (told, telling), (going_on, lets_go) = os.pipe(), os.pipe()
     given = {"LD_PRELOAD": preloaded("hold_blocks.c"), "LONG": "500000", "TOLD": str(telling), "GOES_ON": str(going_on)}
     server, replies, held = Server(workers=2, env=given, pass_fds=[telling, going_on]), [], 0

@@ -1,5 +1,6 @@
-"""Runs `tfstated serve` with up to 16 sessions that work at once: each change that is acknowledged is an entry of the journal, pushes
-of the same states are judged one after another, and answers to queries beside them never go back."""
+"""Runs `tfstated serve` with up to 16 concurrent sessions: each acknowledged change is an entry of
+the journal, pushes of the same states are judged one after another, and the answers to concurrent
+queries never go back."""
 import json
 import string
 import threading
@@ -19,7 +20,8 @@ LATER = b"TFJ2\n" + base_text(7, [(b"n0", b"", b"")])
 
 
 def unlock_often(connection, number):
-    """A hundred unlocks; those of 16 sessions are of all the 1,024 names. How many are accepted."""
+    """Makes 100 unlocks; the unlocks of 16 sessions are of all the 1,024 names. Returns how many
+    are accepted."""
     replies = [asked(connection, "UNLOCK", f"/state/n{(CHANGES * number + turn) % NAMES}") for turn in range(CHANGES)]
     return replies.count((200, b""))
 
@@ -37,7 +39,7 @@ def test_sessions_make_a_hundred_changes_each(old, base, count):
 
 
 def unlock_one(connection, _number):
-    """A hundred forced unlocks of one name. How many are accepted."""
+    """Makes 100 forced unlocks of one name. Returns how many are accepted."""
     return [asked(connection, "UNLOCK", "/state/a") for _ in range(CHANGES)].count((200, b""))
 
 
@@ -49,12 +51,13 @@ def test_four_sessions_change_one_name():
 
 
 def bare(serial):
-    """A state without resources."""
+    """Returns a state without resources."""
     return b'{"version":4,"serial":%d,"lineage":"L1"}' % serial
 
 
 def push_all(connection, number):
-    """A hundred pushes of rising serials. How many are accepted; the others have a serial that is too low by then."""
+    """Makes 100 pushes of rising serials. Returns how many are accepted; the others have a serial
+    that is too low by then."""
     replies = [asked(connection, "POST", "/state/a", bare(serial)) for serial in range(1, CHANGES + 1)]
     expect(set(replies) <= {(200, b""), (409, b'{"error":"SerialTooLow"}')}, True, f"session {number}")
     return replies.count((200, b""))
@@ -73,7 +76,7 @@ def test_sessions_push_the_same_states(count):
 
 
 def pair(serial):
-    """A state in which t.b depends on t.a, without blanks."""
+    """Returns a state in which t.b depends on t.a, without blanks."""
     def one(name, needs):
         return f'{{"mode":"managed","type":"t","name":"{name}","instances":[{{"dependencies":[{needs}]}}]}}'
 
@@ -82,7 +85,8 @@ def pair(serial):
 
 
 def impact(connection):
-    """The position and the serial of the answer to what a change of t.a reaches, which is t.b."""
+    """Returns the position and the serial of the answer to what a change of t.a reaches, which is
+    t.b."""
     status, text = asked(connection, "GET", "/impact/a/any?of=t.a")
     answer = json.loads(text)
     expect((status, answer["instances"]), (200, ["t.b"]))
@@ -90,7 +94,8 @@ def impact(connection):
 
 
 def push_or_ask(pushed):
-    """The first session pushes, and asks after each push; the other one asks a thousand times, and once more when all were pushed."""
+    """Returns the work of two sessions: the first one pushes, and queries after each push; the
+    other one makes 1,000 queries, and one more after all pushes."""
     def talk(connection, number):
         if number:
             told = [impact(connection) for _ in range(1000)]

@@ -1,6 +1,7 @@
-"""Refuses requests for memory of a server of one worker, by a preloaded shim: each request of a talk in turn, and all from each one on. What
-is refused is told so, or its connection ends, and it changes nothing. With ample memory a call of a table that is shared asks for it hardly
-more often than the same call of a table alone, however large the state is."""
+"""Refuses requests for memory of a server with one worker, by a preloaded shim: each request of a
+talk, one in each run, and all from each one on. A refused request gets that reply, or its
+connection ends, and it changes nothing. With ample memory, a call of a shared table requests memory
+hardly more often than the same call of a table alone, however large the state is."""
 import io
 import os
 from pathlib import Path
@@ -22,12 +23,14 @@ TALK = [("POST", "/state/a", S1), ("GET", "/state/a", b""), ("LOCK", "/state/a",
         ("GET", "/impact/a/any?of=t.a", b""), ("UNLOCK", "/state/a", B)]
 LONG_TALK = [("POST", "/state/a", chain(70)), QUERY, ("GET", "/state/a", b"")]
 KINDS = {"POST": "push", "LOCK": "lock", "UNLOCK": "unlock"}
-# A push of a shared table prepares the published change, and a list that grows asks again now and then.
+# A push of a shared table prepares the publication, and a list that grows requests memory again now
+# and then.
 MORE_OF_A_PUSH, MORE_IN_ALL = 5, 2
 
 
 def end_between_connections(server):
-    """Ends a server of one worker by shutting what it listens on. Memory may be refused to one connection before."""
+    """Ends a server with one worker by shutting its listening socket. Memory may be refused to one
+    connection before."""
     for _ in range(2):
         with server.connect() as held:
             reply = answer_over(held, ("GET", "/state/b"))
@@ -39,7 +42,8 @@ def end_between_connections(server):
 
 
 class Refusing(Server):
-    """A server of one worker, whose requests for memory from the first to the last are refused."""
+    """A server with one worker, whose requests for memory from the first to the last are
+    refused."""
 
     def __init__(self, first, last):
         reading, writing = os.pipe()
@@ -49,7 +53,7 @@ class Refusing(Server):
         self.counts = reading
 
     def requests(self):
-        """How many requests for memory it has made, once it was ended."""
+        """Ends the server. Returns how many requests for memory it has made."""
         expect(end_between_connections(self), (b"", 1, b"tfstated: AcceptFault\n"), "its end")
         with os.fdopen(self.counts) as counts:
             return int(counts.read().split()[0])
@@ -60,8 +64,9 @@ def changes_in(data):
 
 
 def talk_refused(talk, first, last):
-    """What the requests of a talk are answered, each on a connection of its own, where requests for memory from the first to the last are
-    refused. With it the changes that are in the journal, and how many requests the program made."""
+    """Returns the replies to the requests of a talk, each on a connection of its own, if requests
+    for memory from the first to the last are refused; also the changes in the journal, and how many
+    requests the program made."""
     server = Refusing(first, last)
     replies = [answer_of(server, request) for request in talk]
     requests = server.requests()
@@ -69,7 +74,8 @@ def talk_refused(talk, first, last):
 
 
 def told_without(talk, number):
-    """What a talk is told, and what the journal has, where the request of this number changes nothing."""
+    """Returns the replies to a talk, and the changes in the journal, if the request with this
+    number changes nothing."""
     table, replies = Table(), []
     for each, request in enumerate(talk):
         replies.append(None if each == number else reply_of(io.BytesIO(table.reply(Request(*request)))))
@@ -77,8 +83,9 @@ def told_without(talk, number):
 
 
 def allowed_talks(talk):
-    """What a talk may be told where one request for memory is refused: all; or a request is OutOfMemory or its connection ends,
-    and it has changed nothing; or it has done what it asks for, and only its reply is lost."""
+    """Yields the outcomes of a talk if one request for memory is refused: all replies; or a request
+    is OutOfMemory or its connection ends, and it has changed nothing; or it has succeeded, and only
+    its reply is lost."""
     whole, kinds = told_without(talk, None)
     yield whole, kinds
     for number in range(len(talk)):
@@ -89,7 +96,7 @@ def allowed_talks(talk):
 
 
 def requests_at_the_start():
-    """How many requests for memory are made before the first connection comes."""
+    """Returns how many requests for memory are made before the first connection."""
     with open("/dev/full", "wb", buffering=0) as full:
         return run_refused([PROGRAM, "serve", f"{LOOPBACK}:{free_port()}", "1", fresh()], 0, 0, stdout=full)[3]
 
@@ -129,8 +136,8 @@ def test_all_requests_from_each_one_on_are_refused(talk):
 
 
 def requests_of(state, request, times):
-    """How many requests for memory are made where a state is pushed and a request follows so many times on one connection: by a server, and
-    by a table alone."""
+    """Returns how many requests for memory are made if a state is pushed and a request follows this
+    many times on one connection: by a server, and by a table alone."""
     talk = [("POST", "/state/a", state)] + [request] * times
     server = Refusing(0, 0)
     with server.connect() as connection:

@@ -1,6 +1,7 @@
-"""Refuses the requests for memory of the program `tfs_probe`, which reads small states of each shape: each request in turn,
-and all from each one on. Each run writes what it writes with ample memory, or that memory ran out. Then texts of the shapes that take the
-most memory for their bytes: none takes more than 30 times its bytes and 64 KB."""
+"""Refuses the requests for memory of the program `tfs_probe`, which reads small states of each
+shape: each request, one in each run, and all from each one on. Each run writes what it writes with
+ample memory, or that memory ran out. Then reads texts of the shapes that take the most memory for
+their bytes: none takes more than 30 times its bytes and 64 KB."""
 from itertools import product
 from string import printable
 
@@ -15,7 +16,7 @@ pytestmark = pytest.mark.usefixtures("tfs_probe")
 PROGRAM = [TFS_PROBE, "state"]
 OF_THE_READER = b"Error: no memory to read the state\n"
 FAULTS = [b"", OF_THE_READER, b"Error: out of memory\n", b"Error: memory allocation failed\n"]
-# States, and how many instances they have.
+# States, and the number of instances of each.
 STATES = [(written(2, 0), 2), (written(3, 1), 3), (written(4, 2), 4), (written(5, 3), 5), (dependent(6, 0), 6), (dependent(7, 2), 7),
           (deep(1, 8, 8), 8), (deep(2, 8, 5), 10)]
 
@@ -43,9 +44,9 @@ def test_all_requests_from_each_one_on_are_refused():
 
 HEAD = b'{"version":4,"serial":1,"lineage":"L","resources":['
 RESOURCE = b'{"mode":"data","type":"t","name":"a","instances":['
-# Texts of one and two letters, none of them a bracket or an escape.
+# Texts of one and two letters, without brackets and escapes.
 TEXTS = [b'"%s"' % "".join(text).encode() for count in (1, 2) for text in product(sorted(set(printable[:94]) - set("\"\\[]")), repeat=count)]
-# Shapes: what a text begins with, what it lists, and what it ends with.
+# Shapes: the beginning of a text, the parts that it lists, and its end.
 SHAPES = {
     "instances": (HEAD + RESOURCE, [b"{}"], b"]}]}"),
     "an instance, and instances": (HEAD + RESOURCE + b"{}]}," + RESOURCE, [b"{}"], b"]}]}"),
@@ -67,14 +68,15 @@ SHAPES = {
 
 
 def listing(size, front, parts, back):
-    """A text of about so many bytes, which lists parts, over and over."""
+    """Returns a text of about this many bytes, which lists parts over and over."""
     count = size * len(parts) // len(b",".join(parts) + b",")
     return front + b",".join((parts * (count // len(parts) + 1))[:count]) + back
 
 
 @pytest.mark.parametrize("name", SHAPES)
 def test_no_text_takes_more_than_thirty_times_its_bytes_and_64_kb(name):
-    # A text in quotes has no values, so what another takes beyond it goes beyond the text, a copy, and the 16 KB of the reader.
+    # A text in quotes has no values, so the memory that another text takes beyond it exceeds the
+    # text, a copy, and the 16 KB of the reader.
     for size in (300, 1_000, 3_000, 6_000, 10_000, 12_500, 30_000, 64_000):
         text = listing(size, *SHAPES[name])
         more = most_of(PROGRAM, text) - most_of(PROGRAM, b'"%s"' % text.replace(b'"', b"'")[2:])

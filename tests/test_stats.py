@@ -1,5 +1,6 @@
-"""Runs `tfstatectl stats`: its numbers on folders by hand, ages, what it tells of damaged journals and of copies, and beside a server that writes.
-tests/test_versions.py compares it with a plain model on folders at random."""
+"""Runs `tfstatectl stats`: its numbers on folders by hand, ages, its reports of damaged journals
+and of copies, and its numbers while a server writes. tests/test_versions.py compares it with a
+plain model on random folders."""
 import json
 import os
 import subprocess
@@ -20,7 +21,7 @@ LOCK_AGE, COPY_AGE = "tfstated_oldest_lock_age_seconds", "tfstated_newest_copy_a
 
 
 def numbers(folder, *words):
-    """The numbers that are printed, by their names without what all have in front."""
+    """Returns the printed numbers, by their names without the common prefix."""
     return short(bytes_of("stats", folder, *words).decode())
 
 
@@ -37,7 +38,7 @@ def lock(name, created):
 
 
 def stamp(seconds, form="%Y-%m-%dT%H:%M:%SZ"):
-    """A time so many seconds ago."""
+    """Returns the time this many seconds ago."""
     return time.strftime(form, time.gmtime(time.time() - seconds))
 
 

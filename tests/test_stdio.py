@@ -1,5 +1,5 @@
-"""Drives the built program over pipes: `tfstated stdio` and its arguments. What it must write is written here by hand, or
-computed by the plain model of stdio_model.py."""
+"""Drives the built program over pipes: `tfstated stdio` and its arguments. The expected output is
+written here by hand, or computed by the plain model of stdio_model.py."""
 import json
 import os
 import subprocess
@@ -27,7 +27,7 @@ NO_STATE = (
     b"HTTP/1.1 404 Not Found\r\nContent-Type: application/json\r\nContent-Length: 19\r\n\r\n"
     b'{"error":"NoState"}'
 )
-# Some that are refused by framing, and some that aren't finished unless more bytes follow.
+# Messages that framing refuses, and some that aren't complete unless more bytes follow.
 BROKEN = [
     b"GET\r\n\r\n", b"\x00\n\n", b"GET /state/a HTTP/1.1\n\n", b"POST / HTTP/1.1\nHost: h\nContent-Length: x\n\n",
     b"POST / HTTP/1.1\nHost: h\nContent-Length: 9\n\n1", b"POST / HTTP/1.0\nTransfer-Encoding: chunked\n\n0\r\n\r\n",
@@ -37,28 +37,28 @@ MAX_BODY = 16777216
 
 
 def push(body, name="a"):
-    """A request that pushes a state."""
+    """Returns a request that pushes a state."""
     return f"POST /state/{name} HTTP/1.1\r\nHost: h\r\nContent-Length: {len(body)}\r\n\r\n".encode() + body
 
 
 def state(serial, lineage="L1"):
-    """A state's text."""
+    """Returns a state's text."""
     return f'{{"version":4,"serial":{serial},"lineage":"{lineage}"}}'.encode()
 
 
 def state_of_size(size):
-    """A valid state of so many bytes."""
+    """Returns a valid state of this many bytes."""
     start, end = b'{"version":4,"serial":1,"lineage":"L1","filler":"', b'"}'
     return start + b"x" * (size - len(start) - len(end)) + end
 
 
 def pieces_of(data, size):
-    """The bytes in pieces of so many."""
+    """Returns the bytes in pieces of this size."""
     return [data[at : at + size] for at in range(0, len(data), size)]
 
 
 def prefix_is(count):
-    """What the first so many bytes of the two requests give: the bytes written, and the status."""
+    """Returns the output for this many first bytes of the two requests, and the status."""
     written = 0 if count < 96 else 38 if count < 130 else 150
     return REPLIES[:written], CLEAN if count in (0, 96, 130) else CUT, b""
 
@@ -127,12 +127,12 @@ def test_states_that_are_none_are_refused():
 
 
 def with_resources(text, serial=1):
-    """A state's text with this list of resources."""
+    """Returns a state's text with this list of resources."""
     return f'{{"version":4,"serial":{serial},"lineage":"L1","resources":{text}}}'.encode()
 
 
 def resource(instances="[{}]", **members):
-    """A resource's text, with other members in the place of the usual ones."""
+    """Returns a resource's text, with other members instead of the usual ones."""
     usual = {"mode": "managed", "type": "t", "name": "n", **members}
     parts = [f"{json.dumps(name)}:{json.dumps(value)}" for name, value in usual.items()]
     return "{" + ",".join([*parts, f'"instances":{instances}']) + "}"
@@ -226,7 +226,7 @@ KEYS = ['{}', '{"index_key":3}', '{"index_key":"a"}', '{"dependencies":["t.n","a
 MODULES = ["", "module.m", "module.m[0]", "module.m[", "a]"]
 RESOURCES = [f"[{resource(f'[{keys}]', module=module)}]" for keys in KEYS for module in MODULES]
 RESOURCES += ["[]", "{}"] * 25 + [f"[{resource('null', mode=module)}]" for module in MODULES] * 5
-# What a state has in front of its lineage, at times resources; and what only looks like a state.
+# The members of a state before its lineage, sometimes resources; and invalid ones.
 MEMBERS = st.sampled_from([b'"lineage"'] * 125 + [f'"resources":{text},"lineage"'.encode() for text in RESOURCES])
 OTHER_STATES = [lambda text: text[:-1] + b"}", lambda text: text + b"x", lambda text: text.replace(b"4", b"4.0"),
                 lambda text: b"", lambda text: b"[]", lambda text: b"\xff"]
@@ -238,14 +238,14 @@ METHODS, ENDS = st.sampled_from([b"GET", b"GET", b"PUT", b"HEAD"]), st.sampled_f
 
 @st.composite
 def some_states(draw):
-    """A state's text, or what only looks like one."""
+    """Draws a state's text, or an invalid one."""
     text = state(draw(SERIALS), draw(LINEAGES)) + b" " * draw(SPACES)
     return draw(LOOKS)(text.replace(b'"lineage"', draw(MEMBERS)))
 
 
 @st.composite
 def messages(draw):
-    """A request as bytes; a rare one is refused by framing or isn't finished."""
+    """Draws a request as bytes; a rare one is refused by framing or isn't complete."""
     name = draw(NAMES)
     if draw(one_in(50)):
         return draw(st.sampled_from(BROKEN))
@@ -261,7 +261,7 @@ STREAMS = st.lists(messages(), min_size=1, max_size=40).map(b"".join)
 
 @st.composite
 def streams(draw):
-    """Requests, without their end perhaps, in pieces."""
+    """Draws requests, perhaps without their end, in pieces."""
     return draw(some_pieces(draw(without_end(draw(STREAMS))), 30))
 
 

@@ -1,6 +1,8 @@
-"""Counts and refuses the requests for memory of one push to a table, by a preloaded shim: those inside `Table::apply` are what the
-program makes beyond reading the push. Their number doesn't grow with the state. And those of tables that are made, opened and rebased:
-where one is refused, the sink was given no byte. What journals are opened as is worked out by hand."""
+"""Counts and refuses the requests for memory of one push to a table, by a preloaded shim: the
+requests inside `Table::apply` are those that the program makes in addition to reading the push.
+Their number doesn't grow with the state. Does the same for tables that are made, opened and
+rebased: if one of their requests is refused, the sink was given no byte. What journals open as is
+worked out by hand."""
 import pytest
 
 from checking import S1, S2, expect
@@ -12,8 +14,9 @@ from sample_states import chain
 pytestmark = pytest.mark.usefixtures("tfs_probe")
 DONE, REFUSED = b"done 1\n", b"refused OutOfMemory\n"
 
-# A journal of two entries, and what is told of each table that is made with ample memory: its position, and what its sink was given. Then the
-# most requests that each makes, those for the input with them.
+# A journal of two entries, and the output for each table that is made with ample memory: its
+# position, and what its sink was given. Then the limits of the requests that each makes, including
+# those for the input.
 PUSH, B = record_text(3, b"a", push_content(b"", S1)), b'{"ID":"B"}'
 FIRST = b"TFJ1\n" + PUSH + record_text(1, b"a", B)
 JOURNAL = FIRST.hex().encode()
@@ -23,13 +26,13 @@ UNMADE = b"NoMemory, 0 bytes\n"
 
 
 def ran(text, word, first=0, last=0):
-    """What the program wrote, its status, and the number of its requests."""
+    """Returns the program's output, its status, and the number of its requests."""
     output, status, _, requests, _ = run_refused([PROGRAM, "table", word], first, last, text)
     return output, status, requests
 
 
 def requests_of(text):
-    """The numbers of requests up to the change, and up to its end."""
+    """Returns the numbers of requests up to the change, and up to its end."""
     output, status, before = ran(text, "read")
     expect((output, status), (b"", 0), "the push is read")
     output, status, after = ran(text, "apply")
@@ -58,7 +61,7 @@ def test_all_requests_from_one_on_that_are_refused_end_in_one_line():
         expect((output, status), (REFUSED, 1), f"from request {number} on")
 
 
-# Journals by their lengths, how many of the bytes are opened, and what is told.
+# Journals by their lengths, with the number of opened bytes, and the output.
 JOURNALS = {
     "104": FIRST, "changed": FIRST[:20] + bytes([FIRST[20] ^ 1]) + FIRST[21:], "137": b"TFJ1\n" + record_text(3, b"a", push_content(b"", S2)) + PUSH,
     "130": b"TFJ2\n" + base_text(0, []) + FIRST[5:], "92": b"TFJ2\n" + base_text(2, [(b"a", B, S1)]),

@@ -1,5 +1,6 @@
-"""Runs `tfstatectl serve` in terms: many in a row under clients, terms that a file asks for, turns on full disks, kills inside turns, and
-Terraform. Nothing that was acknowledged may be missing, and clients that try again as Terraform does see no error."""
+"""Runs `tfstatectl serve` with compactions: many in a row under clients, requested ones,
+compactions on full disks, kills inside them, and Terraform. No acknowledged change may be missing,
+and clients that retry as Terraform does see no error."""
 import http.client
 import json
 import os
@@ -28,7 +29,8 @@ CHANGES = 500  # of each of 8 clients
 
 
 def expect_all(folder, pushers, about):
-    """Each acknowledged push is in the journals, in order; the one behind them may be there, once more for each try."""
+    """Checks that each acknowledged push is in the journals, in order; the one after them may be
+    there, once more for each try."""
     serials, _ = serials_of(folder)
     for pusher in pushers:
         expect(pusher.failures, [], about)
@@ -38,7 +40,7 @@ def expect_all(folder, pushers, about):
 
 
 def expect_served(server, pushers):
-    """A server has the last push of each name, or the one behind it."""
+    """Checks that a server has the last push of each name, or the one after it."""
     for pusher in pushers:
         if pusher.acknowledged:
             serial = json.loads(server.ask("GET", f"/state/{pusher.name}")[1])["serial"]
@@ -46,7 +48,8 @@ def expect_served(server, pushers):
 
 
 def work(server, pushers, count):
-    """Has each of some clients push so often, at the same time: the most tries that a push took."""
+    """Has each of some clients push this many times, concurrently. Returns the most tries of a
+    push."""
     tries = at_once(lambda pusher: max(pusher.push() for _ in range(count)), pushers)
     for pusher in pushers:
         pusher.connection.close()
@@ -91,7 +94,8 @@ def test_a_file_asks_for_a_turn():
 
 def test_a_term_that_ends_answers_what_has_begun_and_waits_for_nobody():
     folder, text = fresh(), request_text("GET", "/state/a")
-    # Of four workers one has a request that comes in two parts, one a client that is silent, and two no client.
+    # Of four workers one has a request that comes in two parts, one a client that is silent, and
+    # two no client.
     server = serving(folder, workers="4")
     address, began = (LOOPBACK, server.port), time.monotonic()
     with socket.create_connection(address, timeout=SECONDS) as begun, socket.create_connection(address, timeout=SECONDS) as silent:
@@ -99,7 +103,8 @@ def test_a_term_that_ends_answers_what_has_begun_and_waits_for_nobody():
         time.sleep(0.3)  # in which each has a worker
         (folder / "compact").touch()
         expect(silent.recv(1), b"", "who is silent is left")
-        # A file is looked for once a second; without a turn the client is left after two.
+        # The server looks for a file once a second; without a compaction the client is left after
+        # two.
         expect(time.monotonic() - began < 1.8, True, "before its time")
         time.sleep(0.3)
         expect(newest(folder), 1, "what has begun is waited for")
@@ -112,7 +117,8 @@ def test_a_term_that_ends_answers_what_has_begun_and_waits_for_nobody():
 
 
 def grows(folder, size, *words, seconds):
-    """Whether a push of so many bytes has the server continue in another journal within a time."""
+    """Returns true if a push of this many bytes has the server continue in another journal within a
+    time."""
     server, before = serving(folder, *words), newest(folder)
     expect(Pusher(server, "a", b"x" * size).push(), 1)
     end = time.monotonic() + seconds
@@ -143,13 +149,14 @@ def test_wrong_bounds(words):
 
 
 def limit(server, size):
-    """Lets the files of a running server grow to a size, or without end."""
+    """Limits the size of the files of a running server, or removes the limit."""
     _, most = resource.prlimit(server.process.pid, resource.RLIMIT_FSIZE)
     resource.prlimit(server.process.pid, resource.RLIMIT_FSIZE, (most if size is None else size, most))
 
 
 def failed_turn(*words):
-    """A server whose first turn fails, since its files can't grow, and goes on, and its client."""
+    """Returns a server whose first compaction failed, because its files can't grow, and that
+    continues, and its client."""
     def ignore():
         signal.signal(signal.SIGXFSZ, signal.SIG_IGN)
     folder = fresh()
@@ -169,7 +176,8 @@ def failed_turn(*words):
 
 @pytest.fixture(scope="module", autouse=True)
 def failed(tfstatectl):
-    """A server whose turn failed before the first test began, which takes its minute meanwhile."""
+    """Yields a server whose compaction failed before the first test began; its minute passes
+    meanwhile."""
     made = failed_turn()
     STARTED.clear()
     yield made
@@ -209,7 +217,8 @@ def test_a_journal_that_fails_in_a_later_term_ends_the_server():
 
 
 def killed_at(turn):
-    """Kills a server before the call whose turn it is, while a client pushes; the next start has all that was acknowledged."""
+    """Kills a server before the call with this number, while a client pushes, and checks that the
+    next start has all that was acknowledged. Returns the number of retired journals."""
     folder = fresh()
     how = {"env": {**os.environ, "LD_PRELOAD": SHIM, "TURN": str(turn)}}
     server = serving(folder, "--compact-entries", "3", **how)
@@ -232,7 +241,8 @@ def test_a_kill_at_each_call_of_turns_loses_nothing():
 
 
 def kill_once(folder, chance, pushers):
-    """Kills a server at a random moment while clients push, in terms of a few changes."""
+    """Kills a server at a random moment while clients push, with a compaction after every few
+    changes."""
     server = serving(folder, "--compact-entries", str(chance.randrange(5, 60)), workers="4")
     for pusher in pushers:
         pusher.server, pusher.connection = server, http.client.HTTPConnection(LOOPBACK, server.port, timeout=SECONDS)
@@ -251,7 +261,7 @@ def kill_once(folder, chance, pushers):
 
 
 def kill_often(turns, seed):
-    """Kills a server so often, and checks each time that nothing acknowledged is lost."""
+    """Kills a server this many times, and checks each time that nothing acknowledged is lost."""
     folder, chance = fresh(), random.Random(seed)
     pushers = [Pusher(Nowhere, f"n{k}") for k in range(3)]
     for _ in range(turns):
@@ -260,7 +270,7 @@ def kill_often(turns, seed):
 
 
 class Nowhere:
-    """The server of a client that has none yet."""
+    """The server of a client that doesn't have one yet."""
 
     port = 1
 
@@ -281,7 +291,7 @@ resource "terraform_data" "a" {{ input = "{value}" }}
 
 
 def terraform(folder, *words):
-    """Runs Terraform, which is to end well."""
+    """Runs Terraform, which must succeed."""
     variables = {"CHECKPOINT_DISABLE": "1", "TF_IN_AUTOMATION": "1", "HOME": str(folder), "TF_CLI_CONFIG_FILE": "/dev/null"}
     ran = subprocess.run(["terraform", *words, "-no-color"], cwd=folder, env={**os.environ, **variables}, stdin=subprocess.DEVNULL,
                          capture_output=True, timeout=60, check=False)

@@ -1,5 +1,6 @@
-"""Runs `tfstatectl serve --listen unix:PATH` and talks to it over the socket: its mode and its group, each request, a socket that an ended server has
-left, one that is in use, paths that are refused, and who may connect. SIGTERM, compactions and restarts keep it."""
+"""Runs `tfstatectl serve --listen unix:PATH` and talks to it over the socket: its mode and its
+group, each request, a socket that an ended server has left, one that is in use, paths that are
+refused, and who may connect. SIGTERM, compactions and restarts keep it."""
 import contextlib
 import errno
 import os
@@ -26,12 +27,12 @@ def path_in(folder):
 
 
 def serving(folder, path=None, **how):
-    """A server on a folder that listens at a socket."""
+    """Returns a server on a folder that listens on a socket."""
     return Serving(folder, path=path or path_in(fresh()), **how).listens()
 
 
 def look(path):
-    """Whether a path is a socket, its permissions, and the number of its file."""
+    """Returns whether a path is a socket, its permissions, and the number of its file."""
     found = path.lstat()
     return stat.S_ISSOCK(found.st_mode), stat.S_IMODE(found.st_mode), found.st_ino
 
@@ -41,7 +42,7 @@ def expect_socket(path):
 
 
 def refused(path, status, fault, folder=None, **how):
-    """A start that ends with a fault, and leaves the folder as it is."""
+    """Makes a start that must end with a fault, and leave the folder as it is."""
     folder = folder or fresh(n1=SHORT)
     before = all_of(folder)
     found, output, errors = ended(folder, "--listen", f"unix:{path}", **how)
@@ -50,7 +51,7 @@ def refused(path, status, fault, folder=None, **how):
 
 
 def listening_at(path):
-    """A socket at which another program listens."""
+    """Returns a socket on which another program listens."""
     other = socket.socket(socket.AF_UNIX)
     other.bind(str(path))
     other.listen()
@@ -70,7 +71,8 @@ def test_the_socket_has_its_mode_before_anybody_can_connect(mask):
 
 
 def requests_of(name, position):
-    """Requests of each kind for a workspace, with their replies; the first change gets this position."""
+    """Returns requests of each kind for a workspace, with their replies; the first change gets this
+    position."""
     target, instance = f"/state/{name}", b'{"mode":"managed","type":"t","name":"a","instances":[{}]}'
     text = S1[:-1] + b',"resources":[' + instance + b"]}"
     answer = b'{"instances":[],"position":%d,"serial":1}' % (position + 1)
@@ -190,7 +192,8 @@ def test_paths_that_are_too_long_or_empty_are_refused():
 
 
 def connect_as_another(path, groups):
-    """Becomes another user who is in these groups, and connects: 0, or the number of the error."""
+    """Becomes another user who is in these groups, and connects. Returns 0, or the number of the
+    error."""
     os.setgroups(groups)
     os.setgid(NOBODY)
     os.setuid(NOBODY)
@@ -199,7 +202,7 @@ def connect_as_another(path, groups):
 
 
 def connects(path, *groups):
-    """Whether another user who is in these groups may connect."""
+    """Returns true if another user who is in these groups may connect."""
     child = os.fork()
     if child == 0:
         os._exit(connect_as_another(path, groups))

@@ -1,5 +1,5 @@
-"""Drives the built program over pipes: what a workspace answers to acts, one after another, and which texts are names. All is worked out by
-hand."""
+"""Drives the built program over pipes: the answers of a workspace to acts, one after another, and
+which texts are names. All is worked out by hand."""
 import pytest
 
 from checking import S1, S2

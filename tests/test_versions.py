@@ -1,5 +1,5 @@
-"""Runs the commands of `tfstatectl` that read a folder: on small folders by hand, and on folders at random, beside servers that write, against a
-plain model. Nothing of a folder is changed."""
+"""Runs the commands of `tfstatectl` that read a folder: on small folders by hand, and on random
+folders, while servers write, against a plain model. Nothing in a folder is changed."""
 import json
 import os
 import shutil
@@ -40,7 +40,7 @@ def test_a_history_has_each_act_once_in_order():
 
 
 def limit_memory():
-    """Limits the address space of a program in front of it."""
+    """Limits the address space of a program before it starts."""
     setrlimit(RLIMIT_AS, (MEMORY, MEMORY))
 
 
@@ -166,7 +166,7 @@ def test_a_restored_state_is_taken_by_a_push():
 
 @pytest.fixture(name="folder", scope="module")
 def folder_with_a_graph(tfstatectl):
-    """A folder whose workspace `a` has the state of `graph`."""
+    """Returns a folder whose workspace `a` has the state of `graph`."""
     return fresh(n1=b"TFJ1\n" + record_text(3, b"a", push_content(b"", graph()[0])))
 
 
@@ -191,7 +191,7 @@ def test_an_impact_that_is_refused(folder):
 
 
 class Project:
-    """A configuration whose state is kept by a server, and Terraform in its folder."""
+    """A configuration whose state is on a server, and Terraform in its folder."""
 
     def __init__(self, port):
         self.folder = fresh()
@@ -200,7 +200,7 @@ class Project:
                                                 f'    unlock_address = "{address}"\n    retry_max = 0\n  }}\n}}\n')
 
     def run(self, script):
-        """What a script of the page prints, which is to end well."""
+        """Returns what a script of the page prints. The script must succeed."""
         tool = self.folder / "bin"
         tool.mkdir(exist_ok=True)
         if not (tool / "tfstatectl").exists():
@@ -247,7 +247,7 @@ def test_closed_output_is_told():
 
 
 def outcome(work):
-    """What the model says: what is printed, or a fault and the number of its journal."""
+    """Returns what the model gives: the output, or a fault and the number of its journal."""
     try:
         return work(), None
     except Fault as fault:
@@ -255,17 +255,17 @@ def outcome(work):
 
 
 def read_by(command):
-    """What reads the output of a command."""
+    """Returns the function that reads the output of a command."""
     return {"show": bytes, "restore": bytes, "stats": counted}.get(command, lambda output: as_json(json.loads(output)))
 
 
 def counted(output):
-    """The numbers of `stats`, but for ages."""
+    """Returns the numbers of `stats`, except for ages."""
     return {name: value for name, (value, _) in read_metrics(output.decode()).items() if "_age_" not in name}
 
 
 def compare(about, folder, words, wanted, fault):
-    """A command prints what the model says, and ends as it says."""
+    """Checks that a command prints what the model says, and ends as it says."""
     ran = subprocess.run([FOLDER_PROGRAM, words[0], folder, *words[1:]], stdin=subprocess.DEVNULL, capture_output=True, timeout=SECONDS, check=False)
     printed = read_by(words[0])(ran.stdout) if ran.stdout else b""
     expect(printed, wanted if wanted is not None else b"", f"{about} {words}: {ran.stderr}")
@@ -283,7 +283,8 @@ POSITIONS = st.lists(st.sampled_from([*range(12), 2**62 - 1, 2**62, 2**64 - 1]),
 
 @st.composite
 def cases(draw):
-    """The files of a folder, some of whose first journals were put away, and for each name the positions that are asked for."""
+    """Draws the files of a folder, some of whose first journals were retired, and the requested
+    positions for each name."""
     files = draw(FOLDERS)
     names = sorted(files)
     away = names[: draw(up_to(len(names)))] if draw(ARE_AWAY) else []
@@ -292,7 +293,7 @@ def cases(draw):
 
 
 def folder_of(files, away):
-    """A folder of these files, some of which were put away."""
+    """Returns a folder of these files, with some of them in `old/`."""
     folder = fresh()
     (folder / "old").mkdir()
     for below, content in ((folder, files), (folder / "old", away)):
@@ -302,12 +303,13 @@ def folder_of(files, away):
 
 
 def numbered(files):
-    """The journals among files, by their numbers."""
+    """Returns the journals among files, by their numbers."""
     return {number_of(name): data for name, data in files.items() if number_of(name) is not None}
 
 
 def expect_as_the_model(case):
-    """The commands on a folder tell what the model says: which ends were met."""
+    """Checks that the commands on a folder report what the model says. Returns the ends that
+    occurred."""
     files, away, asked = case
     folder, about, here = folder_of(files, away), f"folder {files} {away}", numbered(files)
     whole = {**numbered(away), **here}

@@ -1,6 +1,6 @@
-"""Runs the benchmarks of bench/: those that are named, and prints what they find; or all of
-them, and prints the page docs/PERFORMANCE.md with their figures, and what they find on standard
-error. Each folder with a script `run` is one."""
+"""Runs the benchmarks of bench/: the named ones, and prints what they find; or all of them, and
+prints the page docs/PERFORMANCE.md with their figures, and what they find on standard error. Each
+folder with a script `run` is one."""
 import os
 import subprocess
 import sys
@@ -30,7 +30,7 @@ ORDER = (
 
 
 def where():
-    """Returns what is measured on: the number of processors and their name."""
+    """Returns what the measurements run on: the number of processors and their name."""
     with open("/proc/cpuinfo", encoding="utf-8") as file:
         names = [line.partition(":")[2].strip() for line in file if line.startswith("model name")]
     return f"{os.cpu_count()} cores, {names[0] if names else 'an unknown processor'}"

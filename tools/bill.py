@@ -1,7 +1,7 @@
-"""Makes the bill of materials of a release, in CycloneDX 1.5: each crate of crates.txt, the
-kit's libraries by deploy/libraries.txt, and the C library. Crates that no program of the package
-is built of, and libraries that only those use, have the scope `excluded`. The same programs,
-lists and time make the same text."""
+"""Makes the bill of materials of a release, in CycloneDX 1.5: each crate of crates.txt, the kit's
+libraries by deploy/libraries.txt, and the C library. Crates that no program of the package is built
+from, and libraries that only those use, have the scope `excluded`. The same programs, lists and
+time make the same text."""
 import datetime
 import hashlib
 import json
@@ -32,14 +32,14 @@ def libraries():
 
 
 def uses_of(name, own, kit):
-    """Returns what a crate or library is built of. Each crate uses the library `std`."""
+    """Returns what a crate or library is built from. Each crate uses the library `std`."""
     if name in own:
         return [*own[name], "std"]
     return kit[name][2] or [SYSTEM]
 
 
 def reached(names, own, kit):
-    """Returns the names and all that these are built of."""
+    """Returns the names and all that they are built from."""
     found, left = set(), list(names)
     while left:
         name = left.pop()
@@ -95,7 +95,7 @@ def components(version, programs, libc):
 
 
 def dependencies(version, own, kit):
-    """Returns what each component is built of, the package first."""
+    """Returns what each component is built from, the package first."""
 
     def listed(name, uses):
         refs = sorted({reference(use, own, version) for use in uses})
@@ -121,7 +121,7 @@ def bill(version, programs, libc, when):
     found = {"$schema": SCHEMA, "bomFormat": "CycloneDX", "specVersion": "1.5", "version": 1}
     found["metadata"] = {"timestamp": f"{moment:%Y-%m-%dT%H:%M:%SZ}", "component": package}
     found |= {"components": parts, "dependencies": dependencies(version, own, kit)}
-    # The number follows from the content, so that the same content has the same one.
+    # The number follows from the content, so the same content has the same number.
     number = uuid.uuid5(uuid.NAMESPACE_URL, json.dumps(found, sort_keys=True))
     found["serialNumber"] = f"urn:uuid:{number}"
     return json.dumps(found, indent=2, sort_keys=True) + "\n"

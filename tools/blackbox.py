@@ -1,4 +1,4 @@
-"""Runs the black-box tests: all of them, or those of the named files (`locks` for
+"""Runs the black-box tests: all of them, or the tests of the named files (`locks` for
 tests/test_locks.py). The last line is `N passed, M failed`."""
 import sys
 

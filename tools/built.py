@@ -11,7 +11,7 @@ program."""
 
 
 def is_current(path):
-    """Whether a program was built after the last change of what it is built from."""
+    """Returns true if a program was built after the last change of what it is built from."""
     if not path.is_file():
         return False
     built = path.stat().st_mtime
@@ -33,9 +33,9 @@ def build(name):
 
 
 def program(name):
-    """The path of a program. The variable of its name in capitals, as TFSTATED, names another
-    build. `rt ci` leaves it built. If it is missing or older than its sources, it is built now; a
-    notice says so before."""
+    """Returns the path of a program. The variable of its name in capitals, such as TFSTATED, names
+    another build. `rt ci` leaves it built. If it is missing or older than its sources, it is built
+    now, after a notice."""
     if name.upper() in os.environ:
         return os.environ[name.upper()]
     path = TOP / "crates" / name / "out" / name

@@ -1,8 +1,8 @@
 """Runs the black-box tests: pytest in a process of its own for each file `tests/test_*.py`.
 
-What counts are the tests that pytest collects. A test failed unless its report says that it passed:
-it may be missing from the report, or it was skipped and CONTRIBUTING.md doesn't name it as one that
-may be. The reports are in out/junit/, in the format of JUnit."""
+The tests that pytest collects count. A test failed unless its report says that it passed: it may be
+missing from the report, or it was skipped and CONTRIBUTING.md doesn't name it as one that may be.
+The reports are in out/junit/, in the format of JUnit."""
 import collections
 import re
 import subprocess
@@ -13,24 +13,25 @@ from repository import TOP
 
 REPORTS = TOP / "out" / "junit"
 BAD = {"failure", "error", "skipped"}
-# The files that take longest, since their tests wait for time to go by.
+# The files that take longest, because their tests wait for time to pass.
 LONGEST = ("test_limits", "test_terms", "test_serve", "test_kills")
 
 
 def files():
-    """The files of tests, the longest ones first."""
+    """Returns the files of tests, the longest ones first."""
     def place(path):
         return path.stem not in LONGEST, path.stem
     return sorted((TOP / "tests").glob("test_*.py"), key=place)
 
 
 def pytest(*words):
-    """The words that run pytest."""
+    """Returns the words that run pytest."""
     return [python_with_pytest(), "-m", "pytest", "--quiet", "--no-header", *words]
 
 
 def collected():
-    """The names of the tests of each file, by its name; none of a file that can't be collected."""
+    """Returns the names of the tests of each file, by its name; none of a file that can't be
+    collected."""
     command = pytest("--collect-only", "--continue-on-collection-errors", "tests")
     how = {"cwd": TOP, "stdin": subprocess.DEVNULL, "stdout": subprocess.PIPE, "text": True}
     ran = subprocess.run(command, check=False, **how)
@@ -43,19 +44,19 @@ def collected():
 
 
 def may_be_skipped():
-    """The names of the tests that CONTRIBUTING.md allows to be skipped."""
+    """Returns the names of the tests that CONTRIBUTING.md allows to be skipped."""
     page = (TOP / "CONTRIBUTING.md").read_text(encoding="utf-8")
     section = page.partition("\n### Skipped tests\n")[2].partition("\n#")[0]
     return set(re.findall(r"`(test_[^`]+)`", section))
 
 
 def report_of(path):
-    """The path of a file's report."""
+    """Returns the path of a file's report."""
     return REPORTS / f"{path.stem}.xml"
 
 
 def ends_of(report):
-    """What a report has against each of its tests, by the test's name."""
+    """Returns the failures and skips in a report by the test's name."""
     ends = {}
     if report.is_file():
         for case in ElementTree.parse(report).iter("testcase"):
@@ -65,7 +66,7 @@ def ends_of(report):
 
 
 def end_of(name, ends, skipped):
-    """Whether a test passed, failed, or was skipped as it may be; and why."""
+    """Returns whether a test passed, failed, or was skipped as it may be; and why."""
     if name not in ends:
         return "failed", "it isn't in the report"
     tags = {part.tag for part in ends[name]}
@@ -78,7 +79,8 @@ def end_of(name, ends, skipped):
 
 
 def count_of(path, names):
-    """What counts the tests of a file once pytest has ended, (passed, failed)."""
+    """Returns a function that counts the tests of a file once pytest has ended, (passed,
+    failed)."""
     def count(_last, status, hear):
         ends, skipped, counted = ends_of(report_of(path)), may_be_skipped(), collections.Counter()
         for name in names:
@@ -94,7 +96,7 @@ def count_of(path, names):
 
 
 def jobs(chosen):
-    """For each file the command that runs it, and what counts its tests."""
+    """Yields for each file the command that runs it, and the function that counts its tests."""
     names = collected()
     REPORTS.mkdir(parents=True, exist_ok=True)
     for path in chosen:

@@ -1,5 +1,6 @@
-"""Runs the tests of deploy/: those of its pages and of the package, of nginx, which has to be installed, of its users, of each command of its pages, and
-of Terraform, if it is installed; or those that are named (`page` for tests/deploy/deploy_page.py). The last line is `N passed, M failed`."""
+"""Runs the tests of deploy/: of its pages and of the package, of nginx, which must be installed, of
+its users, of each command of its pages, and of Terraform, if it is installed; or the named ones
+(`page` for tests/deploy/deploy_page.py). The last line is `N passed, M failed`."""
 import shutil
 import sys
 

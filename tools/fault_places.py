@@ -1,9 +1,11 @@
-"""Where src/ makes a fault of memory, of a source, of a sink, of a sync, of a connection or of a copy as a value, and where a file is emptied
-or made twice over.
+"""Finds where src/ makes a fault of memory, of a source, of a sink, of a sync, of a connection or
+of a copy as a value, and where a file is emptied or made twice over.
 
-A contract can't tell a refused request for memory, or a read that failed, from one that was never made. So each place that makes such a
-fault stands in tools/fault_places.txt with what it passes on, and any other place is listed here. tools/room_requests.py looks at the
-requests themselves. `set_len`, `File::create(` and `try_clone` stand nowhere in src/, since no contract says what they do to a file."""
+A contract can't distinguish a refused request for memory, or a failed read, from one that was never
+made. So tools/fault_places.txt lists each place that makes such a fault with what it passes on, and
+any other place is reported here. tools/room_requests.py checks the requests themselves. `set_len`,
+`File::create(` and `try_clone` occur nowhere in src/, because no contract says what they do to a
+file."""
 import re
 
 from repository import TOP
@@ -20,14 +22,15 @@ LEFT_OUT = ("tfs_tests", "tfs_bench", "tfs_probe")
 
 
 def sources():
-    """The files of src/ that the programs are built of."""
+    """Yields the files of src/ that the programs are built from."""
     for crate in sorted((TOP / "crates").iterdir()):
         if not crate.name.startswith(LEFT_OUT):
             yield from (path for path in sorted((crate / "src").rglob("*.rt")) if "tests" not in path.relative_to(crate).as_posix())
 
 
 def code_lines(text):
-    """Lines of code with the function that they stand in; comments, contracts and imports are left out."""
+    """Yields lines of code with the function that they are in, without comments, contracts and
+    imports."""
     function, ghost = "", False
     for line in text.split("\n"):
         found = FUNCTION.match(line)
@@ -43,7 +46,7 @@ def code_lines(text):
 
 
 def fault_places():
-    """How often each function makes each fault, by (file, function, fault)."""
+    """Returns how often each function makes each fault, by (file, function, fault)."""
     found = {}
     for path in sources():
         name = path.relative_to(TOP / "crates").as_posix()
@@ -55,7 +58,8 @@ def fault_places():
 
 
 def listed_places():
-    """The same as the list has it; each row is `FILE FUNCTION FAULT COUNT: what is passed on`."""
+    """Returns the same as the list has it; each row is `FILE FUNCTION FAULT COUNT: what is passed
+    on`."""
     rows = {}
     for line in PLACES.read_text(encoding="utf-8").split("\n"):
         if line and not line.startswith("#"):
@@ -66,7 +70,7 @@ def listed_places():
 
 
 def wrong_calls():
-    """Calls in src/ that empty a file or make one twice over."""
+    """Yields calls in src/ that empty a file or make one twice over."""
     for path in sources():
         for function, line in code_lines(path.read_text(encoding="utf-8")):
             if CALLS.search(line):
@@ -74,7 +78,7 @@ def wrong_calls():
 
 
 def unlisted():
-    """What is wrong with the places: a line each."""
+    """Yields what is wrong with the places, a line each."""
     found, listed = fault_places(), listed_places()
     for key in sorted(set(found) | set(listed)):
         if found.get(key, 0) != listed.get(key, 0):

@@ -1,10 +1,10 @@
 """Runs everything that is tested: the lint, then the proof gate `rt ci`, then the black-box tests
 of the built programs, two files at once.
 
-Each line has the time since the start before it; lines that only say that all is well with one
-function are left out. out/gate.log has all of them, out/gate-times.json what each part took, and
-out/junit/ a report of each file of tests. What failed is shown once more at the end. The last line
-is `N passed, M failed`, over all. The exit status is 1 if anything failed."""
+Each line has the time since the start before it; lines that report no fault, as a proved function
+or a passed test, are left out. out/gate.log has all of them, out/gate-times.json the time of each
+part, and out/junit/ a report of each file of tests. Failures are shown once more at the end. The
+last line is `N passed, M failed`, over all. The exit status is 1 if anything failed."""
 import datetime
 import json
 import os
@@ -29,13 +29,13 @@ AT_ONCE = 2  # the files of tests that run at once
 
 
 def processor_time():
-    """The seconds of processor time of all commands that have ended."""
+    """Returns the seconds of processor time of all commands that have ended."""
     used = resource.getrusage(resource.RUSAGE_CHILDREN)
     return used.ru_utime + used.ru_stime
 
 
 def kit():
-    """The line of the toolchain."""
+    """Returns the line of the toolchain."""
     try:
         ran = subprocess.run(["rt", "version"], stdout=subprocess.PIPE, text=True, check=False)
         return ran.stdout.strip()
@@ -44,7 +44,7 @@ def kit():
 
 
 def name_of(command):
-    """The name of a step: of a script or a file of tests its path."""
+    """Returns the name of a step: for a script or a file of tests its path."""
     return " ".join(command) if command == PROOFS else command[-1]
 
 
@@ -61,7 +61,7 @@ def write_times(screen, watch, steps, passed, failed):
 
 
 def has_programs(screen):
-    """Finds the programs for all tests, if each can be built."""
+    """Finds the programs for all tests. Returns false if one can't be built."""
     try:
         os.environ.update({name.upper(): program(name) for name in PROGRAMS})
     except SystemExit as why:
@@ -71,13 +71,14 @@ def has_programs(screen):
 
 
 def run_tests(screen, are_proved):
-    """Runs the black-box tests: one file at once if a program is missing, which both would build."""
+    """Runs the black-box tests: one file after the other if a program is missing, which two
+    files would both build."""
     at_once = AT_ONCE if are_proved and has_programs(screen) else 1
     return list(run_at_once(list(jobs(files())), screen, at_once))
 
 
 def finish(screen, passed, failed):
-    """Shows what failed once more, and the count over all as the last line."""
+    """Shows the failures once more, and the count over all as the last line. Returns the status."""
     for line in screen.wrong[:AGAIN]:
         screen.show(f"again: {line}")
     line = f"{passed} passed, {failed} failed"

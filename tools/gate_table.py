@@ -1,4 +1,5 @@
-"""Prints what the last `make test` took, as out/gate-times.json tells it: by crates, the one that takes most first, and by commands."""
+"""Prints the time of the last `make test`, from out/gate-times.json: by crates, the slowest one
+first, and by commands."""
 import json
 import sys
 
@@ -12,7 +13,7 @@ def row(name, *cells):
 
 
 def pair(times):
-    """Wall and processor time, in seconds."""
+    """Returns wall and processor time, in seconds."""
     return f"{times['wall']:.0f} / {times['processor']:.0f}" if times["processor"] else ""
 
 
@@ -32,7 +33,8 @@ def print_crates(crates):
 
 
 def print_steps(told):
-    """A line for each command of the gate, and one for what `rt ci` took beside the parts of its crates."""
+    """Prints a line for each command of the gate, and one for the time of `rt ci` outside the parts
+    of its crates."""
     row("Command", "wall / processor, s")
     for name, times in told["steps"].items():
         row(name, pair(times) or f"{times['wall']:.0f} / 0")

@@ -1,8 +1,10 @@
-"""Measures what the parts of `rt ci` cost, by looking at its processes four times a second (Linux, /proc).
+"""Measures what the parts of `rt ci` cost, by looking at its processes four times a second (Linux,
+/proc).
 
-A part is the proof, the tests or the edits of one crate. A process is told by its folder and its words: a check in the
-crate's own folder is its proof, or its tests where it has the word `--test`; a check of the crate elsewhere is that of an
-edit, which is tried on a copy; what runs as `bin/NAME` are the tests and the program."""
+A part is the proof, the tests or the edits of one crate. The folder and the words of a process
+identify its part: a check in the crate's own folder is its proof, or its tests if it has the word
+`--test`; a check of the crate elsewhere belongs to an edit, which is tried on a copy; processes
+that run as `bin/NAME` are the tests and the program."""
 import collections
 import os
 import re
@@ -18,12 +20,13 @@ PARTS = ("proof", "tests", "edits")
 PROVED = re.compile(r"rt: (\w+) proved")
 RUN = re.compile(r"/rt-run-[^/]*/bin/(\w+)")
 
-# A process: when it began, its parent, and the seconds of processor time of it and of the children that it has waited for.
+# A process: when it began, its parent, and the seconds of processor time of it and of the children
+# that it has waited for.
 Process = collections.namedtuple("Process", "began parent processor")
 
 
 def processes():
-    """Every process, by its number."""
+    """Returns every process, by its number."""
     ticks, found = os.sysconf("SC_CLK_TCK"), {}
     for name in filter(str.isdigit, os.listdir("/proc")):
         try:
@@ -36,7 +39,7 @@ def processes():
 
 
 def memory_of(number):
-    """The bytes of memory that a process has and no file holds."""
+    """Returns the bytes of memory of a process that no file holds."""
     try:
         with open(f"/proc/{number}/statm", "rb") as file:
             _, resident, shared, *_ = map(int, file.read().split())
@@ -46,7 +49,7 @@ def memory_of(number):
 
 
 def family_of(top, children):
-    """A process and all that stand below it."""
+    """Returns a process and all below it."""
     family = [top]
     for number in family:
         family += children[number]
@@ -54,7 +57,7 @@ def family_of(top, children):
 
 
 def words_of(number):
-    """The words and the folder of a process, as far as they can be read."""
+    """Returns the words and the folder of a process, as far as they can be read."""
     words, folder = [], ""
     try:
         with open(f"/proc/{number}/cmdline", "rb") as file:
@@ -66,8 +69,8 @@ def words_of(number):
 
 
 def part_of(words, folder, crates):
-    """The crate and the part that a process works for, where `crates` has the folder of each crate; None where they can't
-    be told."""
+    """Returns the crate and the part that a process works for, if `crates` has the folder of each
+    crate; None if they aren't known."""
     for program in filter(None, map(RUN.fullmatch, words)):
         for name in crates:
             if program.group(1) in (name, f"{name}_tests"):
@@ -83,7 +86,7 @@ def part_of(words, folder, crates):
 
 
 class Watch:
-    """Looks at the processes below one process until it is ended, and sums up what each part takes."""
+    """Looks at the processes below one process until it ends, and sums up what each part takes."""
 
     def __init__(self, screen):
         self.screen = screen
@@ -111,7 +114,7 @@ class Watch:
         self.screen.hear(line)
 
     def look_on(self):
-        """Looks until the end, and says once a minute how far `rt ci` is."""
+        """Looks until the end, and prints once a minute how far `rt ci` is."""
         told = time.monotonic()
         while not self.ended.wait(EVERY):
             self.look()
@@ -120,7 +123,7 @@ class Watch:
                 self.screen.show(self.how_far())
 
     def look(self):
-        """Looks once. A process that the root started counts with all that stand below it."""
+        """Looks once. A process that the root started counts with all below it."""
         found, children = processes(), collections.defaultdict(list)
         for number, process in found.items():
             children[process.parent].append(number)
@@ -141,7 +144,8 @@ class Watch:
         self.last, self.at_work, self.memory = now, at_work, max(memory, self.memory)
 
     def tried(self, name):
-        """How many of a crate's edits have been begun. One more check than edits comes last, that of the crate as it is."""
+        """Returns how many of a crate's edits have begun. One more check than edits comes last, for
+        the crate itself."""
         return min(list(self.parts.values()).count((name, "edits")), self.edits[name])
 
     def how_far(self):
@@ -150,7 +154,8 @@ class Watch:
         return f"proved {len(self.proved)} of {len(self.crates)} crates, edits begun {tried} of {of_all}; now: {', '.join(now)}"
 
     def times(self):
-        """The number of edits of each crate, and the seconds of wall time and of processor time of each of its parts."""
+        """Returns the number of edits of each crate, and the seconds of wall time and of processor
+        time of each of its parts."""
         told = {name: {"count": self.edits[name]} for name in self.crates}
         for name, part in ((name, part) for name in self.crates for part in PARTS):
             processor = sum(self.processor[key] for key, it in self.parts.items() if it == (name, part))

@@ -1,6 +1,6 @@
-"""Reads all Python and shell files of the repository for faults, without running them, and looks
-where the library's code makes faults of memory and of sinks and requests room. The last line is
-`N passed, M failed`, of four: Python, shell, those places, and those requests."""
+"""Checks all Python and shell files of the repository, without running them, and where the
+library's code makes faults of memory and of sinks and requests room. The last line is `N passed, M
+failed`, out of four: Python, shell, those places, and those requests."""
 import os
 import shutil
 import subprocess
@@ -21,7 +21,7 @@ def first_line(path):
 
 
 def language(path):
-    """The language of a file, by its ending, or where it has none by its first line."""
+    """Returns the language of a file, by its extension, or by its first line if it has none."""
     if path.suffix in (".py", ".sh"):
         return path.suffix
     line = first_line(path) if not path.suffix else ""
@@ -31,7 +31,7 @@ def language(path):
 
 
 def files():
-    """The files of both languages, by language; what is made from others is left out."""
+    """Returns the files of both languages, by language, except for generated ones."""
     found = {".py": [], ".sh": []}
     for folder, folders, names in os.walk(TOP):
         folders[:] = sorted(set(folders) - MADE)
@@ -42,14 +42,14 @@ def files():
 
 
 def passes(command):
-    """Whether a command ends well; what it writes is passed on."""
+    """Returns true if a command succeeds; its output is passed on."""
     with tempfile.TemporaryDirectory(prefix="tfstated-lint-") as room:
         environment = dict(os.environ, PYTHONPYCACHEPREFIX=room)
         return subprocess.run(command, cwd=TOP, env=environment, stdin=subprocess.DEVNULL, check=False).returncode == 0
 
 
 def passes_linter(name, paths):
-    """Whether a linter has nothing to say about files."""
+    """Returns true if a linter has no complaints about files."""
     if not shutil.which(name):
         print(f"lint: FAILED: {name} isn't installed", flush=True)
         return False

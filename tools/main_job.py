@@ -1,5 +1,6 @@
-"""Builds the program out of proved crates, and shows a team's day against it: one run locks, pushes and asks what a change reaches,
-another one is refused meanwhile, the server is killed and goes on from its journal. Each request and reply is printed."""
+"""Builds the program from proved crates, and shows a team's day with it: one run locks, pushes and
+asks what a change reaches, another one is refused meanwhile, the server is killed and continues
+from its journal. Each request and reply is printed."""
 import http.client
 import json
 import sys
@@ -9,7 +10,7 @@ from serve_program import Server, fresh
 
 
 def state(serial):
-    """A network, two subnets in it, and a machine in both."""
+    """Returns a network, two subnets in it, and a machine in both."""
     made = [("aws_vpc", "main", []), ("aws_subnet", "a", ["aws_vpc.main"]), ("aws_subnet", "b", ["aws_vpc.main"]),
             ("aws_instance", "web", ["aws_subnet.a", "aws_subnet.b"])]
     resources = [{"mode": "managed", "type": kind, "name": name, "instances": [{"dependencies": needs}]} for kind, name, needs in made]
@@ -21,7 +22,8 @@ def shorter(text):
 
 
 class Day:
-    """Requests to one server after another, which are printed with their replies; those that were other than wanted are counted."""
+    """Sends requests to one server after another, prints them with their replies, and counts the
+    unexpected replies."""
 
     def __init__(self):
         self.server, self.surprises = None, 0

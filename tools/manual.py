@@ -1,5 +1,7 @@
-"""Makes the manual pages of both programs, in mdoc: commands and options are those that `tfstatectl --help` prints, files and statuses those of
-docs/FOLDER.md, and what `tfstated` does that of docs/PROTOCOL.md and docs/JOURNAL.md. So no page has a text of its own that could differ from these."""
+"""Makes the manual pages of both programs, in mdoc. Commands and options are those of `tfstatectl
+--help`, files and statuses those of docs/FOLDER.md, and what `tfstated` does is from
+docs/PROTOCOL.md and docs/JOURNAL.md. So no page has a text of its own that could differ from
+these."""
 import datetime
 import re
 import subprocess
@@ -11,19 +13,20 @@ BETWEEN_SENTENCES = re.compile(r"(?<=[.;]) +")
 
 
 def told(program, *words):
-    """What a program prints, which is to end well."""
+    """Returns what a program prints. The program must succeed."""
     return subprocess.run([program, *words], stdin=subprocess.DEVNULL, stdout=subprocess.PIPE, check=True).stdout.decode()
 
 
 def plain(text):
-    """A text of a page without marks, as lines of mdoc, one for each sentence."""
+    """Returns a text of a page without marks, as lines of mdoc, one for each sentence."""
     text = re.sub(r"\[([^]]*)\]\([^)]*\)", r"\1", text).replace("`", "").replace("\\|", "|").replace("**", "").strip()
     lines = BETWEEN_SENTENCES.split(text.replace("\\", "\\e"))
     return "\n".join(f"\\&{line}" if line[:1] in ".'" else line for line in lines)
 
 
 def sections(text):
-    """The parts of a help text: each paragraph by its title, and the others in order under an empty one."""
+    """Returns the parts of a help text: each paragraph by its title, and the others in order with
+    an empty one."""
     found = {"": []}
     for part in text.strip("\n").split("\n\n"):
         title, _, rest = part.partition("\n")
@@ -35,7 +38,8 @@ def sections(text):
 
 
 def items(text):
-    """The terms of a list of a help text, each with its meaning. A line that is indented further goes on with the one before it."""
+    """Returns the terms of a list of a help text, each with its meaning. A line that is indented
+    further continues the previous one."""
     found = []
     for line in text.splitlines():
         term, _, meaning = line.strip().partition("  ")
@@ -47,7 +51,8 @@ def items(text):
 
 
 def macro(term):
-    """A term of a help text as arguments of mdoc: options, what they take, and words; dots say that there may be more."""
+    """Returns a term of a help text as arguments of mdoc: options, what they take, and words; dots
+    mean that there may be more."""
     words = []
     for word in re.findall(r"\.\.\.|[^ ,.]+", term):
         if word.startswith("-"):
@@ -58,13 +63,13 @@ def macro(term):
 
 
 def tagged(rows):
-    """A list of terms with their meaning."""
+    """Returns a list of terms with their meaning."""
     lines = [f".It {term}\n{plain(meaning)}" for term, meaning in rows if meaning]
     return "\n".join([".Bl -tag -width Ds", *lines, ".El"])
 
 
 def rows_of(page, header):
-    """The rows of the table of a page that begins with this line."""
+    """Returns the rows of the table of a page that begins with this line."""
     table = page.split(f"{header}\n", 1)[1].split("\n\n", 1)[0]
     return [[cell.strip() for cell in re.split(r"(?<!\\)\|", row)[1:-1]] for row in table.splitlines()[1:]]
 
@@ -76,19 +81,19 @@ def head(name, section, about, version, day):
 
 
 def commands(program):
-    """The commands that a program lists, each with its own help text."""
+    """Returns the commands that a program lists, each with its own help text."""
     listed = [name for name, _ in sections(told(program, "--help"))["Commands"] if name != "help"]
     return {name: sections(told(program, name, "--help")) for name in listed}
 
 
 def synopsis(name, parts):
-    """The line of a command, as its help text has it behind `Usage:`."""
+    """Returns the line of a command, as its help text has it after `Usage:`."""
     usage = next(part for part in parts[""] if part.startswith("Usage: ")).split(f" {name}", 1)[1].strip()
     return f".Nm\n.Cm {name} {macro(usage.replace('[OPTIONS]', '[options]'))}".rstrip()
 
 
 def statuses():
-    """Each status of `tfstatectl` with its faults and what to do about them."""
+    """Returns each status of `tfstatectl` with its faults and what to do about them."""
     found = {}
     for status, fault, remedy in rows_of(FOLDER, "| Status | Fault | What to do |"):
         found.setdefault(status, []).append(f"{fault}: {remedy}.")
@@ -109,7 +114,8 @@ def page_of_tfstatectl(program, version, day):
 
 
 def described(command):
-    """What docs/JOURNAL.md says of a command, as mdoc: a paragraph, and the list that may follow it."""
+    """Returns what docs/JOURNAL.md says of a command, as mdoc: a paragraph, and the list that may
+    follow it."""
     text = JOURNAL.split(f"**{command}** ", 1)[1]
     first, second = text.split("\n\n")[:2]
     listed = [item.replace("\n", " ") for item in re.split(r"^- ", second, flags=re.M)[1:]]
@@ -135,11 +141,12 @@ def page_of_tfstated(version, day):
 
 
 def macro_of_usage(usage):
-    """A usage as arguments of mdoc: its command, then what it takes."""
+    """Returns a usage as arguments of mdoc: its command, then what it takes."""
     name, *words = usage.split()
     return " ".join([name, *(f"Op Ar {word[1:-1]}" if word[0] == "[" else f"Ar {word}" for word in words)])
 
 
 def manuals(program, version, day):
-    """Each manual page by the name of its file. The program is `tfstatectl`; the day is in seconds."""
+    """Returns each manual page by the name of its file. The program is `tfstatectl`; the day is in
+    seconds."""
     return {"tfstatectl.8": page_of_tfstatectl(program, version, day), "tfstated.1": page_of_tfstated(version, day)}

@@ -1,5 +1,6 @@
-"""Makes what a machine without the kit installs: out of the proved programs dist/tfstated_VERSION_amd64.deb, a .tar.gz with the same files, and
-their SHA-256 sums. TFSTATED and TFSTATECTL may name other builds. The same programs and sources make the same bytes."""
+"""Makes what a machine without the kit installs: from the proved programs
+dist/tfstated_VERSION_amd64.deb, a .tar.gz with the same files, and their SHA-256 sums. TFSTATED and
+TFSTATECTL may name other builds. The same programs and sources make the same bytes."""
 import gzip
 import hashlib
 import io
@@ -43,18 +44,20 @@ Description: server for Terraform's http state backend
 
 
 def of_tool(*words):
-    """What a tool prints, which is to end well."""
+    """Returns what a tool prints. The tool must succeed."""
     return subprocess.run([str(word) for word in words], stdout=subprocess.PIPE, check=True).stdout.decode()
 
 
 def moment():
-    """The time that all files get, in seconds: that of the last commit where there is one."""
+    """Returns the time that all files get, in seconds: the time of the last commit, if there is
+    one."""
     told = subprocess.run(["git", "log", "-1", "--format=%ct"], cwd=TOP, capture_output=True, check=False).stdout.strip()
     return int(os.environ.get("SOURCE_DATE_EPOCH") or told or (TOP / "VERSION").stat().st_mtime)
 
 
 def libc_of(path):
-    """The least version of the C library that a program needs. Ends the script where it needs another library."""
+    """Returns the least version of the C library that a program needs. Ends the script if it needs
+    another library."""
     needed = re.findall(r"\(NEEDED\).*\[(.*)\]", of_tool("readelf", "--dynamic", path))
     if set(needed) - {"libc.so.6", "libm.so.6", "libpthread.so.0"}:
         sys.exit(f"package: {path} needs more than the C library: {' '.join(needed)}")
@@ -62,12 +65,12 @@ def libc_of(path):
 
 
 def newest(versions):
-    """The newest of some versions."""
+    """Returns the newest of some versions."""
     return max(versions, key=lambda text: [int(part) for part in text.split(".")])
 
 
 def check_version(path):
-    """Ends the script where the program tells another version than the file VERSION."""
+    """Ends the script if the program reports another version than the file VERSION."""
     told = of_tool(path, "--version").split()
     if told[:2] != ["tfstatectl", VERSION]:
         sys.exit(f"package: VERSION says {VERSION}, and the program {' '.join(told)}")
@@ -81,12 +84,12 @@ def put(root, target, content, mode=0o644):
 
 
 def script_text(path):
-    """A script of the package, which tells its version."""
+    """Returns a script of the package with the version filled in."""
     return path.read_text().replace("@VERSION@", VERSION).encode()
 
 
 def in_one_folder(page):
-    """A page whose links lead to pages of the same folder."""
+    """Returns a page whose links lead to pages of the same folder."""
     return re.sub(rb"\]\((?:\.\./)?(?:docs/|deploy/|(?=CHANGELOG))", b"](", page)
 
 
@@ -114,7 +117,7 @@ def files_of(root):
 
 
 def make_tar(root, path, when):
-    """The archive of all files below a root, whose folders belong to root."""
+    """Makes the archive of all files below a root, whose folders belong to root."""
     packed = io.BytesIO()
     with tarfile.open(fileobj=packed, mode="w", format=tarfile.GNU_FORMAT) as archive:
         for entry in sorted(root.rglob("*")):
@@ -125,7 +128,7 @@ def make_tar(root, path, when):
 
 
 def make_deb(root, path, libc, when):
-    """The Debian package of all files below a root."""
+    """Makes the Debian package of all files below a root."""
     size = sum(file.stat().st_size for file in files_of(root)) // 1024 + 1
     maintainer = os.environ.get("MAINTAINER", "the tfstated package <root@localhost>")
     told = CONTROL.format(version=VERSION, maintainer=maintainer, size=size, libc=libc)

@@ -1,5 +1,5 @@
-"""The Debian packages that `make test` needs, as the README and .ci/run name them, and what of each
-of them is looked for."""
+"""The Debian packages that `make test` needs, as the README and .ci/run name them, and how each of
+them is recognised."""
 import functools
 import shutil
 import subprocess
@@ -17,7 +17,7 @@ PYTHONS = (sys.executable, "/usr/bin/python3")
 
 
 def has_module(python, name):
-    """Whether an interpreter has a module."""
+    """Returns true if an interpreter has a module."""
     command = [python, "-c", f"import {name}"]
     try:
         return subprocess.run(command, stderr=subprocess.DEVNULL, check=False).returncode == 0
@@ -27,14 +27,14 @@ def has_module(python, name):
 
 @functools.lru_cache(maxsize=None)
 def python_with_pytest():
-    """The first interpreter that has all modules; the present one if none has."""
+    """Returns the first interpreter that has all modules; the present one if none has."""
     def has_all(python):
         return all(has_module(python, name) for name in MODULES.values())
     return next(filter(has_all, PYTHONS), sys.executable)
 
 
 def missing():
-    """The packages that are missing."""
+    """Returns the packages that are missing."""
     found = [name for name, command in COMMANDS.items() if not shutil.which(command)]
     found += [name for name, path in FILES.items() if not Path(path).exists()]
     python = python_with_pytest()
@@ -42,7 +42,7 @@ def missing():
 
 
 def say_missing():
-    """What to report if packages are missing; an empty text if none is."""
+    """Returns what to report if packages are missing; an empty text if none is."""
     names = missing()
     if not names:
         return ""

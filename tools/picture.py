@@ -1,4 +1,5 @@
-"""Turns a state, and the answer of an impact query over it, into a picture of its resource instances for Graphviz.
+"""Turns a state, and the answer of an impact query over it, into a picture of its resource
+instances for Graphviz.
 
     python3 tools/picture.py STATE [ANSWER] >picture.dot
 
@@ -13,12 +14,12 @@ from impact_model import instances_of
 
 
 def quoted(text):
-    """A text as DOT has it between quotation marks."""
+    """Returns a text as DOT has it between quotation marks."""
     return '"' + text.replace("\\", "\\\\").replace('"', '\\"').replace("\n", "\\n") + '"'
 
 
 def arrows(instances):
-    """The pairs of addresses of which the second depends on the first."""
+    """Returns the pairs of addresses in which the second depends on the first."""
     named = {}
     for instance in instances:
         named.setdefault(instance.configuration, []).append(instance.address)
@@ -27,7 +28,7 @@ def arrows(instances):
 
 
 def picture(state, answer=None):
-    """The lines of the picture."""
+    """Yields the lines of the picture."""
     instances, chosen = instances_of(state), set((answer or {}).get("instances", []))
     unknown = chosen - {instance.address for instance in instances}
     if unknown:

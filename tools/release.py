@@ -1,6 +1,6 @@
-"""Builds what a release has, in dist/: the Debian package and the .tar.gz of tools/package.py, a
-bill of materials, and SHA256SUMS of the three. The same programs and sources make the same
-bytes: each time in them is SOURCE_DATE_EPOCH, or that of the last commit."""
+"""Builds the contents of a release, in dist/: the Debian package and the .tar.gz of
+tools/package.py, a bill of materials, and SHA256SUMS of the three. The same programs and sources
+make the same bytes: each time in them is SOURCE_DATE_EPOCH, or the time of the last commit."""
 import hashlib
 import sys
 from pathlib import Path

@@ -1,6 +1,8 @@
-"""Requests for room in src/ that no machine may grant. A contract can't distinguish a refused request from one that asks for too much, so a body
-that gives up for one length would pass. The room of a request is one length, one constant or one name, or a sum of these. In its
-function nothing is multiplied or shifted, no length is compared with a number, and no number is over 32 MiB. Its constants are at most 32 MiB."""
+"""Finds requests for room in src/ that no machine may grant. A contract can't distinguish a refused
+request from one that asks for too much, so a body that gives up for one length would pass. The room
+of a request is one length, one constant or one name, or a sum of these. In its function nothing is
+multiplied or shifted, no length is compared with a number, and no number is over 32 MiB. Its
+constants are at most 32 MiB."""
 import re
 
 from fault_places import code_lines, sources
@@ -19,7 +21,8 @@ COMPARED = re.compile(rf"{LENGTH} (?:==|!=|<=?|>=?|%) {NUMBER}|\b{NUMBER} (?:==|
 
 
 def inner(text, start):
-    """The text of the brackets that are opened before a place, and its parts between commas or semicolons."""
+    """Returns the text of the brackets that are opened before a place, and its parts between commas
+    or semicolons."""
     depth, parts, last = 1, [], start
     for place in range(start, len(text)):
         letter = text[place]
@@ -33,7 +36,7 @@ def inner(text, start):
 
 
 def rooms(body):
-    """The room of each request in the text of a function."""
+    """Yields the room of each request in the text of a function."""
     for found in REQUEST.finditer(body):
         parts = inner(body, found.end())
         if found.group().startswith("vec!") or found.group().startswith("with_capacity"):
@@ -43,7 +46,8 @@ def rooms(body):
 
 
 def constants():
-    """The values of the constants of all crates, by name; of one name the highest counts."""
+    """Returns the values of the constants of all crates, by name; for a repeated name, the
+    highest."""
     texts = {}
     for path in sources():
         for name, text in CONSTANT.findall(path.read_text(encoding="utf-8")):
@@ -57,7 +61,7 @@ def constants():
 
 
 def value_of(text, values):
-    """The value of an expression of numbers and constants, or none."""
+    """Returns the value of an expression of numbers and constants, or None."""
     plain = re.sub(r"\b(?:\w+::)*([A-Z][A-Z0-9_]+)\b", lambda found: str(values.get(found.group(1))), text)
     if not re.fullmatch(r"[\d_ +*()<\-]+", plain):
         return None
@@ -65,18 +69,19 @@ def value_of(text, values):
 
 
 def is_plain(room):
-    """Whether a room is a sum of single lengths, constants and names; the highest number of a type is none."""
+    """Returns true if a room is a sum of single lengths, constants and names; the highest number of
+    a type isn't one."""
     return "::MAX" not in room and all(TERM.fullmatch(term) for term in re.sub(r"\.saturating_add\((\w+)\)", r" + \1", room).split(" + "))
 
 
 def is_small(word):
-    """Whether a word is a number of at most 32 MiB."""
+    """Returns true if a word is a number of at most 32 MiB."""
     digits = re.sub(r"[ui](?:8|16|32|64|128|size)$", "", word.replace("_", ""))
     return re.fullmatch(r"\d+|0[xob][\da-fA-F]+", digits) is not None and int(digits, 0) <= MOST
 
 
 def functions(path):
-    """The text of each function of a file, without comments and contracts."""
+    """Returns the text of each function of a file, without comments and contracts."""
     bodies = {}
     for function, line in code_lines(path.read_text(encoding="utf-8")):
         bodies.setdefault(function, []).append(line)
@@ -84,7 +89,7 @@ def functions(path):
 
 
 def wrong_rooms(body, values):
-    """What is wrong with the requests of a function."""
+    """Yields what is wrong with the requests of a function."""
     found = list(rooms(body))
     for room in found:
         if not is_plain(room):
@@ -101,7 +106,7 @@ def wrong_rooms(body, values):
 
 
 def wrong_requests():
-    """The requests that are wrong, a line each."""
+    """Yields the wrong requests, a line each."""
     values = constants()
     for path in sources():
         for function, body in functions(path).items():

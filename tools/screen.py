@@ -1,4 +1,4 @@
-"""Runs commands, shows their lines with the time since the start, and counts what they pass."""
+"""Runs commands, shows their lines with the time since the start, and counts what passed."""
 import os
 import re
 import subprocess
@@ -38,7 +38,8 @@ class Screen:
             self.keep(line)
 
     def hear(self, line):
-        """Shows a line of a command, or only keeps it if it says that all is well with one function."""
+        """Shows a line of a command, or only keeps it if it reports no fault, as a proved function
+        or a passed test."""
         if WRONG.search(line):
             self.more = SHOWN
         if self.more:
@@ -55,7 +56,8 @@ class Screen:
 
 
 def count_of(last, status, hear):
-    """What the last line of a command counts, (passed, failed). Without a count it failed."""
+    """Returns the count in the last line of a command, (passed, failed). Without a count it
+    failed."""
     found = COUNT.match(last)
     if found is None:
         hear("FAILED: the last line has no count")
@@ -65,8 +67,8 @@ def count_of(last, status, hear):
 
 
 def end_of(process, hear):
-    """Hears each line of a command and waits for it: its last line, its status, and its seconds of
-    processor time."""
+    """Hears each line of a command and waits for it. Returns its last line, its status, and its
+    seconds of processor time."""
     last = ""
     for line in process.stdout:
         hear(line.rstrip("\n"))
@@ -77,8 +79,8 @@ def end_of(process, hear):
 
 
 def run_heard(command, hear, watch=None, count=count_of):
-    """Runs a command, perhaps under the eyes of a watch, and hears each line: what it counts,
-    (passed, failed), and its times."""
+    """Runs a command, perhaps with a watch, and hears each line. Returns its count, (passed,
+    failed), and its times."""
     began, counted, used = time.monotonic(), (0, 1), 0
     how = {"cwd": TOP, "stdout": subprocess.PIPE, "stderr": subprocess.STDOUT}
     how.update(encoding="utf-8", errors="replace")
@@ -96,21 +98,22 @@ def run_heard(command, hear, watch=None, count=count_of):
 
 
 def run(command, screen, watch=None):
-    """Shows a command, and each line of it while it runs."""
+    """Runs a command, and shows it and each of its lines. Returns its count and its times."""
     screen.show("$ " + " ".join(command))
     return run_heard(command, watch.hear if watch else screen.hear, watch)
 
 
 def run_apart(job):
-    """Runs a command, whose count has a function of its own, and keeps its lines."""
+    """Runs a command with a function of its own for its count, and keeps its lines. Returns
+    the lines, and its count and times."""
     command, count = job
     lines = []
     return lines, run_heard(command, lines.append, count=count)
 
 
 def run_at_once(jobs, screen, most):
-    """Runs commands, at most this number at once, and shows each of them once it has ended, in their
-    order: each with its count and its times."""
+    """Runs commands, at most this number at once, and shows each of them once it has ended, in
+    their order. Yields the count and the times of each."""
     with ThreadPoolExecutor(most) as pool:
         for (command, _), (lines, counted) in zip(jobs, pool.map(run_apart, jobs)):
             screen.show("$ " + " ".join(command))
@@ -120,5 +123,5 @@ def run_at_once(jobs, screen, most):
 
 
 def script(path):
-    """The words that run a script of the repository."""
+    """Returns the words that run a script of the repository."""
     return [sys.executable, str(path.relative_to(TOP))]

@@ -1,5 +1,6 @@
-"""Builds the program `tfstatectl` where it is older than its sources, and serves on 127.0.0.1:8080 with it, with journals in the folder
-`journal` at the top of the repository, until it is stopped. Arguments replace address and workers."""
+"""Builds the program `tfstatectl` if it is older than its sources, and serves on 127.0.0.1:8080
+with it, with journals in the folder `journal` at the top of the repository, until it is stopped.
+Arguments replace address and workers."""
 import os
 import sys
 

@@ -1,5 +1,6 @@
-"""Has 16 sessions of `tfstated serve` make all kinds of requests at the same time for some seconds, and compares each answer with the journal,
-by a plain model of the rules (sessions.py). Usage: tools/stress.py [SECONDS]"""
+"""Has 16 sessions of `tfstated serve` make all kinds of requests concurrently for some seconds, and
+compares each answer with the journal, by a plain model of the rules (sessions.py). Usage:
+tools/stress.py [SECONDS]"""
 import sys
 import time
 

@@ -1,5 +1,6 @@
-"""Tries one must-fail edit of a crate, by `rt must-fail` over a copy that has no other edit: `try_edit.py CRATE EDIT`. What
-earlier runs proved of the crates below is copied too. The exit status is 0 where the prover refuses the edit."""
+"""Tries one must-fail edit of a crate, by `rt must-fail` over a copy that has no other edit:
+`try_edit.py CRATE EDIT`. What earlier runs proved of the lower crates is copied too. The exit
+status is 0 if the prover refuses the edit."""
 import shutil
 import subprocess
 import sys
@@ -10,7 +11,7 @@ from repository import TOP, chosen, crate_lines
 
 
 def with_lower(crate, lines):
-    """A crate and all crates of the repository below it."""
+    """Returns a crate and all crates of the repository below it."""
     found = [crate]
     for name in found:
         found += [low for low in lines[name].partition(":")[2].split() if low in lines and low not in found]

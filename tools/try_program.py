@@ -1,6 +1,6 @@
 """Compiles the program by `rt try`, without any proof, has a conversation with its server, and
-leaves the server running until it is stopped. ADDRESS names where it listens. With ONCE=1 it is
-stopped after the conversation."""
+leaves the server running until it is stopped. ADDRESS names its address. With ONCE=1 it is stopped
+after the conversation."""
 import http.client
 import json
 import os
@@ -31,7 +31,7 @@ def state():
 
 
 def requests():
-    """Returns requests of two runs of Terraform, each with the status that it is to get."""
+    """Returns requests of two runs of Terraform, each with its expected status."""
     ann, bob = '{"ID":"1","Who":"ann"}', '{"ID":"2","Who":"bob"}'
     return [
         (200, "LOCK", "/state/example", ann),
@@ -63,7 +63,8 @@ def is_open():
 
 
 def is_answered():
-    """Sends the requests and prints them with their replies: true if each has its status."""
+    """Sends the requests and prints them with their replies. Returns true if each has its
+    status."""
     found = []
     for _, method, target, body in requests():
         connection = http.client.HTTPConnection(*place(), timeout=60)
@@ -81,7 +82,7 @@ def is_answered():
 
 
 def has_started(tried):
-    """Waits until the server listens: true, or false if it ended."""
+    """Waits until the server listens. Returns false if it ended before."""
     while tried.poll() is None:
         if is_open():
             return True
@@ -90,7 +91,7 @@ def has_started(tried):
 
 
 def show_rest(tried):
-    """Prints how Terraform is led to the server, and waits until it is stopped."""
+    """Prints how to connect Terraform to the server, and waits until it is stopped."""
     url = f"http://{':'.join(map(str, place()))}/state/prod"
     print(
         "\nThe server listens until you stop it (Ctrl-C); its journal is removed then. "
@@ -104,7 +105,8 @@ def show_rest(tried):
 
 
 def run(folder, log):
-    """Compiles and starts the server, with a journal in a folder, and shows it: a status."""
+    """Compiles and starts the server, with a journal in a folder, and shows it. Returns a
+    status."""
     words = [
         "rt",
         "try",

@@ -1,5 +1,5 @@
 """Builds the programs of a checkout of the repository without proofs, for tests that need an
-earlier version: `rt try` compiles and starts each as a server, and what runs then is copied.
+earlier version: `rt try` compiles and starts each as a server, and the running program is copied.
 Such a program has checks of memory in it, and needs far more address space than a proved one.
 
     python3 tools/unproved.py CHECKOUT TARGET    builds both programs into the folder TARGET"""

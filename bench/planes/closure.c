@@ -1,5 +1,5 @@
-/* The closure of a relation over rows of bits in plain C, with vectors of 8 words, beside which crates/tfs_bench is
-   measured: in an order of the rows where there is one, and by blocks of 64 rows. */
+/* The closure of a relation over rows of bits in plain C, with vectors of 8 words, for comparison
+   with crates/tfs_bench: in an order of the rows, if there is one, and by blocks of 64 rows. */
 #include <stdint.h>
 #include <stdio.h>
 #include <stdlib.h>
@@ -235,7 +235,7 @@ static long measure(void (*close_rows)(uint64_t *, size_t, size_t), uint64_t *wo
     return best;
 }
 
-/* Writes pairs as two numbers of two bytes each, the low one first; in front of them the size and 0. */
+/* Writes pairs as two numbers of two bytes each, the low byte first, after the size and 0. */
 
 static void put(size_t i, size_t j) {
     unsigned char bytes[] = {i & 255, i >> 8, j & 255, j >> 8};
@@ -249,8 +249,8 @@ static void put_pairs(const uint64_t *words, size_t size) {
             if (get(words + i * stride_of(size), j)) put(i, j);
 }
 
-/* closure pairs KIND SIZE: the pairs of a relation. closure times KIND SIZE: the nanoseconds of its closure in an order and by blocks, and
-   how many pairs it has then. */
+/* closure pairs KIND SIZE: prints the pairs of a relation. closure times KIND SIZE: prints the
+   nanoseconds of its closure in an order and by blocks, and the number of pairs of the result. */
 
 int main(int argc, char **argv) {
     size_t size = argc == 4 ? strtoul(argv[3], NULL, 10) : 0;

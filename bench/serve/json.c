@@ -42,7 +42,7 @@ static int hex_digits(struct scan *scan) {
     return 1;
 }
 
-/* A character of two to four bytes (RFC 3629, section 4). */
+/* Skips a character of two to four bytes (RFC 3629, section 4). */
 static int wide(struct scan *scan) {
     unsigned first = *scan->at++, more = first >= 0xf0 ? 3 : first >= 0xe0 ? 2 : 1, code = first & (0x3fu >> more);
     if (first < 0xc2 || first > 0xf4) return 0;
@@ -53,7 +53,8 @@ static int wide(struct scan *scan) {
     return code >= (more == 3 ? 0x10000u : more == 2 ? 0x800u : 0x80u) && code <= 0x10ffff && (code < 0xd800 || code > 0xdfff);
 }
 
-/* What comes after the opening quote, with the closing one. Half a pair of `\u` isn't looked for. */
+/* Skips the rest of a text after the opening quote, including the closing one. Doesn't check for
+   half a pair of `\u`. */
 static int text(struct scan *scan) {
     while (scan->at < scan->end) {
         unsigned char byte = *scan->at;
@@ -80,7 +81,7 @@ static int word(struct scan *scan, const char *word) {
 
 static int value(struct scan *scan, int levels);
 
-/* The members of an object, or the elements of an array, after the opening bracket. */
+/* Skips the members of an object, or the elements of an array, after the opening bracket. */
 static int members(struct scan *scan, int levels, unsigned char close) {
     if (levels == MAX_LEVELS) return 0;
     skip_space(scan);

@@ -1,13 +1,17 @@
-/* Loads a server over connections that stay open, a thread for each, and checks every reply. Usage: load KIND [OPTION..]
-   KIND: get (of one name, or of TARGET), post (rising serials, a name for each connection), own and one (lock, get, post and unlock,
-   on a name for each connection or on one), tail (gets on the first connection, posts on the others), fill (one push to each of
-   COUNT names), chain (one push of a state of SIZE instances).
-   -p PORT, -c CONNECTIONS, -s SECONDS, -n COUNT (of requests, or of lock cycles, at most), -b SIZE (of a state; of a TARGET's answer,
-   where it is known), -m METHOD (of a push), -t TARGET, -f SERIAL (the last one before the pushes of `post`).
-   It prints how many requests, or cycles, were made, how many in a second, the microseconds of the median and of the 99th of 100,
-   those of gets alone for `tail`, and one number more: the bytes of an answer for `get`, how many locks were refused in a second for
-   cycles, and the pushes in a second for `tail`. What is made in the first fifth of the time, or the first tenth of COUNT, is left
-   out, but for `fill` and `chain`. */
+/* Loads a server over persistent connections, a thread for each, and checks every reply. Usage:
+   load KIND [OPTION..]
+   KIND: get (of one name, or of TARGET), post (rising serials, a name for each connection), own and
+   one (lock, get, post and unlock, on a name for each connection or on one), tail (gets on the
+   first connection, posts on the others), fill (one push to each of COUNT names), chain (one push
+   of a state of SIZE instances).
+   -p PORT, -c CONNECTIONS, -s SECONDS, -n COUNT (the limit of requests, or of lock cycles), -b SIZE
+   (of a state; of a TARGET's answer, if it is known), -m METHOD (of a push), -t TARGET, -f SERIAL
+   (the last one before the pushes of `post`).
+   Prints the number of requests, or cycles, the rate per second, the microseconds of the median and
+   of the 99th percentile (for `tail`, of the gets only), and one number more: the bytes of an
+   answer for `get`, the refused locks per second for cycles, and the pushes per second for `tail`.
+   Leaves out what is made in the first fifth of the time, or the first tenth of COUNT, except for
+   `fill` and `chain`. */
 #define _POSIX_C_SOURCE 200809L
 #include <pthread.h>
 #include <stdatomic.h>
@@ -43,14 +47,16 @@ static atomic_long left;
 static int64_t warm, end;
 static pthread_barrier_t ready, started;
 
-/* A push: its bytes, with where the sum's text and the body begin, and the MD5 of the body's first blocks. */
+/* A push: its bytes, the places of the sum's text and of the body, and the MD5 of the body's first
+   blocks. */
 struct push {
     char *bytes;
     size_t length, sum_at, body_at, body, blocks;
     struct md5 first;
 };
 
-/* A connection, with what it asks, and the last reply: its status, its length, and its bytes where they are kept. */
+/* A connection, with its request, and the last reply: its status, its length, and its bytes if they
+   are kept. */
 struct connection {
     int number;
     struct input *in;
@@ -135,7 +141,7 @@ static void cycle_once(struct connection *to) {
     ask_for(to, to->unlock, 200);
 }
 
-/* A push to a name that no other push was to. */
+/* Pushes to a name that no other push was to. */
 static void fill_once(struct connection *to) {
     char path[64], *text = to->push.bytes + to->push.body_at;
     snprintf(path, sizeof path, "/state/n%ld", to->filled++);
@@ -145,7 +151,7 @@ static void fill_once(struct connection *to) {
     push_serial(to, FIRST_SERIAL);
 }
 
-/* Getting ready. */
+/* Preparation. */
 
 static int is_kind(const char *name) { return !strcmp(kind, name); }
 
@@ -160,7 +166,7 @@ static void write_texts(struct connection *to, const char *path) {
     snprintf(to->unlock, HEAD_ROOM, "UNLOCK %s HTTP/1.1\r\n%sContent-Length: %zu\r\n\r\n%s", path, OTHER_FIELDS, strlen(lock), lock);
 }
 
-/* Makes what a connection sends. For cycles a first state is pushed, which needs no lock. */
+/* Makes what a connection sends. For cycles, a first state is pushed, which needs no lock. */
 static void prepare(struct connection *to) {
     char path[64], locked[128];
     size_t body = size;

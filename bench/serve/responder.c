@@ -1,5 +1,6 @@
-/* Reads requests over connections that stay open and answers fixed bytes, a thread for each connection: a GET with a body of so
-   many bytes, anything else with none. It says where it listens, and runs until it is stopped. Usage: responder PORT SIZE */
+/* Reads requests over persistent connections and answers with fixed bytes, a thread for each
+   connection: a GET with a body of SIZE bytes, anything else without one. Prints its address, and
+   runs until it is stopped. Usage: responder PORT SIZE */
 #define _POSIX_C_SOURCE 200809L
 #include <pthread.h>
 #include <stdint.h>

@@ -24,7 +24,7 @@ static int by_time(const void *left, const void *right) {
     return (a > b) - (a < b);
 }
 
-/* The smallest time that so many of 100 don't exceed. */
+/* Returns the smallest time that this many of 100 times don't exceed. */
 static double part(const struct samples *samples, size_t hundredths) {
     size_t rank = (samples->count * hundredths + 99) / 100;
     return (double)samples->took[rank ? rank - 1 : 0] / 1000;

@@ -4,7 +4,7 @@
 #include <stddef.h>
 #include <stdint.h>
 
-/* How long each request took, when the first began and when the last ended, in nanoseconds. */
+/* The time of each request, when the first began and when the last ended, in nanoseconds. */
 struct samples {
     int64_t *took;
     size_t count, room;
@@ -13,10 +13,11 @@ struct samples {
 
 void keep(struct samples *samples, int64_t began, int64_t ended);
 
-/* How many there were in a second, while they were made one after another. */
+/* Returns the rate per second, for requests that were made one after another. */
 double rate_of(const struct samples *samples);
 
-/* Prints how many there are, how many in a second, and the microseconds of the one in the middle and of the 99th of 100. */
+/* Prints the number of requests, the rate per second, and the microseconds of the median and of the
+   99th percentile. */
 void print_samples(struct samples *samples, double rate);
 
 #endif

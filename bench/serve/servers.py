@@ -1,4 +1,5 @@
-"""The servers and programs of the benchmark: they are compiled and started here, and ended with all that they wrote."""
+"""Compiles and starts the servers and programs of the benchmark, ends them, and removes all that
+they wrote."""
 import getpass
 import os
 import select
@@ -30,14 +31,14 @@ def end_by_signal(number, frame):
 
 
 def free_port():
-    """A port of the loopback that nobody uses at this moment."""
+    """Returns a free port of the loopback interface."""
     with socket.socket() as probe:
         probe.bind((LOOPBACK, 0))
         return probe.getsockname()[1]
 
 
 def compiled(folder):
-    """Compiles the C programs into a folder: the line of the compiler."""
+    """Compiles the C programs into a folder. Returns the line of the compiler."""
     compiler = shutil.which("cc") or shutil.which("gcc") or shutil.which("clang")
     if not compiler:
         sys.exit("a C compiler (cc, gcc or clang) is missing: the load and its peers are written in C")
@@ -48,20 +49,20 @@ def compiled(folder):
 
 
 def ended(process):
-    """Ends a process and those that it started: what it wrote on standard error."""
+    """Ends a process and its children. Returns what it wrote to standard error."""
     if process.poll() is None:
         os.killpg(process.pid, signal.SIGKILL)
     return process.communicate()[1].decode(errors="replace").strip()
 
 
 def wait_for_line(process):
-    """Waits until a server has said where it listens."""
+    """Waits until a server has printed its address."""
     if not select.select([process.stdout], [], [], SECONDS)[0] or not process.stdout.readline().startswith(b"listening"):
         sys.exit(f"{process.args[0]} doesn't listen: {ended(process)}")
 
 
 def is_open(process, port):
-    """Whether a process listens at a port before it ends, and soon."""
+    """Returns true if a process listens on a port before it ends, and soon."""
     limit = time.monotonic() + START_SECONDS
     while process.poll() is None and time.monotonic() < limit:
         with socket.socket() as probe:
@@ -72,7 +73,8 @@ def is_open(process, port):
 
 
 class Bench:
-    """The compiled programs, the program that is measured, and folders on disk and in memory. All goes at its end."""
+    """The compiled programs, the measured program, and folders on disk and in memory. All are
+    removed at its end."""
 
     def __init__(self, program, stack):
         self.program, self.stack = os.path.abspath(program), stack
@@ -85,22 +87,22 @@ class Bench:
         self.nginx_program = shutil.which("nginx") or shutil.which("nginx", path="/usr/sbin:/usr/local/sbin")
 
     def folder(self, room):
-        """A folder that goes at the end."""
+        """Returns a folder that is removed at the end."""
         return Path(self.stack.enter_context(tempfile.TemporaryDirectory(prefix="tfstated-bench-", dir=room)))
 
     def folder_in(self, room):
-        """A folder on disk or in memory, which goes when it is left."""
+        """Returns a folder on disk or in memory, which is removed when its block ends."""
         return tempfile.TemporaryDirectory(dir=self.rooms[room])
 
     def missing(self):
-        """What can't be measured here, a line each."""
+        """Yields what can't be measured here, a line each."""
         if "memory" not in self.rooms:
             yield "/dev/shm is missing: journals lie on disk alone"
         if not self.nginx_program:
             yield "nginx is missing: it is left out"
 
     def tool(self, name, *words):
-        """The numbers that a program prints on one line."""
+        """Returns the numbers that a program prints on one line."""
         command = [str(word) for word in (self.tools / name, *words)]
         try:
             ran = subprocess.run(command, capture_output=True, text=True, timeout=SECONDS, check=False)
@@ -112,7 +114,7 @@ class Bench:
 
     @contextmanager
     def started(self, words):
-        """A process that is ended with all that it started."""
+        """Starts a process that is ended with all that it started."""
         ends = {"stdin": subprocess.DEVNULL, "stdout": subprocess.PIPE, "stderr": subprocess.PIPE}
         process = subprocess.Popen([str(word) for word in words], start_new_session=True, **ends)
         try:
@@ -122,7 +124,8 @@ class Bench:
 
     @contextmanager
     def tfstated(self, room="disk", old=None):
-        """The server with a journal of its own, which goes at the end: its port and its process."""
+        """Starts the server with a journal of its own, which is removed at the end. Returns its
+        port and its process."""
         port = free_port()
         with self.folder_in(room) as folder:
             words = [self.program, "serve", f"{LOOPBACK}:{port}", WORKERS, f"{folder}/journal", *([old] if old else [])]
@@ -132,7 +135,7 @@ class Bench:
 
     @contextmanager
     def responder(self, size):
-        """The responder: its port."""
+        """Starts the responder. Returns its port."""
         port = free_port()
         with self.started([self.tools / "responder", port, size]) as process:
             wait_for_line(process)
@@ -140,7 +143,8 @@ class Bench:
 
     @contextmanager
     def nginx(self, room="disk"):
-        """nginx over files of its own, which go at the end: its port; none where it isn't there or doesn't start."""
+        """Starts nginx over files of its own, which are removed at the end. Returns its port; none
+        if it isn't installed or doesn't start."""
         if not self.nginx_program:
             yield None
             return

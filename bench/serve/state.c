@@ -44,7 +44,7 @@ static char *end(struct text *text, size_t size) {
 
 static const char *const values[] = {"\"a value of forty bytes or thereabouts\"", "\"10.0.0.1\"", "10240", "true"};
 
-/* A resource with so many bytes, or a few more, most of them its instance's attributes. */
+/* Adds a resource of this many bytes, or a few more, most of them its instance's attributes. */
 static void add_resource(struct text *text, size_t number, size_t size) {
     size_t from = text->length;
     add(text, "%s\n    {\n      \"mode\": \"managed\",\n      \"type\": \"acme_server\",\n", number ? "," : "");

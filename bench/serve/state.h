@@ -3,19 +3,20 @@
 #define STATE_H
 #include <stddef.h>
 
-/* Serials have seven digits, so that all texts of a size have one length. */
+/* Serials have seven digits, so all texts of a size have one length. */
 #define FIRST_SERIAL 1000000
 
 #define SMALLEST_STATE 700
 
-/* A state of just that many bytes, at least the smallest, laid out as Terraform writes it, but that the serial stands last: what comes
-   before it stays the same from push to push, and so do the blocks of its MD5. */
+/* Returns a state of exactly this many bytes, at least the smallest, laid out as Terraform writes
+   it, except that the serial is last: the bytes before it stay the same from push to push, and so
+   do the blocks of its MD5. */
 char *state_text(size_t size);
 
-/* A state of that many instances, each of which depends on the one before. */
+/* Returns a state of this many instances, each depending on the previous one. */
 char *chain_text(size_t instances, size_t *size);
 
-/* How many bytes come before the serial. */
+/* Returns the number of bytes before the serial. */
 size_t before_serial(size_t size);
 
 void set_serial(char *text, size_t size, unsigned serial);

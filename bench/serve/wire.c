@@ -1,4 +1,4 @@
-/* Messages of HTTP/1.1 over the sockets of the loopback. */
+/* Messages of HTTP/1.1 over the sockets of the loopback interface. */
 #define _POSIX_C_SOURCE 200809L
 #include "wire.h"
 

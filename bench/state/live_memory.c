@@ -1,5 +1,6 @@
-/* Preloaded into the program: counts the bytes that it holds, as the C library gives them out, and writes the count to the
-   descriptor LIVE before each line that the program writes to its standard output. */
+/* Preloaded into the program: counts the bytes that it holds, as the C library gives them out, and
+   writes the count to the descriptor LIVE before each line that the program writes to its standard
+   output. */
 #define _GNU_SOURCE
 #include <malloc.h>
 #include <stdio.h>

@@ -1,5 +1,6 @@
-"""Runs each command of Terraform in the sentences and tables of deploy/'s pages: a state is moved from where it was, to a server of its own, and back
-to a version, one that a run left is pushed, and a lock is cleared. nginx and TLS are as deploy/ has them, and S3 is a stand-in."""
+"""Runs each command of Terraform in the sentences and tables of deploy/'s pages: a state is moved
+from its backend, to a server of its own, and back to a version, a state that a run left is pushed,
+and a lock is cleared. nginx and TLS are set up as in deploy/, and S3 is a stand-in."""
 import json
 import shutil
 import subprocess
@@ -31,7 +32,8 @@ S3 = """terraform {{
 
 
 def shell(project, text, answers=0, status=0):
-    """What a command of the page writes in a configuration's folder, where Terraform's questions are answered by yes."""
+    """Returns what a command of the page writes in a configuration's folder, with yes as the answer
+    to Terraform's questions."""
     started, written = project.popen("bash", "-c", text, stdin=subprocess.PIPE), ""
     for number in range(1, answers + 1):
         while written.count("Enter a value:") < number and (letter := started.stdout.read(1)):
@@ -45,7 +47,7 @@ def shell(project, text, answers=0, status=0):
 
 
 def looks_the_same(project, addresses="terraform_data.a\nterraform_data.b\n"):
-    """The comparison after a move."""
+    """Makes the page's comparison after a move."""
     expect(shell(project, command("terraform state list")), addresses)
     expect("No changes" in shell(project, command("terraform plan")), True)
 
@@ -57,7 +59,7 @@ def applied(project):
 
 
 def unlocked(server, name):
-    """Whether nobody holds a lock."""
+    """Returns true if nobody holds a lock."""
     return server.ask("LOCK", f"/state/{name}", b'{"ID":"after"}')[0] == 200
 
 
@@ -110,7 +112,7 @@ def check_named_workspaces_move_from_s3_one_by_one():
 
 
 def add_user(user, password):
-    """A user who may do all."""
+    """Adds a user with all rights."""
     for name, line in (("passwords", f"{user}:{quiet('openssl', 'passwd', '-6', password).decode()}"), ("access.conf", f'"~^{user}:" 1;\n')):
         with open(ROOM / name, "a") as file:
             file.write(line)
@@ -150,7 +152,7 @@ def check_a_name_moves_to_a_server_of_its_own():
 
 
 def holder(project, server, name):
-    """Who holds a lock, by the page's command."""
+    """Returns who holds a lock, by the page's command."""
     asks = take("Clear the lock of a run that died", 0).replace("/run/tfstated/tfstated.sock", str(server.path)).replace("/state/prod", f"/state/{name}")
     return json.loads(shell(project, asks))["ID"]
 

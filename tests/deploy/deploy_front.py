@@ -1,7 +1,7 @@
-"""Tries what the first screen of README.md shows: its three lines over the package, with
-stand-ins for what changes a whole system, Terraform over its block, and its picture, which is
-what the program draws; what `make try` leaves running; and the templates and the workflow of
-.github; and the page of figures, which is what `make bench` prints."""
+"""Tries what the first screen of README.md shows: its three lines over the package, with stand-ins
+for commands that change a whole system, Terraform with its block, and its picture, which must be
+what the program draws; what `make try` leaves running; the templates and the workflow of .github;
+and the page of figures, which must be what `make bench` prints."""
 import contextlib
 import html
 import http.client
@@ -52,7 +52,7 @@ def started(words, **how):
 
 
 def reads_until(process, text):
-    """Returns what a command writes until a line has a text. Fails if it ends before."""
+    """Returns what a command writes until a line has a text. Fails if the command ends before."""
     found = ""
     for line in process.stdout:
         found += line
@@ -92,7 +92,8 @@ def reply(address, method, target, body=None):
 
 
 def applies(address):
-    """Has Terraform apply a configuration with the block of the page; false without Terraform."""
+    """Has Terraform apply a configuration with the block of the page. Returns false without
+    Terraform."""
     if not shutil.which("terraform"):
         print("terraform isn't there: the block of the page isn't tried")
         return False

@@ -1,4 +1,5 @@
-"""Runs deploy/impact_comment.py over plans that Terraform makes: what they reach beyond themselves, against a search over the state."""
+"""Runs deploy/impact_comment.py over plans that Terraform makes, and compares what they reach
+beyond themselves with a search over the state."""
 import json
 import shutil
 import subprocess
@@ -30,7 +31,8 @@ resource "terraform_data" "last" { depends_on = [terraform_data.part] }
 
 
 def comment(project, backend, password=PASSWORD):
-    """The status of the page's commands over the plan of a project, what the script prints, and what it says on standard error."""
+    """Returns the status of the page's commands over the plan of a project, the script's output,
+    and its text on standard error."""
     shutil.copy(SCRIPT, project.folder)
     plan, show = blocks_in(IMPACT)[0].replace("https://tfstated.example.com/state/network.prod", backend).splitlines()
     good, text = ended(project.popen("bash", "-c", plan))
@@ -43,7 +45,7 @@ def comment(project, backend, password=PASSWORD):
 
 
 def listed_in(text, title):
-    """The addresses of a list of a comment."""
+    """Returns the addresses of a list of a comment."""
     part = text.split(f"<summary>{title}: ", 1)[1].split("</details>")[0]
     return [line[3:-1] for line in part.splitlines() if line.startswith("- `")]
 

@@ -1,6 +1,7 @@
-"""Runs the setup of deploy/ with a real nginx over a unix socket: TLS, passwords, who may do what, other hosts and pages of other sites, the log,
-locks, bodies of 16 MiB and in chunks, clients that are slow or many, and a name with a server of its own. Where nginx, openssl or curl isn't installed
-it says so in one line and fails."""
+"""Runs the setup of deploy/ with a real nginx over a unix socket: TLS, passwords, rights, other
+hosts and pages of other sites, the log, locks, bodies of 16 MiB and in chunks, clients that are
+slow or many, and a name with a server of its own. If nginx, openssl or curl isn't installed, it
+says so in one line and fails."""
 import base64
 import contextlib
 import hashlib
@@ -25,7 +26,7 @@ from repository import TOP
 DEPLOY, ROOM = TOP / "deploy", Path(FOLDER.name)
 LOG, HOST = ROOM / "tfstated.log", "tfstated.example.com"
 USER, PASSWORD = "admin", "secret words"
-# The users of deploy/nginx-access.conf, and one who has no line there.
+# The users of deploy/nginx-access.conf, and one without a line in it.
 USERS = [USER, "auditor", "network-ci", "stranger"]
 MAX_BODY = 16777216
 AROUND = """{user}
@@ -47,7 +48,7 @@ http {{
 
 
 def signed(user, password=PASSWORD):
-    """The field by which a user shows a password."""
+    """Returns the field with a user's password."""
     return {"Authorization": "Basic " + base64.b64encode(f"{user}:{password}".encode()).decode()}
 
 
@@ -55,18 +56,18 @@ WITH_PASSWORD = signed(USER)
 
 
 def quiet(*words):
-    """What a command writes, which is to end well."""
+    """Returns what a command writes. The command must succeed."""
     return subprocess.run([str(word) for word in words], capture_output=True, check=True, timeout=SECONDS).stdout
 
 
 def replaced(text, old, new):
-    """A text in which one place is another."""
+    """Returns a text with one place replaced."""
     expect(text.count(old), 1, f"the file of deploy/ has once: {old}")
     return text.replace(old, new)
 
 
 def make_secrets():
-    """A certificate of this machine, its key, a file of passwords, and the one of who may do what."""
+    """Makes a certificate of this machine, its key, a file of passwords, and the file of rights."""
     subject = ["-subj", f"/CN={HOST}", "-addext", f"subjectAltName=IP:{LOOPBACK},DNS:{HOST}"]
     files = ["-keyout", ROOM / "key.pem", "-out", ROOM / "certificate.pem"]
     key = ["-newkey", "ec", "-pkeyopt", "ec_paramgen_curve:prime256v1", "-nodes"]
@@ -77,8 +78,9 @@ def make_secrets():
 
 
 def site(socket_path, port, rate=1000):
-    """The site of deploy/nginx.conf with a port and files of this machine, a server's socket, and this number of requests a second. The address is a name
-    of the site, too, since no resolver knows the host's name."""
+    """Returns the site of deploy/nginx.conf with a port and files of this machine, a server's
+    socket, and this number of requests a second. The address is a name of the site, too, because no
+    resolver knows the host's name."""
     text = (DEPLOY / "nginx.conf").read_text()
     text = replaced(text, "server unix:/run/tfstated/tfstated.sock;", f"server unix:{socket_path};")
     text = replaced(text, "listen 443 ssl;", f"listen {LOOPBACK}:{port} ssl;")
@@ -90,14 +92,15 @@ def site(socket_path, port, rate=1000):
 
 
 def spread_site(servers, port):
-    """The site with the lines for a second server, which has the names that begin with `billing.`."""
+    """Returns the site with the lines for a second server, which has the names that begin with
+    `billing.`."""
     text = replaced(site(servers[0].path, port), "# ~^billing", "~^billing")
     text = replaced(text, "# upstream tfstated_2", "upstream tfstated_2")
     return replaced(text, "server unix:/run/tfstated-2/tfstated.sock;", f"server unix:{servers[1].path};")
 
 
 def serving(folder=None, path=None, workers="2"):
-    """A server that listens at a unix socket, on a folder of its own if none is given."""
+    """Returns a server that listens on a unix socket, on a folder of its own if none is given."""
     return Serving(folder or fresh(n1=b"TFJ1\n"), path=path or fresh() / "tfstated.sock", workers=workers).listens()
 
 
@@ -136,7 +139,8 @@ class Nginx:
         return http.client.HTTPSConnection(LOOPBACK, self.port, timeout=SECONDS, context=context)
 
     def ask(self, method, target, body=None, headers=WITH_PASSWORD):
-        """The status and the body of the reply to one request, on a connection of its own."""
+        """Returns the status and the body of the reply to one request, on a connection of its
+        own."""
         connection = self.connect()
         try:
             return ask_over(connection, method, target, body, headers)
@@ -146,7 +150,7 @@ class Nginx:
 
 @contextlib.contextmanager
 def served(workers="4"):
-    """A server with nginx in front of it."""
+    """Runs a server with nginx in front of it."""
     server, port = serving(workers=workers), free_port()
     with Nginx(site(server.path, port), port) as proxy:
         yield server, proxy
@@ -154,7 +158,7 @@ def served(workers="4"):
 
 
 def state_of(size):
-    """The text of a state of so many bytes."""
+    """Returns the text of a state of this many bytes."""
     return S1[:-1] + b',"x":"' + b"y" * (size - len(S1) - 7) + b'"}'
 
 
@@ -259,7 +263,7 @@ def check_the_log_has_a_line_of_json_for_each_request():
 
 
 def told_in(path, count):
-    """The lines of a log, once there are so many."""
+    """Returns the lines of a log, once there are this many."""
     end = time.monotonic() + SECONDS
     while len(path.read_text().splitlines()) < count and time.monotonic() < end:
         time.sleep(0.05)
@@ -279,14 +283,16 @@ def check_healthz_tells_whether_the_server_answers():
 
 
 def check_a_flood_is_refused_and_what_is_usual_waits():
-    """Of 300 requests at once 101 are answered, and up to 20 more in each second that their coming takes."""
+    """Of 300 concurrent requests 101 are answered, and up to 20 more in each second of their
+    arrival."""
     server, port = serving(), free_port()
     with Nginx(site(server.path, port, rate=20), port) as proxy:
         began = time.monotonic()
         expect([proxy.ask("GET", "/state/a")[0] for _ in range(30)], [404] * 30)
         expect(time.monotonic() - began > 0.5, True, "30 requests wait, and are answered")
         connections = [proxy.connect() for _ in range(300)]
-        # All have their connection before the first one asks, so that the requests come at once, however slow the machine is.
+        # All have their connection before the first request, so the requests come at once, however
+        # slow the machine is.
         for connection in connections:
             connection.connect()
         for connection in connections:
@@ -333,7 +339,7 @@ def check_bodies_of_16_mebibytes_pass():
 
 
 def chunked(pieces):
-    """A body in chunks (RFC 9112, section 7.1)."""
+    """Returns a body in chunks (RFC 9112, section 7.1)."""
     return b"".join(b"%x\r\n%b\r\n" % (len(piece), piece) for piece in pieces) + b"0\r\n\r\n"
 
 
@@ -353,7 +359,8 @@ def check_bodies_in_chunks_pass():
 
 
 def wait_as(kind, connection):
-    """Is a client that sends a part of a body, sends a part of a head, or doesn't read its reply."""
+    """Acts as a client that sends a part of a body, sends a part of a head, or doesn't read its
+    reply."""
     connection.connect()
     fields = "".join(f"{name}: {value}\r\n" for name, value in {"Host": LOOPBACK, **WITH_PASSWORD}.items())
     texts = {"body": f"POST /state/a HTTP/1.1\r\n{fields}Content-Length: 1000\r\n\r\n{'x' * 10}", "head": f"GET /state/a HTTP/1.1\r\n{fields}",
@@ -362,8 +369,9 @@ def wait_as(kind, connection):
 
 
 def check_clients_that_wait_hold_no_worker():
-    """The server has one worker. Each client that came to it before its request is whole, or while its reply isn't read, would hold this worker for 10
-    seconds or longer, and the request after all of them would end by its limit of time. nginx has more patience than that here."""
+    """The server has one worker. Each client that reached it before its request is complete, or
+    while its reply isn't read, would hold this worker for 10 seconds or longer, and the request
+    after all of them would exceed its time limit. nginx has more patience than that here."""
     server, port = serving(workers="1"), free_port()
     text, count = re.subn(r"\b(client_header_timeout|client_body_timeout|send_timeout) \d+s", r"\1 300s", site(server.path, port))
     expect(count, 3, "limits of time for clients")

@@ -1,4 +1,5 @@
-"""Makes the package and looks at it without installing it: its files and their sums, what its control file and its manual pages say, and its units."""
+"""Makes the package and checks it without installing it: its files and their sums, the contents of
+its control file and of its manual pages, and its units."""
 import hashlib
 import re
 import shutil
@@ -34,7 +35,7 @@ def made(ending):
 
 
 def tool(*words):
-    """The status of a tool, and what it prints."""
+    """Returns the status of a tool, and its output."""
     ran = subprocess.run([str(word) for word in words], stdout=subprocess.PIPE, stderr=subprocess.STDOUT, timeout=SECONDS, check=False)
     return ran.returncode, ran.stdout.decode()
 
@@ -104,7 +105,8 @@ def check_the_manual_has_each_option_and_each_status():
 
 
 def check_a_start_that_a_person_has_to_look_at_is_not_tried_again():
-    """The unit against docs/FOLDER.md: its table, and the statuses after which the unit retries."""
+    """Compares the unit with docs/FOLDER.md: its table, and the statuses after which the unit
+    retries."""
     text = (TOP / "docs" / "FOLDER.md").read_text()
     again = set(re.search(r"The package's unit\s+retries\s+after\s+(\d+)\s+and\s+(\d+)\.", text).groups())
     others = set(re.findall(r"^\| (2\d) \| ", text, re.M)) - again
@@ -115,7 +117,7 @@ def check_a_start_that_a_person_has_to_look_at_is_not_tried_again():
 
 
 def settings_of(unit):
-    """The settings of a unit that follow its commands and limits, as they are written there."""
+    """Returns the settings of a unit after its commands and limits, as they are written there."""
     text = (TOP / "deploy" / f"{unit}.service").read_text()
     return set(re.findall(r"^\w+=.*$", text[text.index("\nNoNewPrivileges=") :].split("\n[")[0], re.M))
 
@@ -124,7 +126,7 @@ def check_the_other_units_are_hardened_as_the_server():
     wanted = {line for line in settings_of(UNITS[0]) if not line.startswith("RestrictAddressFamilies=")}
     expect(len(wanted) > 20, True, wanted)
     for unit in UNITS[1:]:
-        # The standby asks the first machine.
+        # The standby connects to the first machine.
         may_lack = {"IPAddressDeny=any"} if unit == "tfstated-standby" else set()
         expect(wanted - settings_of(unit) - may_lack, set(), unit)
 

@@ -1,6 +1,7 @@
-"""Runs each command of deploy/'s pages, in the order of an operator's days, in a folder of its own: with the package, a real nginx, openssl and curl, and with
-stand-ins for what changes a whole system. tests/deploy/deploy_commands.py runs those of Terraform, and tests/deploy/try_package.py blocks, and what asks systemd,
-under a real one."""
+"""Runs each command of deploy/'s pages, in the order of an operator's days, in a folder of its own:
+with the package, a real nginx, openssl and curl, and with stand-ins for commands that change a
+whole system. tests/deploy/deploy_commands.py runs the commands of Terraform, and
+tests/deploy/try_package.py runs blocks, and commands for systemd, under a real one."""
 import contextlib
 import json
 import os
@@ -20,7 +21,7 @@ from metrics import read_metrics
 from page_blocks import INSTALL, MONITOR, PAGE, TERRAFORM, command, commands_in, commands_of, left_out, places, take, take_all
 from repository import TOP
 
-# The folders of the machine that the pages are about, and of its standby.
+# The folders of the machine that the pages describe, and of its standby.
 ROOM, STANDBY = fresh(), fresh()
 ROOT = ROOM / "root"
 JOURNAL = ROOT / "var/lib/tfstated/journal"
@@ -29,7 +30,7 @@ PROTOCOL = (TOP / "docs" / "PROTOCOL.md").read_text()
 
 
 def prepare(room):
-    """The folder of a machine: a certificate, the package, and the stand-ins."""
+    """Prepares the folder of a machine: a certificate, the package, and the stand-ins."""
     subject = ["-subj", "/CN=tfstated.example.com", "-addext", "subjectAltName=DNS:tfstated.example.com"]
     key = ["-newkey", "ec", "-pkeyopt", "ec_paramgen_curve:prime256v1", "-nodes", "-days", "2"]
     files = ["-keyout", room / "key.pem", "-out", room / "certificate.pem"]
@@ -46,7 +47,7 @@ def prepare(room):
 
 
 def start(block, room=ROOM):
-    """A shell that runs a block on a machine."""
+    """Starts a shell that runs a block on a machine."""
     page_tools.enter(room)
     variables = {"ROOM": str(room), "FIRST": str(ROOM), "PATH": f"{room}/tools:{room}/root/usr/bin:{room}/root/usr/sbin:{os.environ['PATH']}",
                  "PYTHONPATH": os.pathsep.join(sys.path), "TFSTATED_NGINX": f"{room}/root/etc/nginx/tfstated"}
@@ -55,7 +56,7 @@ def start(block, room=ROOM):
 
 
 def run(block, room=ROOM):
-    """What a block writes on a machine; it is to end well."""
+    """Returns what a block writes on a machine. The block must succeed."""
     started = start(block, room)
     text = started.communicate(timeout=2 * SECONDS)[0]
     expect(started.returncode, 0, f"{block}\n{text}")
@@ -63,7 +64,7 @@ def run(block, room=ROOM):
 
 
 def run_until_it_listens(block):
-    """What a block writes until its server listens, which is ended then."""
+    """Returns what a block writes until its server listens. The server is then ended."""
     started, text = start(block), ""
     while "listening" not in text and (line := started.stdout.readline()):
         text += line
@@ -75,12 +76,12 @@ def run_until_it_listens(block):
 
 
 def do(*titles):
-    """What the blocks under these headings write."""
+    """Returns what the blocks under these headings write."""
     return "".join(run(block) for title in titles for block in take_all(title))
 
 
 def ask(method, target, body=None, **how):
-    """The status and the body of a reply through nginx."""
+    """Returns the status and the body of a reply through nginx."""
     words = ["curl", "-s", "-o", "-", "-w", "\n%{http_code}", "-X", method, f"https://tfstated.example.com{target}"]
     for name, value in how.get("headers", {}).items():
         words += ["-H", f"{name}: {value}"]
@@ -93,7 +94,7 @@ PASSWORDS = {}
 
 
 def told_passwords(text):
-    """The users with their passwords, as a block tells them."""
+    """Returns the users with their passwords, as a block prints them."""
     return dict(line.split() for line in text.splitlines() if len(line.split()) == 2 and len(line.split()[1]) == 24)
 
 
@@ -185,7 +186,8 @@ def check_users():
 
 
 def waits_for_status(user, password, wanted):
-    """Whether a user gets a status before long, since nginx takes a moment for new files."""
+    """Returns true if a user gets a status before long, because nginx takes a moment for new
+    files."""
     end = time.monotonic() + SECONDS
     while time.monotonic() < end:
         if ask("GET", "/state/network.prod", headers=signed(user, password))[0] == wanted:
@@ -227,7 +229,7 @@ def check_an_upgrade_and_a_restore_keep_the_states():
 
 
 def check_a_least_position_counts_what_was_accepted():
-    """Reads, refusals, copies, starts, shorter journals and a restore are no changes."""
+    """Reads, refusals, copies, starts, compactions and a restore are no changes."""
     do("Use a replicated volume")
     admin, least = signed("admin", PASSWORDS["admin"]), ROOT / "var/lib/tfstated-least/position"
     changes = 4 + PUT_AWAY
@@ -269,7 +271,7 @@ def check_a_standby_gets_the_journals_and_takes_over():
 
 
 def check_a_damaged_journal_is_cut_or_passed_over():
-    """Over a newest journal whose last record is damaged, and over an older one."""
+    """With a newest journal whose last record is damaged, and with an older one."""
     listen = f"--listen {LOOPBACK}:{free_port()}"
     newest, older = fresh(n2=NEWEST[:-1] + b"x"), fresh(n1=NEWEST[:-1] + b"x", n2=REBASED)
     file, past = newest / f"{named(2)}.tfj", older / f"{named(1)}.tfj"

@@ -1,6 +1,7 @@
-"""Checks the picture of a state and of the answer to an impact query, by the example of docs/PROTOCOL.md and by odd addresses, and
-that docs/PROTOCOL.md says what to do about each refusal and docs/FOLDER.md about each fault, and that no block of deploy/'s pages has commands that no
-test finds."""
+"""Checks the picture of a state and of the answer to an impact query, with the example of
+docs/PROTOCOL.md and with odd addresses. Checks that docs/PROTOCOL.md says what to do about each
+refusal and docs/FOLDER.md about each fault, and that no block of deploy/'s pages has commands that
+no test finds."""
 import re
 import shutil
 import subprocess
@@ -34,12 +35,12 @@ DRAWN = """digraph impact {
 
 
 def block(title):
-    """The text of the block of the page that comes after a line."""
+    """Returns the text of the block of the page that comes after a line."""
     return PROTOCOL.split(title, 1)[1].split("```", 2)[1].split("\n", 1)[1]
 
 
 def answered(text, query):
-    """The body of the program's answer to a query over a state."""
+    """Returns the body of the program's answer to a query over a state."""
     body = text.encode()
     push = b"POST /state/a HTTP/1.1\r\nHost: h\r\nContent-Length: %d\r\n\r\n" % len(body) + body
     output = run(push + f"GET /impact/a/any?{query} HTTP/1.1\r\nHost: h\r\n\r\n".encode())[0]

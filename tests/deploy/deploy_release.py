@@ -1,5 +1,5 @@
-"""Makes a release and looks at it: its sums, its bill of materials, and that a second build of
-it in another folder, with other settings, has the same bytes."""
+"""Makes a release and checks it: its sums, its bill of materials, and that a second build in
+another folder, with other settings, has the same bytes."""
 import hashlib
 import json
 import os
@@ -18,7 +18,7 @@ from checking import SECONDS, checks_in, expect, run_checks
 from repository import TOP
 
 MADE = [*release.files(), release.SUMS]
-# What CycloneDX 1.5 requires of objects, and what it allows besides of what the bill uses.
+# What CycloneDX 1.5 requires of objects, and what it also allows of what the bill uses.
 SHAPES = {
     "bill": (
         "bomFormat specVersion",
@@ -114,7 +114,7 @@ def check_the_bill_has_each_crate_and_each_library():
 
 
 def check_a_library_that_is_not_listed_is_found():
-    """The bill's makers fail on a crate that uses a library which the list lacks."""
+    """The bill isn't made if a crate uses a library that the list lacks."""
     try:
         reached(["a"], {"a": ["unlisted"]}, libraries())
     except KeyError:
@@ -123,7 +123,7 @@ def check_a_library_that_is_not_listed_is_found():
 
 
 def check_the_list_of_libraries_is_the_kits():
-    """Versions, licences and used libraries, as the kit's files have them."""
+    """Versions, licences and used libraries are as the kit's files have them."""
     if not shutil.which("rt"):
         print("rt isn't there: deploy/libraries.txt isn't compared with the kit")
         return
@@ -148,7 +148,7 @@ def check_each_part_of_a_bill_is_reached():
 
 
 def copied(folder):
-    """Returns a copy of the files of the repository, without its history and what was made."""
+    """Returns a copy of the files of the repository, without its history and without made files."""
     left_out = shutil.ignore_patterns(".git", "out", "dist", "journal", "__pycache__")
     shutil.copytree(TOP, folder, ignore=left_out)
     return folder

@@ -1,6 +1,8 @@
-"""Runs Terraform itself over the setup of deploy/, with nginx, TLS and a password: a configuration is applied, and locked against others; two
-applies at once, an apply while the server restarts and while it shortens its journal, pushes that are refused, 4,000 instances, and odd keys. The
-resource `terraform_data` is in Terraform, so nothing is downloaded. tests/deploy/deploy_commands.py has the commands of the page."""
+"""Runs Terraform itself with the setup of deploy/, with nginx, TLS and a password: a configuration
+is applied, and locked against others; two applies at once, an apply while the server restarts and
+while it compacts its journal, pushes that are refused, 4,000 instances, and odd keys. The resource
+`terraform_data` is part of Terraform, so nothing is downloaded. tests/deploy/deploy_commands.py has
+the commands of the page."""
 import contextlib
 import json
 import os
@@ -20,13 +22,14 @@ from page_blocks import configuration
 RESOURCES = """resource "terraform_data" "a" { input = "1" }
 resource "terraform_data" "b" { input = terraform_data.a.output }
 """
-# Takes until a file named `go` is there, and tells by one named `begun` that it has begun.
+# Takes until a file named `go` exists, and shows by a file named `begun` that it has begun.
 SLOW = """resource "terraform_data" "slow" {
   provisioner "local-exec" { command = "touch begun; while [ ! -e go ]; do sleep 0.05; done" }
 }
 """
-# Instances of a module that has 50 instances of each of two resources. Terraform makes two of these modules: its time grows with the square of
-# the instances, so the other 38 are copies of the first one in the state.
+# Instances of a module that has 50 instances of each of two resources. Terraform makes two of these
+# modules: its time grows with the square of the instances, so the other 38 are copies of the first
+# one in the state.
 LARGE = """module "part" {
   source   = "./part"
   for_each = toset([for number in range(2) : "part ${number}"])
@@ -70,7 +73,7 @@ class Project:
             (self.folder / name / "main.tf").write_text(content)
 
     def name_backend(self, port, name, tries=0, user=USER):
-        """Gives it the page's block, with another address and user."""
+        """Gives the folder the page's block, with another address and user."""
         block = replaced(configuration(), '"network-ci"', f'"{user}"')
         block = replaced(block, "retry_max      = 5", f"retry_max      = {tries}")
         block = block.replace("tfstated.example.com/state/network.prod", f"{LOOPBACK}:{port}/state/{name}")
@@ -78,7 +81,7 @@ class Project:
         return self
 
     def popen(self, *words, **how):
-        """A command in its folder, which goes on by itself."""
+        """Starts a command in its folder, without waiting for it."""
         variables = {"TF_HTTP_PASSWORD": PASSWORD, "SSL_CERT_FILE": str(ROOM / "certificate.pem"), "CHECKPOINT_DISABLE": "1",
                      "TF_IN_AUTOMATION": "1", "HOME": str(self.folder), "TF_CLI_CONFIG_FILE": "/dev/null", **self.variables}
         how = {"stdin": subprocess.DEVNULL, "stderr": subprocess.STDOUT, **how}
@@ -87,15 +90,15 @@ class Project:
         return started
 
     def start(self, *words):
-        """Terraform, which goes on by itself."""
+        """Starts Terraform, without waiting for it."""
         return self.popen("terraform", *words, "-no-color")
 
     def run(self, *words):
-        """Whether Terraform ends well, and what it writes."""
+        """Returns whether Terraform succeeds, and what it writes."""
         return ended(self.start(*words))
 
     def do(self, *words):
-        """What Terraform writes, which is to end well."""
+        """Returns what Terraform writes. Terraform must succeed."""
         good, text = self.run(*words)
         expect(good, True, f"{words}: {text}")
         return text
@@ -112,7 +115,7 @@ class Project:
 
 
 def ended(process):
-    """Whether Terraform ended well, and what it wrote."""
+    """Returns whether Terraform succeeded, and what it wrote."""
     text = process.communicate(timeout=2 * SECONDS)[0]
     STARTED.remove(process)
     return process.returncode == 0, text
@@ -179,7 +182,7 @@ def check_an_apply_goes_on_over_a_restart():
 
 
 def compacted(folder):
-    """Asks for a shorter journal, and waits until the server goes on in it."""
+    """Requests a compaction, and waits until the server continues in the new journal."""
     before = max(int(path.stem[8:]) for path in folder.glob("*.tfj"))
     (folder / "compact").touch()
     goes_on_alone(folder, before)
@@ -229,12 +232,13 @@ def check_older_and_other_states_are_refused_also_where_terraform_is_forced():
 
 
 def asked(address):
-    """An address as it is asked for. Terraform prints `${` and `%{` of a key doubled, and the address of the server has the key as it is."""
+    """Returns an address as it is queried. Terraform prints `${` and `%{` of a key doubled, and the
+    server's address has the key unchanged."""
     return re.sub(r'\["(?:[^"\\]|\\.)*"\]$', lambda key: key[0].replace("$${", "${").replace("%%{", "%{"), address)
 
 
 def impacts(server, name, addresses):
-    """What the server answers of each address, on as few connections as it allows."""
+    """Returns the server's answers about each address, on as few connections as it allows."""
     connection, found = server.connect(), {}
     with contextlib.closing(connection):
         for address in addresses:
@@ -245,7 +249,7 @@ def impacts(server, name, addresses):
 
 
 def multiplied(text):
-    """The state with 40 modules in the place of two, under the next serial."""
+    """Returns the state with 40 modules instead of two, with the next serial."""
     state = json.loads(text)
     first = [resource for resource in state["resources"] if resource["module"] == 'module.part["part 0"]']
     more = [{**resource, "module": f'module.part["part {number}"]'} for number in range(2, 40) for resource in first]

@@ -1,5 +1,6 @@
-"""Runs deploy/tfstated-user in a folder of its own: users are added, changed, listed and removed, each alone, whatever characters their names share; files
-keep owner, group and mode; and a real nginx lets each user do what its line says. Wrong names and patterns are refused."""
+"""Runs deploy/tfstated-user in a folder of its own: users are added, changed, listed and removed,
+each alone, whatever characters their names share; files keep owner, group and mode; and a real
+nginx gives each user the rights of its line. Invalid names and patterns are refused."""
 import os
 import shutil
 import subprocess
@@ -25,7 +26,8 @@ class Users:
             self.add(name)
 
     def run(self, *words, status=0):
-        """What the script writes on standard output, or on standard error if it is to fail."""
+        """Returns what the script writes to standard output, or to standard error if it is to
+        fail."""
         variables = {**os.environ, "TFSTATED_NGINX": str(self.folder)}
         how = {"stdin": subprocess.DEVNULL, "capture_output": True, "text": True, "timeout": SECONDS, "check": False}
         ran = subprocess.run([str(SCRIPT), *words], env=variables, **how)
@@ -42,17 +44,17 @@ class Users:
         return self.access.read_text().splitlines()
 
     def hashes(self):
-        """The hash of each user's password, by its name."""
+        """Returns the hash of each user's password, by the user's name."""
         return dict(line.split(":", 1) for line in self.passwords.read_text().splitlines())
 
     def files(self):
-        """Each file with its bytes, owner, group and mode."""
+        """Returns each file with its bytes, owner, group and mode."""
         found = {path.name: (path.read_bytes(), path.stat()) for path in self.folder.iterdir()}
         return {name: (text, about.st_uid, about.st_gid, about.st_mode) for name, (text, about) in found.items()}
 
 
 def is_hash_of(hashed, word):
-    """Whether a password has this hash."""
+    """Returns true if a password has this hash."""
     return quiet("openssl", "passwd", "-6", "-salt", hashed.split("$")[2], word).decode().strip() == hashed
 
 

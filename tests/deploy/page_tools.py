@@ -1,10 +1,12 @@
-"""Stand-ins for the commands of deploy/'s pages that change a whole system, so that the page can be run in a folder: dpkg, install, runuser, systemctl,
-journalctl, nginx, curl, man, useradd, usermod, ssh-keyscan, and rsync, which takes files from another folder in place of a machine. They know of one
-folder, which is the root of the page's paths, and of units what systemd does with their commands.
+"""Stand-ins for the commands of deploy/'s pages that change a whole system, so that the page can be
+run in a folder: dpkg, install, runuser, systemctl, journalctl, nginx, curl, man, useradd, usermod,
+ssh-keyscan, and rsync, which takes files from another folder instead of a machine. They use one
+folder, which is the root of the page's paths, and do to units what systemd does on their commands.
 
     python3 tests/deploy/page_tools.py TOOL ARGUMENT ..
 
-ROOM names the folder: its `root` has the files, its `ports` the ports of nginx and of the server. FIRST names that of the first machine."""
+ROOM names the folder: its `root` has the files, its `ports` the ports of nginx and of the server.
+FIRST names the folder of the first machine."""
 import contextlib
 import os
 import re
@@ -40,7 +42,7 @@ http {{
 
 
 def moved(text):
-    """A text of the page or of a unit, whose paths and port are those of the room."""
+    """Returns a text of the page or of a unit with the paths and the port of the room."""
     for path in OWN:
         text = re.sub(rf"(?<!{re.escape(str(ROOT))}){re.escape(path)}", f"{ROOT}{path}", text)
     for name in ("install", "rsync"):
@@ -49,18 +51,18 @@ def moved(text):
 
 
 def port_of(name):
-    """The port of nginx, or of a server without --listen."""
+    """Returns the port of nginx, or of a server without --listen."""
     return (ROOM / "ports").read_text().split()[("nginx", "server").index(name)]
 
 
 def enter(room):
-    """Has all that follows know of another folder."""
+    """Has all later commands use another folder."""
     global ROOM, ROOT
     ROOM, ROOT = room, room / "root"
 
 
 def real(name):
-    """The command itself, which stands behind its stand-in on the PATH."""
+    """Returns the path of the real command, which comes after its stand-in on the PATH."""
     path = os.pathsep.join(folder for folder in os.environ["PATH"].split(os.pathsep) if Path(folder) != ROOM / "tools")
     return shutil.which(name, path=path)
 
@@ -77,13 +79,14 @@ def dpkg(words):
 
 
 def install(words):
-    """Leaves owners and groups out, since there is no user of the service."""
+    """Leaves owners and groups out, because the service's user doesn't exist here."""
     kept = [word for before, word in zip(["", *words], words) if word not in ("-o", "-g") and before not in ("-o", "-g")]
     return run(real("install"), *kept)
 
 
 def runuser(words):
-    """Runs a command; a start that has the default address gets the one of the room, since somebody else may listen at 8080."""
+    """Runs a command. A start that has the default address gets the room's, because another program
+    may listen on 8080."""
     if words[:3] != ["-u", "tfstated", "--"]:
         return 2
     serves = "serve" in words and "--listen" not in words
@@ -103,7 +106,8 @@ def rsync(words):
 
 
 def nothing(words):
-    """What has no meaning in a folder: a user, a login shell, the keys of another machine."""
+    """Does nothing for commands without a meaning in a folder: a user, a login shell, the keys of
+    another machine."""
     return 0
 
 
@@ -115,14 +119,14 @@ def man(words):
 
 
 def journalctl(words):
-    """Tells what the server has written since its last start."""
+    """Prints what the server has written since its last start."""
     if words != ["-u", "tfstated"]:
         return 2
     return run("cat", ROOM / "server.log")
 
 
 def nginx(words):
-    """Looks at the site of the page within a configuration of the room."""
+    """Checks the site of the page within a configuration of the room."""
     (ROOM / "site.conf").write_text(moved((ROOT / "etc/nginx/conf.d/tfstated.conf").read_text()))
     text = AROUND.format(room=ROOM)
     (ROOM / "nginx.conf").write_text(text if os.getuid() == 0 else text.replace("user root;\n", ""))
@@ -130,7 +134,8 @@ def nginx(words):
 
 
 def commands_of(unit, setting="ExecStart"):
-    """The words of each command of a service, with those of its drop-ins: an empty one takes away those before it."""
+    """Returns the words of each command of a service, including those of its drop-ins; an empty one
+    removes the previous ones."""
     folders = [ROOT / "etc/systemd/system", ROOT / "usr/lib/systemd/system"]
     files = [next(folder / unit for folder in folders if (folder / unit).exists()), *sorted((folders[0] / f"{unit}.d").glob("*.conf"))]
     found = []
@@ -140,14 +145,15 @@ def commands_of(unit, setting="ExecStart"):
 
 
 def start(unit):
-    """Starts the server and waits until it listens, or does what another unit does once; notes whether it failed."""
+    """Starts the server and waits until it listens, or does what another unit does once. Records
+    whether it failed."""
     status = start_server() if unit == "tfstated.service" else max((run(*command) for command in commands_of(unit)), default=0)
     (ROOM / f"{unit}.failed").write_text("failed" if status else "")
     return status
 
 
 def start_server():
-    """Starts the server and waits until it listens or has ended; a status."""
+    """Starts the server and waits until it listens or has ended. Returns a status."""
     if alive():
         return 0
     for command in commands_of("tfstated.service", "ExecStartPre"):
@@ -166,13 +172,15 @@ def pid_of(name):
 
 
 def has_ended(process, seconds):
-    """Whether all threads of a process have ended, before this time has passed: a thread that hasn't keeps the files open, and their locks."""
+    """Returns true if all threads of a process have ended before this time has passed. A running
+    thread keeps the files open, and their locks."""
     return bool(select.select([process], [], [], seconds)[0])
 
 
 @contextlib.contextmanager
 def process_of(name):
-    """A descriptor of the process of the server or of nginx; none if there is no such process."""
+    """Yields a descriptor of the process of the server or of nginx; none if there is no such
+    process."""
     try:
         process = os.pidfd_open(pid_of(name)) if pid_of(name) else None
     except ProcessLookupError:
@@ -183,7 +191,7 @@ def process_of(name):
 
 
 def alive(name="server"):
-    """Whether a process runs; one that has ended and waits for its parent doesn't."""
+    """Returns true if a process runs; one that has ended and waits for its parent doesn't."""
     with process_of(name) as process:
         return process is not None and not has_ended(process, 0)
 
@@ -198,7 +206,7 @@ def stop(name):
 
 
 def start_nginx():
-    """Starts nginx, and waits until its process is known; a status."""
+    """Starts nginx, and waits until its process is known. Returns a status."""
     status = nginx([])
     while not status and not alive("nginx"):
         time.sleep(0.05)
@@ -206,7 +214,7 @@ def start_nginx():
 
 
 def act(verb, unit):
-    """What a verb of systemctl does with a unit."""
+    """Does what a verb of systemctl does with a unit."""
     if unit == "nginx":
         if verb == "reload":
             return nginx(["-s", "reload"])
@@ -220,7 +228,8 @@ def act(verb, unit):
 
 
 def tell(verb, unit):
-    """Prints what became of a unit: with `is-failed` status 0 where it failed, with `status` 3 where it doesn't run."""
+    """Prints the outcome of a unit. Returns a status: `is-failed` has 0 if it failed, `status` has
+    3 if it doesn't run."""
     path, runs = ROOM / f"{unit}.service.failed", unit == "tfstated" and alive()
     failed = not runs and path.exists() and path.read_text() == "failed"
     print("failed" if failed else "active" if runs else "inactive", flush=True)

@@ -1,5 +1,6 @@
-"""A stand-in for S3, over plain HTTP on the loopback, as far as Terraform's backend `s3` asks: objects by their paths, in memory, a list of those that
-begin with a prefix, and an object that is written only where there is none. Nothing looks at signatures."""
+"""A stand-in for S3, over plain HTTP on the loopback interface, as far as Terraform's backend `s3`
+needs it: objects by their paths, in memory, a list of the objects with a prefix, and an object that
+is written only if it doesn't exist. Signatures aren't checked."""
 import contextlib
 import http.server
 import threading
@@ -22,7 +23,7 @@ class Requests(http.server.BaseHTTPRequestHandler):
         self.wfile.write(b"" if self.command == "HEAD" else body)
 
     def key(self):
-        """The object that is asked for, and the query."""
+        """Returns the requested object's key, and the query."""
         target = urllib.parse.urlsplit(self.path)
         return urllib.parse.unquote(target.path).removeprefix(f"/{BUCKET}").lstrip("/"), dict(urllib.parse.parse_qsl(target.query))
 
@@ -50,12 +51,12 @@ class Requests(http.server.BaseHTTPRequestHandler):
         return self.reply(204)
 
     def log_message(self, *words):
-        """Says nothing."""
+        """Logs nothing."""
 
 
 @contextlib.contextmanager
 def s3(port):
-    """The objects, by their paths, while it serves them at a port."""
+    """Serves objects at a port. Yields them by their paths."""
     server = http.server.ThreadingHTTPServer((LOOPBACK, port), Requests)
     server.daemon_threads, server.objects = True, {}
     threading.Thread(target=server.serve_forever, daemon=True).start()

@@ -1,6 +1,8 @@
-"""Loses, cuts off and brings back a server among three hosts in network namespaces of one machine, with the commands of the units of deploy/: what a
-standby by copies has, what two servers at once do, and which starts a least position refuses. It needs root, ip, rsync and curl. Who tries another
-storage gives `Standby` what brings the journals from one host to the other. The last line is `N passed, M failed`."""
+"""Loses, cuts off and brings back a server among three hosts in network namespaces of one machine,
+with the commands of the units of deploy/: what a standby by copies has, what two servers at once
+do, and which starts a least position refuses. It needs root, ip, rsync and curl. To try another
+storage, give `Standby` what brings the journals from one host to the other. The last line is `N
+passed, M failed`."""
 import json
 import os
 import re
@@ -44,45 +46,47 @@ class Host:
         ip("-n", f"{NAME}-switch", "link", "set", f"port{self.number}", "down")
 
     def start(self, *words):
-        """A program on this host, which goes on by itself."""
+        """Starts a program on this host, without waiting for it."""
         how = {"stdin": subprocess.DEVNULL, "stdout": subprocess.PIPE, "stderr": subprocess.PIPE}
         started = subprocess.Popen(["ip", "netns", "exec", self.space, *map(str, words)], **how)
         STARTED.append(started)
         return started
 
     def run(self, *words):
-        """The status of a program on this host, and what it writes."""
+        """Returns the status of a program on this host, and what it writes."""
         how = {"stdin": subprocess.DEVNULL, "stdout": subprocess.PIPE, "stderr": subprocess.STDOUT, "timeout": SECONDS, "check": False}
         ran = subprocess.run(["ip", "netns", "exec", self.space, *map(str, words)], **how)
         return ran.returncode, ran.stdout.decode()
 
     def ask(self, server, method, target, body=None):
-        """The status and the body of a server's reply to this host; 0 where it gets none within 3 seconds."""
+        """Returns the status and the body of a server's reply to this host; 0 if it gets none
+        within 3 seconds."""
         words = ["curl", "-s", "--max-time", "3", "-X", method, "-w", "\n%{http_code}", f"http://{server.address}:{PORT}{target}"]
         text, _, status = self.run(*words, *(["--data-binary", body] if body else []))[1].rpartition("\n")
         return int(status), text
 
     def serve(self, folder, *words):
-        """A server on this host; fails where it doesn't listen."""
+        """Starts a server on this host. Fails unless it listens."""
         process = self.start(FOLDER_PROGRAM, "serve", folder, "--listen", f"{self.address}:{PORT}", "--workers", "2", *words)
         line = process.stdout.readline().decode()
         expect(line, f"listening {self.address}:{PORT}\n", "it serves" if line else process.stderr.read().decode())
         return process
 
     def begin(self, folder, *words):
-        """A server on this host, in a new folder."""
+        """Starts a server on this host, in a new folder."""
         status, text = self.run(FOLDER_PROGRAM, "init", folder)
         expect(status, 0, text)
         return self.serve(folder, *words)
 
     def refused(self, folder, *words):
-        """The status of a start that is to end by itself, and the name of its fault."""
+        """Makes a start that must end by itself. Returns its status, and the name of its fault."""
         status, text = self.run(FOLDER_PROGRAM, "serve", folder, "--listen", f"{self.address}:{PORT}", *words)
         return status, re.findall(r"\b([A-Z][a-zA-Z]+): ", text)[-1]
 
 
 class Standby:
-    """What deploy/tfstated-standby.service does on the second host; over the network, where the unit has ssh."""
+    """What deploy/tfstated-standby.service does on the second host; over the network instead of the
+    unit's ssh."""
 
     def __init__(self, first, second, folder):
         self.second, self.room = second, fresh()
@@ -101,7 +105,8 @@ class Standby:
         self.least.write_text("0\n")
 
     def copy(self):
-        """The status of the first command that fails, and what it says; else what the last one says."""
+        """Returns the status of the first command that fails, and its text; otherwise the text of
+        the last one."""
         for command in self.commands:
             status, text = self.second.run(*command)
             if status:
@@ -117,7 +122,7 @@ class Standby:
 
 
 def network():
-    """Two hosts for servers and one for clients, on a switch."""
+    """Makes two hosts for servers and one for clients, on a switch."""
     ip("netns", "add", f"{NAME}-switch")
     ip("-n", f"{NAME}-switch", "link", "add", "switch", "type", "bridge")
     ip("-n", f"{NAME}-switch", "link", "set", "switch", "up")
@@ -133,7 +138,7 @@ FIRST = SECOND = CLIENT = None
 
 
 def push(serial, server=None):
-    """Pushes a state of a serial, which is to be accepted."""
+    """Pushes a state with a serial, which must be accepted."""
     text = S1.decode().replace('"serial":1 ', f'"serial":{serial}')
     expect(CLIENT.ask(server or FIRST, "POST", "/state/prod", text), (200, ""), f"serial {serial}")
 
@@ -143,7 +148,7 @@ def serial_at(server, client=None):
 
 
 def end(process):
-    """What fencing does: the server's power goes."""
+    """Does what fencing does: cuts the server's power."""
     process.kill()
     process.wait()
     STARTED.remove(process)

@@ -1,7 +1,9 @@
-"""Installs the package into a fresh Debian tree and runs it under a systemd of its own, in a container without a network: each block of
-deploy/'s pages, each command in its sentences that asks systemd, Terraform's cycle with TLS and a user, who may use the socket, kills, a damaged
-journal, a standby over ssh, and a removal that leaves the journals. It needs root, debootstrap, systemd-nspawn, Terraform and a Debian mirror, which MIRROR may name. The last line
-is `N passed, M failed`."""
+"""Installs the package into a fresh Debian tree and runs it under a systemd of its own, in a
+container without a network: each block of deploy/'s pages, each command for systemd in its
+sentences, Terraform's cycle with TLS and a user, who may use the socket, kills, a damaged journal,
+a standby over ssh, and a removal that leaves the journals. It needs root, debootstrap,
+systemd-nspawn, Terraform and a Debian mirror, which MIRROR may name. The last line is `N passed, M
+failed`."""
 import json
 import os
 import re
@@ -31,7 +33,7 @@ def tool(*words, **how):
 
 
 def base_tree():
-    """A fresh Debian tree with systemd and nginx, which later runs copy."""
+    """Returns a fresh Debian tree with systemd and nginx, which later runs copy."""
     base, done = KEPT / SUITE, KEPT / f"{SUITE}.done"
     if not done.exists() or done.read_text() != INSTALLED:
         shutil.rmtree(base, ignore_errors=True)
@@ -44,7 +46,7 @@ def base_tree():
 
 
 class Container:
-    """A Debian tree under a systemd of its own, with a loopback alone."""
+    """A Debian tree under a systemd of its own, with only a loopback interface."""
 
     def __init__(self, tree):
         self.tree = tree
@@ -57,7 +59,7 @@ class Container:
         self.leader = None
 
     def boots(self):
-        """Whether its systemd is up before long."""
+        """Returns true if its systemd is up before long."""
         end = time.monotonic() + SECONDS
         while time.monotonic() < end and self.process.poll() is None:
             children = Path(f"/proc/{self.process.pid}/task/{self.process.pid}/children").read_text().split()
@@ -69,14 +71,14 @@ class Container:
         return False
 
     def run(self, script, given=None):
-        """The status of a script in it, and what it writes."""
+        """Returns the status of a script in it, and what it writes."""
         words = ["nsenter", "--target", self.leader, "--all", "env", "-i", "PATH=/usr/local/bin:/usr/sbin:/usr/bin:/sbin:/bin", "HOME=/root", "LANG=C.UTF-8"]
         how = {"stdout": subprocess.PIPE, "stderr": subprocess.STDOUT, "timeout": 2 * SECONDS, "check": False, "text": True}
         ran = subprocess.run([*words, "bash", "-e", "-c", script], input=given or "", **how)
         return ran.returncode, ran.stdout
 
     def do(self, script, given=None):
-        """What a script in it writes, which is to end well."""
+        """Returns what a script in it writes. The script must succeed."""
         status, text = self.run(script, given)
         expect(status, 0, f"{script}\n{text}")
         return text
@@ -98,12 +100,12 @@ DIRECT = "--unix-socket /run/tfstated/tfstated.sock http://localhost"
 
 
 def do(*titles):
-    """What the commands under these headings write, which are to end well."""
+    """Returns what the commands under these headings write. They must succeed."""
     return "".join(BOX.do(f"cd /root\n{block}") for title in titles for block in take_all(title))
 
 
 def waits_for(script, text=""):
-    """Waits until a script in the container ends well and writes a text."""
+    """Waits until a script in the container succeeds and writes a text. Returns what it writes."""
     end, found = time.monotonic() + SECONDS, (1, "")
     while time.monotonic() < end and (found[0] or text not in found[1]):
         found = BOX.run(script)
@@ -160,7 +162,7 @@ def check_nginx_may_use_the_socket_and_nobody_else():
 
 
 def terraform(*words):
-    """What Terraform writes in the container, which is to end well."""
+    """Returns what Terraform writes in the container. Terraform must succeed."""
     return BOX.do(f"cd /root/project && TF_HTTP_PASSWORD='{PASSWORDS['network-ci']}' CHECKPOINT_DISABLE=1 terraform {' '.join(words)} -no-color 2>&1")
 
 
@@ -244,7 +246,7 @@ def check_a_damaged_journal_ends_the_start_for_good_and_a_copy_restores_it():
 
 
 def check_a_full_disk_ends_the_server_until_there_is_room():
-    """The folder of the journals gets a disk of 4 MiB of its own, for so long."""
+    """The folder of the journals is on a disk of 4 MiB of its own during the check."""
     BOX.do("systemctl stop tfstated-copy.timer tfstated && mkdir /root/kept && cp -a /var/lib/tfstated/journal /root/kept && mount -t tmpfs -o "
            "size=4m,mode=700,uid=$(id -u tfstated) tmpfs /var/lib/tfstated/journal && cp -a /root/kept/journal/. /var/lib/tfstated/journal && systemctl start tfstated")
     waits_for("curl -fs https://tfstated.example.com/healthz")
@@ -331,7 +333,7 @@ def check_each_block_and_each_command_of_systemd_was_run():
 
 
 def next_deb(folder):
-    """The package again, under a higher version."""
+    """Returns the package again, with a higher version."""
     tool("dpkg-deb", "--raw-extract", package.DIST / f"{package.NAME}.deb", folder)
     for path in (folder / "DEBIAN").iterdir():
         path.write_text(re.sub(rf"(?<![\d.]){re.escape(package.VERSION)}(?!\d|\.\d)", NEXT, path.read_text()))

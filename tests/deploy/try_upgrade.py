@@ -1,8 +1,8 @@
-"""Upgrades a server from the package of the version before, downgrades it and upgrades it again,
-in a container of its own, by each block of docs/UPGRADING.md: states, locks, positions and
-history stay. It needs what tests/deploy/try_package.py needs. BEFORE names the package of the version
-before; without it that version's commit is built by `rt try`, without proofs. The last line is
-`N passed, M failed`."""
+"""Upgrades a server from the package of the previous version, downgrades it and upgrades it again,
+in a container of its own, by each block of docs/UPGRADING.md: states, locks, positions and history
+stay. It needs what tests/deploy/try_package.py needs. BEFORE names the package of the previous
+version; without it that version's commit is built by `rt try`, without proofs. The last line is `N
+passed, M failed`."""
 import json
 import os
 import re
@@ -24,7 +24,7 @@ EARLIER, COMMIT = "0.1.0", "ad81abc309061ea3a998d623941a9b141de7b43c"
 PAGE = (TOP / "docs" / "UPGRADING.md").read_text()
 HOST = "https://tfstated.example.com"
 FOLDER = "/var/lib/tfstated/journal"
-# The checks in a program that isn't proved need more address space than a unit gives.
+# The checks in an unproved program need more address space than a unit gives.
 SMALL = "LimitAS=3G\nMemoryMax=3500M"
 ROOM = "LimitAS=infinity\nMemoryMax=infinity\nSystemCallFilter="
 PASSWORDS, SEEN, TAKEN = {}, {}, set()
@@ -45,12 +45,12 @@ def take(title, number):
 
 
 def box(script):
-    """Returns what a script in the container writes. Fails if it fails."""
+    """Returns what a script in the container writes. Fails if the script fails."""
     return try_package.BOX.do(f"cd /root\n{script}")
 
 
 def earlier_package():
-    """Returns the package of the version before, and makes it if it isn't named."""
+    """Returns the package of the previous version, and makes it if it isn't named."""
     if "BEFORE" in os.environ:
         return Path(os.environ["BEFORE"]).resolve()
     made = KEPT / "before" / "dist" / f"tfstated_{EARLIER}_amd64.deb"
@@ -61,7 +61,7 @@ def earlier_package():
         tool("git", "-C", checkout, "checkout", "--quiet", COMMIT)
         unproved.main(checkout, checkout / "programs")
         given = {name.upper(): str(checkout / "programs" / name) for name in unproved.STARTS}
-        # The version before has its scripts beside its tests.
+        # The previous version may have its scripts in the folder of its tests.
         folder = checkout / ("tools" if (checkout / "tools").is_dir() else "tests")
         tool(sys.executable, "-c", MAKES, cwd=folder, env={**os.environ, **given})
     return made
@@ -78,7 +78,7 @@ def answers():
 
 
 def ask(method, name, body=""):
-    """Returns status and body of the reply to a request of the administrator."""
+    """Returns the status and the body of the reply to a request of the administrator."""
     data = f" --data-binary '{body}'" if body else ""
     words = f"curl -s -w '\\n%{{http_code}}' -u 'admin:{PASSWORDS['admin']}' -X {method}{data}"
     text, _, status = box(f"{words} '{HOST}/state/{name}'").rpartition("\n")
@@ -101,7 +101,7 @@ def look():
     """Returns what the server has: states, holders, and the history of a workspace."""
     found = {name: ask("GET", name) for name in ("network.prod", "locked")}
     found["holder"] = ask("LOCK", "locked", '{"ID":"other"}')
-    # (standard error, which comes with it, has a line of its own for what is no longer kept)
+    # (the standard error that comes with it has a line of its own for what is no longer kept)
     told = box(f"tfstatectl history {FOLDER} network.prod --json 2>/dev/null")
     found["history"] = [(row["act"], row["position"], row["serial"]) for row in json.loads(told)]
     return found

@@ -1,5 +1,6 @@
-"""A plain model of a folder of journals: which of them a start of `tfstatectl serve` goes on from, and what it writes. It is written from
-docs/JOURNAL.md, reads each journal whole, and never runs out of memory."""
+"""A plain model of a folder of journals: which journal a start of `tfstatectl serve` continues, and
+what it writes. It is written from docs/JOURNAL.md, reads each journal whole, and never runs out of
+memory."""
 import re
 
 from journal_reader import MAX_POSITION, base_text, read_journal
@@ -13,13 +14,13 @@ class Fault(Exception):
 
 
 def number_of(name):
-    """The number of a journal's name, or none."""
+    """Returns the number in a journal's name, or None."""
     found = NAME.fullmatch(name)
     return int(found[1]) if found else None
 
 
 def opened(number, data):
-    """The position that a journal ends at, and the rows that it leaves."""
+    """Returns the position at which a journal ends, and its rows at that position."""
     form, position, rows, entries, end = read_journal(data)
     table, unlawful = replay(rows, entries)
     if end.startswith("damaged"):
@@ -33,7 +34,7 @@ def opened(number, data):
 
 
 def started(number, data):
-    """The text that a start writes which goes on from a journal."""
+    """Returns the text that a start writes to continue a journal."""
     position, rows = opened(number, data)
     if position > MAX_POSITION:
         raise Fault("TooFar", number)
@@ -41,7 +42,8 @@ def started(number, data):
 
 
 def chosen(files, least=0):
-    """The number and the bytes of the journal that a start goes on from, and the number of one that a failed start left, or none."""
+    """Returns the number and the bytes of the journal that a start continues, and the number of a
+    journal that a failed start left, or None."""
     journals = sorted((number_of(name), data) for name, data in files.items() if number_of(name) is not None)
     if not journals:
         raise Fault("NoJournal", None)

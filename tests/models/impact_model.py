@@ -1,4 +1,5 @@
-"""A plain model of the impact of changes: the instances of a state by its JSON value, and what a query chooses among them.
+"""A plain model of the impact of changes: the instances of a state, from its JSON value, and what a
+query chooses among them.
 
 It is written from docs/MODEL.md: addresses, dependency, walk and reach, impact."""
 import json
@@ -13,7 +14,7 @@ class QueryFault(Exception):
 
 
 def json_text(value):
-    """The compact JSON text of a value, in which characters beyond ASCII are themselves."""
+    """Returns the compact JSON text of a value, with characters outside ASCII unescaped."""
     return json.dumps(value, ensure_ascii=False, separators=(",", ":"))
 
 
@@ -32,18 +33,18 @@ class Instance:
 
 
 def instances_of(top):
-    """The instances of a state, whose members are given, in order."""
+    """Returns the instances of a state with these members, in order."""
     resources = map(dict, top.get("resources") or [])
     return [Instance(resource, dict(own)) for resource in resources for own in resource.get("instances") or []]
 
 
 def named_by(text, instances):
-    """The numbers of the instances that a text names."""
+    """Returns the numbers of the instances that a text names."""
     return [i for i, instance in enumerate(instances) if text == instance.address or text == instance.configuration]
 
 
 def reached_by(starts, instances):
-    """The numbers of the instances that some of these reach, by one dependency or more."""
+    """Returns the numbers of the instances that some of these reach, by one dependency or more."""
     reached, last = set(), set(starts)
     while last:
         names = {instances[i].configuration for i in last}
@@ -53,7 +54,7 @@ def reached_by(starts, instances):
 
 
 def impact(kind, texts, instances):
-    """The addresses of the instances that a query chooses, or its fault."""
+    """Returns the addresses of the instances that a query chooses, or raises its fault."""
     if not texts:
         raise QueryFault("NoAddress")
     if len(texts) > MAX_TEXTS:

@@ -1,4 +1,5 @@
-"""Reads the text format of Prometheus (prometheus.io/docs/instrumenting/exposition_formats), as far as numbers without labels and times need it."""
+"""Reads the text format of Prometheus (prometheus.io/docs/instrumenting/exposition_formats), as far
+as numbers without labels and times need it."""
 import re
 
 NAME = "[a-zA-Z_:][a-zA-Z0-9_:]*"
@@ -8,13 +9,13 @@ SAMPLE = re.compile(rf"({NAME}) ([0-9]+(?:\.[0-9]+)?)")
 
 
 def number_in(text):
-    """A number: exact where it is whole."""
+    """Returns the number in a text, exactly if it is whole."""
     return int(text) if text.isdigit() else float(text)
 
 
 def read_metrics(text):
-    """The value and the kind of each number by its name. Each has one help text, then one kind, then one value; a count of what has happened is
-    a counter, and its name ends in `_total`."""
+    """Returns the value and the type of each metric by its name. Each has one help text, then one
+    type, then one value; a count of events is a counter, and its name ends in `_total`."""
     if not text.endswith("\n"):
         raise ValueError("the last line has no end")
     lines, found = text[:-1].split("\n"), {}

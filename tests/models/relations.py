@@ -4,18 +4,20 @@ ALL_ONES = 2**64 - 1
 
 
 def mixed(i, j, size):
-    """A number without pattern."""
+    """Returns a number without a pattern."""
     first = ((i * 8192 + j) * 8192 + size) * 0x9E3779B97F4A7C15 & ALL_ONES
     return ((first ^ first >> 29) * 0xBF58476D1CE4E5B9 & ALL_ONES) >> 32
 
 
 def groups_relate(i, j):
-    """Whether the group of ten of a number is related to another one's: no group leads back to itself."""
+    """Returns true if the group of ten of a number is related to another number's. No group leads
+    back to itself."""
     left, right = i // 10 * 7 % 23, j // 10 * 7 % 23
     return left > right and (left - right) % 3 == 1
 
 
-# Whether a relation of a size has a pair. Five have no cycle but for a number that is related to itself, and three have one.
+# Functions that return true if a relation of a size has a pair. Five have no cycle, except for a
+# number that is related to itself, and three have one.
 NAMED = {
     "chain": lambda i, j, size: j == i + 1,
     "falling chain": lambda i, j, size: i == j + 1,
@@ -29,17 +31,17 @@ NAMED = {
 
 
 def at_random(i, j, size):
-    """About two pairs for each number."""
+    """Returns about two pairs for each number."""
     return mixed(i, j, size) % max(size, 1) < 2
 
 
 def pairs_of(relates, size):
-    """The pairs of a relation."""
+    """Returns the pairs of a relation."""
     return [(i, j) for i in range(size) for j in range(size) if relates(i, j, size)]
 
 
 def reached(pairs, start):
-    """The numbers to which a walk over pairs leads, in order."""
+    """Returns the numbers to which a walk over pairs leads, in order."""
     found, last = set(), {start}
     while last:
         last = {j for i, j in pairs if i in last} - found

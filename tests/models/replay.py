@@ -1,4 +1,4 @@
-"""What the entries of a journal leave, by the plain table of stdio_model.py."""
+"""Replays the entries of a journal over the plain table of stdio_model.py."""
 from stdio_model import Locked, Refused, Table, document_of, locked_by
 
 
@@ -6,14 +6,15 @@ METHODS = {"lock": "LOCK", "unlock": "UNLOCK", "push": "POST", "delete": "DELETE
 
 
 def act_of(kind, fields):
-    """The identifier of an entry or none, and what it carries."""
+    """Returns the identifier of an entry, or none, and its content."""
     if kind == "lock":
         return locked_by(fields[0]), fields[0]
     return fields[0].decode() or None, document_of(fields[1]) if kind == "push" else None
 
 
 def replay(rows, entries):
-    """The table that a base and entries leave, and the number of the first entry that isn't lawful, or none."""
+    """Returns the table after a base and entries, and the number of the first unlawful entry, or
+    None."""
     table = Table()
     for name, holder, state in rows:
         table.names.add(name)

@@ -1,4 +1,5 @@
-"""A plain reader of states and lock texts, by their JSON value: what they are read as, in words. It is written from docs/MODEL.md."""
+"""A plain reader of states and lock texts, from their JSON values: what they read as, in words. It
+is written from docs/MODEL.md."""
 from impact_model import Instance, json_text
 from stdio_model import MAX_IDENTIFIER, MAX_INSTANCES, Members, json_of, reads_in_pieces
 
@@ -8,7 +9,7 @@ class Fault(Exception):
 
 
 def value_of(text):
-    """The JSON value of a text."""
+    """Returns the JSON value of a text."""
     try:
         return json_of(text)
     except (ValueError, RecursionError):
@@ -16,28 +17,28 @@ def value_of(text):
 
 
 def is_absent_or(value, kind):
-    """Whether a value is null, or of this type."""
+    """Returns true if a value is null, or of this type."""
     return value is None or type(value) is kind
 
 
 def is_whole(value):
-    """Whether a value is a whole number of 64 bits."""
+    """Returns true if a value is a whole number of 64 bits."""
     return type(value) is int and value < 2**64
 
 
 def is_filled(value):
-    """Whether a value is a text that isn't empty."""
+    """Returns true if a value is a text that isn't empty."""
     return isinstance(value, str) and value != ""
 
 
 def require(is_so, name, *numbers):
-    """Gives a fault where something isn't so."""
+    """Raises a fault unless the condition holds."""
     if not is_so:
         raise Fault(f"{name}({', '.join(map(str, numbers))})" if numbers else name)
 
 
 def instance_of(resource, value, i, j):
-    """Instance j of resource i."""
+    """Returns instance j of resource i."""
     require(type(value) is Members, "Instance", i, j)
     own = dict(value)
     key, listed = own.get("index_key"), own.get("dependencies")
@@ -49,7 +50,7 @@ def instance_of(resource, value, i, j):
 
 
 def instances_of(value, i):
-    """The instances of resource i."""
+    """Returns the instances of resource i."""
     require(type(value) is Members, "Resource", i)
     own = dict(value)
     module, listed = own.get("module"), own.get("instances")
@@ -60,7 +61,7 @@ def instances_of(value, i):
 
 
 def document_of(text):
-    """The serial, the lineage and the instances of a state."""
+    """Returns the serial, the lineage and the instances of a state."""
     value = value_of(text)
     top = dict(value) if type(value) is Members else {}
     serial, lineage, listed = top.get("serial"), top.get("lineage"), top.get("resources")
@@ -74,8 +75,8 @@ def document_of(text):
 
 
 def state_words(text):
-    """The serial and the lineage of a state, and a line for each instance: its addresses, and the numbers of those it depends on; or the
-    first fault."""
+    """Returns the serial and the lineage of a state, and a line for each instance: its addresses,
+    and the numbers of its dependencies; or the first fault."""
     try:
         serial, lineage, instances = document_of(text)
     except Fault as fault:
@@ -88,7 +89,7 @@ def state_words(text):
 
 
 def lock_words(text):
-    """The identifier of a lock text, or its fault."""
+    """Returns the identifier of a lock text, or its fault."""
     try:
         value = value_of(text)
         require(type(value) is Members, "NotObject")

@@ -1,8 +1,9 @@
-"""A plain model of a conversation over a new table: what `tfstated stdio` writes for a list of bytes, and its status.
+"""A plain model of a conversation over a new table: what `tfstated stdio` writes for a list of
+bytes, and its status.
 
-It is written from docs/MODEL.md and docs/PROTOCOL.md: GET, POST, DELETE, LOCK and UNLOCK of a state, and queries for the
-impact of changes. It always looks at all of the bytes and never at how they were cut. It never runs out of memory.
-"""
+It is written from docs/MODEL.md and docs/PROTOCOL.md: GET, POST, DELETE, LOCK and UNLOCK of a
+state, and queries for the impact of changes. It looks at all of the bytes together, never at how
+they were cut, and never runs out of memory."""
 import base64
 import hashlib
 import json
@@ -43,7 +44,7 @@ PIECES = re.compile(r'(?:[^\[\]]|\[[0-9]+\]|\["(?:[^"\\]|\\.)*"\])*', re.DOTALL)
 
 
 def reply_text(status, body=b"", close=False, allow=None):
-    """The bytes of a reply."""
+    """Returns the bytes of a reply."""
     lines = [f"HTTP/1.1 {status} {PHRASES[status]}"]
     lines += [f"Allow: {allow}"] if allow else []
     lines += ["Connection: close"] if close else []
@@ -53,7 +54,7 @@ def reply_text(status, body=b"", close=False, allow=None):
 
 
 def refusal_text(name, close=False, methods=METHODS):
-    """The bytes of a refusal's reply; the methods are those of the route."""
+    """Returns the bytes of a refusal's reply; the methods are those of the route."""
     allow = ", ".join(methods) if name == "MethodNotAllowed" else None
     return reply_text(STATUSES[name], b'{"error":"%s"}' % name.encode(), close, allow)
 
@@ -70,15 +71,15 @@ class Refused(Exception):
 
 
 class NotAllowed(Exception):
-    """The methods of a route that hasn't the request's."""
+    """The methods of a route that lacks the request's."""
 
 
 class Locked(Exception):
-    """The bytes of the holder of a lock that the act doesn't bear."""
+    """The lock information, in bytes, of a holder whose ID the act doesn't have."""
 
 
 def head_of(data):
-    """The skipped lines' length and the head."""
+    """Returns the length of the skipped lines, and the head."""
     skipped = re.match(rb"(?:\r?\n)*", data).end()
     end = re.compile(rb"\n\r?\n").search(data, skipped)
     if end is None or end.end() > MAX_HEAD:
@@ -90,29 +91,29 @@ def head_of(data):
 
 
 class Request:
-    """A request: what its head says, and its body."""
+    """A request: the contents of its head, and its body."""
 
     def __init__(self, method, target, body=b"", version=1, fields=()):
         self.method, self.target, self.body = method, target, body
         self.version, self.fields = version, fields
 
     def values(self, name):
-        """The values of the fields of one name, without spaces and tabs at both ends."""
+        """Returns the values of the fields of one name, without spaces and tabs at both ends."""
         return [value.strip(b" \t") for own, value in self.fields if own == name]
 
     def asks_to_close(self):
-        """Whether the conversation ends after the reply."""
+        """Returns true if the conversation ends after the reply."""
         parts = [part.strip(b" \t").lower() for value in self.values(b"connection") for part in value.split(b",")]
         return self.version == 0 or b"close" in parts
 
     def has_good_digest(self):
-        """Whether there is no digest, or just the right one."""
+        """Returns true if there is no digest, or exactly the right one."""
         values = self.values(b"content-md5")
         return not values or values == [base64.b64encode(hashlib.md5(self.body).digest())]
 
 
 def request_of(head):
-    """The request of a head."""
+    """Returns the request of a head."""
     line = REQUEST_LINE.match(head)
     if line is None:
         raise Refused("BadHead")
@@ -131,14 +132,16 @@ def request_of(head):
 
 
 def require_host(request):
-    """Refuses a request of version 1.1 that has not just one host, and one of version 1.0 with more than one."""
+    """Refuses a request of version 1.1 without exactly one host, and one of version 1.0 with more
+    than one."""
     hosts = len(request.values(b"host"))
     if hosts > 1 or hosts == 0 and request.version == 1:
         raise Refused("NoHost")
 
 
 def is_chunked(request):
-    """Whether the body comes in chunks; refuses what says too much, or what isn't known."""
+    """Returns true if the body comes in chunks. Refuses fields that conflict, are invalid or aren't
+    known."""
     lengths, codings = request.values(b"content-length"), request.values(b"transfer-encoding")
     if len(lengths) > 1 or lengths and codings or any(not re.fullmatch(rb"[0-9]+", value) for value in lengths):
         raise Refused("BadLength")
@@ -148,7 +151,7 @@ def is_chunked(request):
 
 
 def length_of(request):
-    """The length of a body that doesn't come in chunks."""
+    """Returns the length of a body that doesn't come in chunks."""
     values = request.values(b"content-length")
     digits = values[0].lstrip(b"0") if values else b""
     if len(digits) > len(str(MAX_BODY)) or int(digits or b"0") > MAX_BODY:
@@ -157,7 +160,7 @@ def length_of(request):
 
 
 def chunk_size(data, at):
-    """The size that the chunk line at an offset says, and where the line ends."""
+    """Returns the size in the chunk line at an offset, and the offset after the line."""
     end = data.find(b"\n", at, at + MAX_CHUNK_LINE) + 1
     if not end:
         raise Refused("BadChunk") if len(data) >= at + MAX_CHUNK_LINE else Unfinished
@@ -168,7 +171,7 @@ def chunk_size(data, at):
 
 
 def end_of_trailer(data, at):
-    """Where the trailer at an offset ends."""
+    """Returns the offset after the trailer at an offset."""
     end = re.compile(rb"(?:[^\n]*\n)*?\r?\n").match(data, at)
     if end is None or end.end() > at + MAX_TRAILER:
         raise Refused("BadChunk") if len(data) >= at + MAX_TRAILER else Unfinished
@@ -176,7 +179,7 @@ def end_of_trailer(data, at):
 
 
 def body_in_chunks(data, at):
-    """The body whose chunks begin at an offset, and where it ends."""
+    """Returns the body whose chunks begin at an offset, and the offset after it."""
     chunks, total = [], 0
     while True:
         size, at = chunk_size(data, at)
@@ -196,7 +199,7 @@ def body_in_chunks(data, at):
 
 
 def take(data):
-    """The request that the bytes begin with, and how many bytes it has."""
+    """Returns the request that the bytes begin with, and its length in bytes."""
     skipped, head = head_of(data)
     request = request_of(head)
     require_host(request)
@@ -223,16 +226,18 @@ def float_of(text):
 
 
 def whole_of(text):
-    """A number of digits alone is whole; another, also one of very many digits, counts as any number."""
+    """Returns a number in a text. Digits alone are a whole number; any other number, including one
+    of very many digits, is a float."""
     return int(text) if text.isdigit() and len(text) <= 20 else float_of(text)
 
 
 class Members(list):
-    """The members of an object in order, also those that a later one of the same name replaces."""
+    """The members of an object in order, including any that a later one of the same name
+    replaces."""
 
 
 def nesting_of(value):
-    """How deep arrays and objects nest."""
+    """Returns how deep arrays and objects nest."""
     if not isinstance(value, list):
         return 0
     parts = [part for _, part in value] if isinstance(value, Members) else value
@@ -240,7 +245,7 @@ def nesting_of(value):
 
 
 def json_of(body):
-    """The JSON value of a list of bytes; ValueError where there is none."""
+    """Returns the JSON value of a list of bytes. Raises ValueError if there is none."""
     text = body.decode("utf-8")
     numbers = {"parse_constant": refuse_constant, "parse_float": float_of, "parse_int": whole_of}
     value = json.loads(text, object_pairs_hook=Members, **numbers)
@@ -251,7 +256,7 @@ def json_of(body):
 
 
 def members_of(body, refusal):
-    """The members of the object that the bytes spell, the last one where a name is given twice."""
+    """Returns the members of the object in the bytes; of a repeated name, the last member."""
     try:
         top = json_of(body)
     except (ValueError, RecursionError):
@@ -262,7 +267,7 @@ def members_of(body, refusal):
 
 
 def present(members, name, kinds, wanted=lambda value: True):
-    """The value of a member, of one of these types, or None where it is absent or null."""
+    """Returns the value of a member, of one of these types, or None if it is absent or null."""
     value = members.get(name)
     if value is not None and (type(value) not in kinds or not wanted(value)):
         raise Refused("BadState")
@@ -270,12 +275,12 @@ def present(members, name, kinds, wanted=lambda value: True):
 
 
 def reads_in_pieces(text):
-    """Whether a text is a sequence of characters and keys."""
+    """Returns true if a text is a sequence of characters and keys."""
     return PIECES.fullmatch(text) is not None
 
 
 def count_instances(resource):
-    """How many instances a resource has, each of which is one."""
+    """Returns the number of instances of a resource. Refuses an invalid resource or instance."""
     if type(resource) is not Members:
         raise Refused("BadState")
     members = dict(resource)
@@ -297,7 +302,7 @@ def count_instances(resource):
 
 
 def document_of(body):
-    """Lineage, serial and bytes of the document that the bytes spell."""
+    """Returns the lineage, the serial and the bytes of the document in the bytes."""
     top = members_of(body, "BadState")
     version, serial, lineage = top.get("version"), top.get("serial"), top.get("lineage")
     if type(version) is not int or version != 4:
@@ -312,14 +317,14 @@ def document_of(body):
 
 
 def bounded(identifier):
-    """The identifier, which has at most 256 bytes."""
+    """Returns the identifier, which has at most 256 bytes."""
     if len(identifier.encode()) > MAX_IDENTIFIER:
         raise Refused("BadLockInfo")
     return identifier
 
 
 def locked_by(body):
-    """The identifier of the lock information that the bytes spell."""
+    """Returns the identifier of the lock information in the bytes."""
     if len(body) > MAX_LOCK_INFO:
         raise Refused("BadLockInfo")
     identifier = members_of(body, "BadLockInfo").get("ID")
@@ -329,25 +334,25 @@ def locked_by(body):
 
 
 def decoded(part):
-    """A name or a value of a query as text."""
+    """Returns a name or a value of a query as text."""
     return unquote_to_bytes(part.replace("+", " ")).decode("utf-8", "replace")
 
 
 def values_in(query, wanted):
-    """The values of the pairs of one name that a query has, in order."""
+    """Returns the values of the pairs of one name in a query, in order."""
     pairs = [piece.partition("=") for piece in query.split("&") if piece]
     return [decoded(value) for name, _, value in pairs if decoded(name) == wanted]
 
 
 def identifier_in(query):
-    """The identifier that a query gives; none where it is missing or empty."""
+    """Returns the identifier in a query; none if it is missing or empty."""
     values = values_in(query, "ID")
     return bounded(values[0]) or None if values else None
 
 
 def act_of(method, query, body):
-    """The act that a request asks for: its identifier or none, and what it carries, which is the information of a lock and
-    the document of a push."""
+    """Returns the act that a request asks for: its identifier or none, and its content, which is
+    the information of a lock or the document of a push."""
     if method == "LOCK":
         return locked_by(body), body
     if method == "UNLOCK" and body:
@@ -357,8 +362,8 @@ def act_of(method, query, body):
 
 
 class Table:
-    """The names that had an accepted act, their holders (identifier and bytes) and their states, and the number of
-    entries."""
+    """A table: the names that had an accepted act, their holders (identifier and bytes) and their
+    states, and the number of entries."""
 
     def __init__(self):
         self.names = set()
@@ -367,7 +372,7 @@ class Table:
         self.entries = 0
 
     def judge_by_lock(self, method, name, identifier, carried):
-        """Refuses an act by the holder of its name."""
+        """Refuses an act because of the holder of its name."""
         if name not in self.holders:
             if method in ("POST", "DELETE") and identifier is not None:
                 raise Refused("LockLost")
@@ -378,7 +383,7 @@ class Table:
             raise Locked(held)
 
     def judge_by_state(self, name, document):
-        """Refuses a push by the state of its name."""
+        """Refuses a push because of the state of its name."""
         if name not in self.states:
             return
         lineage, serial, body = document
@@ -391,11 +396,11 @@ class Table:
             raise Refused("SerialReused")
 
     def change(self, method, name, query, body):
-        """Takes a change, or refuses it."""
+        """Accepts a change, or refuses it."""
         self.take(method, name, *act_of(method, query, body))
 
     def take(self, method, name, identifier, carried):
-        """Takes an act, or refuses it."""
+        """Accepts an act, or refuses it."""
         self.judge_by_lock(method, name, identifier, carried)
         if method == "POST":
             self.judge_by_state(name, carried)
@@ -415,13 +420,13 @@ class Table:
             self.states.pop(name, None)
 
     def body(self, name):
-        """The state of a name."""
+        """Returns the state of a name."""
         if name not in self.states:
             raise Refused("NoState")
         return self.states[name][2]
 
     def impact(self, name, kind, query):
-        """The JSON text that answers a query."""
+        """Returns the JSON text that answers a query."""
         top = dict(json_of(self.body(name)))
         try:
             chosen = impact(kind, values_in(query, "of"), instances_of(top))
@@ -430,7 +435,7 @@ class Table:
         return json_text({"instances": chosen, "position": self.entries, "serial": top["serial"]}).encode()
 
     def answer(self, request):
-        """The body of the reply to a request that isn't refused."""
+        """Returns the body of the reply to a request that isn't refused."""
         path, _, query = request.target.partition("?")
         route = re.fullmatch(r"/state/(?P<name>[^/]+)|/impact/(?P<asked>[^/]+)/(?P<kind>any|all)", path)
         if route is None:
@@ -451,12 +456,12 @@ class Table:
         return b""
 
     def reply(self, request):
-        """The bytes of the reply to a request; HEAD gets no body."""
+        """Returns the bytes of the reply to a request; HEAD gets no body."""
         text = self.whole_reply(request, request.asks_to_close())
         return text[: text.index(b"\r\n\r\n") + 4] if request.method == "HEAD" else text
 
     def whole_reply(self, request, close):
-        """The bytes of the reply to a request, with its body."""
+        """Returns the bytes of the reply to a request, with its body."""
         try:
             return reply_text(200, self.answer(request), close)
         except Locked as locked:
@@ -468,7 +473,7 @@ class Table:
 
 
 def replies_to(data):
-    """The replies to these bytes in order, and the program's status."""
+    """Returns the replies to these bytes in order, and the program's status."""
     table, replies = Table(), []
     while data:
         try:
@@ -485,6 +490,6 @@ def replies_to(data):
 
 
 def conversation(data):
-    """What is written for these bytes, and the program's status."""
+    """Returns the output for these bytes, and the program's status."""
     replies, status = replies_to(data)
     return b"".join(replies), status

@@ -1,7 +1,9 @@
-"""All orders in which three threads each write a byte and then wait until it is durable, and a device ends each sync, by a plain model: a sync
-covers what was written before it began, one begins as soon as somebody waits for a byte that none has covered, nobody waits longer than for the
-first sync that covers its byte, and after one that fails all who wait are refused. The table of `crates/tfs_tests/src/orders.rt` has the
-orders, one a line; `python3 tests/models/sync_orders.py` prints them."""
+"""All orders in which three threads each write a byte and then wait until it is durable, and a
+device ends each sync, by a plain model. A sync covers what was written before it began. It begins
+as soon as a thread waits for a byte that no sync has covered. No thread waits after the first sync
+that covers its byte. After a sync that fails, all waiting threads are refused. The table of
+`crates/tfs_tests/src/orders.rt` has the orders, one a line; `python3 tests/models/sync_orders.py`
+prints them."""
 from typing import NamedTuple
 
 THREADS = 3
@@ -9,7 +11,8 @@ NOTHING, WRITTEN, WAITS, DURABLE, REFUSED = ".=~+-"
 
 
 class Model(NamedTuple):
-    """The outcome of each thread's steps, the bytes up to its own, and counts of bytes and syncs."""
+    """A model: the outcome of each thread's steps, the bytes up to its own, and counts of bytes and
+    syncs."""
     outcomes: tuple = (NOTHING,) * THREADS
     marks: tuple = (0,) * THREADS
     written: int = 0
@@ -23,14 +26,14 @@ class Model(NamedTuple):
 
 
 def begins(model):
-    """The model once a sync has begun, if somebody waits and there is none."""
+    """Returns the model once a sync has begun, if a thread waits and no sync runs."""
     if model.syncing or WAITS not in model.outcomes:
         return model
     return model._replace(syncing=model.written, begun=model.begun + 1)
 
 
 def outcome_after(model, outcome, mark):
-    """The outcome of a thread's steps once a sync has ended."""
+    """Returns the outcome of a thread's steps once a sync has ended."""
     if outcome != WAITS:
         return outcome
     if model.has_failed:
@@ -39,7 +42,7 @@ def outcome_after(model, outcome, mark):
 
 
 def ended(model):
-    """The model once those continue who are covered or refused by a sync that has ended."""
+    """Returns the model once all threads continue that an ended sync covers or refuses."""
     outcomes = tuple(outcome_after(model, outcome, mark) for outcome, mark in zip(model.outcomes, model.marks))
     return begins(model._replace(outcomes=outcomes))
 
@@ -49,7 +52,7 @@ def changed(values, place, value):
 
 
 def waiting(model, thread):
-    """The model once a thread waits, unless the answer is known."""
+    """Returns the model once a thread waits, unless the answer is known."""
     if model.has_failed:
         return model._replace(outcomes=changed(model.outcomes, thread, REFUSED))
     if model.marks[thread] <= model.durable:
@@ -58,7 +61,8 @@ def waiting(model, thread):
 
 
 def thread_step(model, thread):
-    """The next step of a thread: it writes, or it waits; none after these."""
+    """Returns the model after the next step of a thread: it writes, or it waits; None after
+    these."""
     outcome = model.outcomes[thread]
     if outcome == NOTHING:
         written = model.written + 1
@@ -67,7 +71,8 @@ def thread_step(model, thread):
 
 
 def steps(model):
-    """Each possible next step with the model after it. Threads are numbered in the order of their first steps."""
+    """Yields each possible next step with the model after it. Threads are numbered in the order of
+    their first steps."""
     for thread in range(THREADS):
         is_next = thread == 0 or model.outcomes[thread - 1] != NOTHING
         after = thread_step(model, thread) if is_next else None
@@ -79,7 +84,7 @@ def steps(model):
 
 
 def orders(model=Model(), line=()):
-    """Each order to its end: its steps, each with what is seen after it."""
+    """Yields each complete order: its steps, each with what is shown after it."""
     further = list(steps(model))
     if not further:
         yield " ".join(line)

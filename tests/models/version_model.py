@@ -1,5 +1,6 @@
-"""A plain model of what `tfstatectl` tells of a folder's past: rows, versions, and faults. It is written from docs/VERSIONS.md and
-docs/JOURNAL.md, reads each journal whole, and never runs out of memory."""
+"""A plain model of the past of a folder as `tfstatectl` reports it: rows, versions, and faults. It
+is written from docs/VERSIONS.md and docs/JOURNAL.md, reads each journal whole, and never runs out
+of memory."""
 import json
 import re
 
@@ -15,7 +16,8 @@ WORDS = {"who": "Who", "operation": "Operation", "created": "Created"}
 
 
 class Opened:
-    """A journal as it is read: its position, its entries up to the first unlawful one, what they leave, and its fault, or none."""
+    """A journal as it is read: its position, its entries up to the first unlawful one, their
+    result, and its fault, or None."""
 
     def __init__(self, data):
         form, self.base, self.rows, entries, end = read_journal(data)
@@ -32,25 +34,26 @@ class Opened:
 
 
 def opened(files):
-    """The journals by their numbers, rising, but for a newest one that is cut off inside its base."""
+    """Returns the journals by their numbers, in ascending order, except for a newest one that is
+    cut off inside its base."""
     journals = [(number, Opened(data)) for number, data in sorted(files.items())]
     return journals[:-1] if len(journals) > 1 and journals[-1][1].is_cut else journals
 
 
 def words_of(info):
-    """What lock information says of itself."""
+    """Returns the members of lock information."""
     members = members_of(info, "BadLockInfo")
     return {word: value if isinstance(value := members.get(member), str) else None for word, member in WORDS.items()}
 
 
 def numbers_of(state):
-    """The serial, the instances and the bytes of a state."""
+    """Returns the serial, the number of instances and the length in bytes of a state."""
     top = members_of(state, "BadState")
     return {"serial": top["serial"], "instances": len(instances_of(top)), "bytes": len(state)}
 
 
 def row_of(position, kind, fields):
-    """The row of an act."""
+    """Returns the row of an act."""
     row = {"position": position, "act": kind}
     if kind == "lock":
         return {**row, "id": locked_by(fields[0]), **words_of(fields[0])}
@@ -58,12 +61,13 @@ def row_of(position, kind, fields):
 
 
 def kept_from(position):
-    """The member of a row that says from which position on versions are kept, unless that is 0."""
+    """Returns the member of a row with the position from which on versions are kept, unless that is
+    0."""
     return {"kept_from": position} if position else {}
 
 
 def history(files, name):
-    """The rows of a name, and the fault behind them with its journal's number, or none."""
+    """Returns the rows of a name, and the fault after them with its journal's number, or None."""
     rows, is_there, reached, least = [], False, 0, 0
     journals = opened(files)
     if not journals:
@@ -84,7 +88,7 @@ def history(files, name):
 
 
 def state_at(journal, name, position):
-    """The state of a name at a position of a journal, or none."""
+    """Returns the state of a name at a position of a journal, or None."""
     state = next((row[2] for row in journal.rows if row[0] == name), b"") or None
     for kind, own, fields in journal.read[: position - journal.base]:
         if own == name and kind in ("push", "delete"):
@@ -93,7 +97,7 @@ def state_at(journal, name, position):
 
 
 def version(files, name, position):
-    """The bytes of a version."""
+    """Returns the bytes of a version."""
     journals = opened(files)
     if not journals:
         raise Fault("NoJournal", None)
@@ -112,7 +116,7 @@ def version(files, name, position):
 
 
 def newest(files):
-    """The newest journal of the folder itself."""
+    """Returns the newest journal of the folder itself."""
     journals = opened(files)
     if not journals:
         raise Fault("NoJournal", None)
@@ -123,7 +127,7 @@ def newest(files):
 
 
 def newest_version(files, name):
-    """The bytes of the newest version."""
+    """Returns the bytes of the newest version."""
     journal = newest(files)
     if not journal.has(name):
         raise Fault("NoName", None)
@@ -133,7 +137,7 @@ def newest_version(files, name):
 
 
 def restored(here, files, name, position):
-    """The bytes that bring a version back."""
+    """Returns the bytes that restore a version."""
     old = version(files, name, position)
     current = newest(here).table.states.get(name)
     if not current:
@@ -148,7 +152,7 @@ def restored(here, files, name, position):
 
 
 def listing(here, whole):
-    """The rows of the names, over all journals."""
+    """Returns the rows of the names, over all journals."""
     journal, rows, least = newest(here), [], Opened(whole[min(whole)]).base
     names = dict.fromkeys([row[0] for row in journal.rows] + [entry[1] for entry in journal.entries])
     for name in names:
@@ -160,7 +164,8 @@ def listing(here, whole):
 
 
 def counts(here):
-    """The numbers of what is whole of the newest journal, and the fault behind it with the journal's number, or none."""
+    """Returns the metrics of the valid part of the newest journal, and the fault after it with the
+    journal's number, or None."""
     journals = opened(here)
     if not journals:
         raise Fault("NoJournal", None)
@@ -177,5 +182,5 @@ def counts(here):
 
 
 def as_json(rows):
-    """Rows as they are compared with what is printed."""
+    """Returns rows as they are compared with the printed ones."""
     return json.loads(json.dumps(rows))

@@ -1,5 +1,6 @@
-/* Preloaded into the program: a thread that asks for a block of LONG bytes or more, or frees one, tells it by a byte to the descriptor TOLD,
-   and goes on once it has got one of the descriptor GOES_ON. Meanwhile no other thread is held. */
+/* Preloaded into the program: a thread that requests a block of LONG bytes or more, or frees one,
+   reports it by a byte to the descriptor TOLD, and continues once it has read a byte from the
+   descriptor GOES_ON. Meanwhile no other thread is held. */
 #define _GNU_SOURCE
 #include <errno.h>
 #include <malloc.h>

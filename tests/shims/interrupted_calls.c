@@ -1,5 +1,6 @@
-/* Preloaded into the program: of its calls that write a file, and of those that sync one, a signal interrupts first one and then two in a row
-   before each that is made. A body that makes a call twice after one interruption, or after two, does so here. */
+/* Preloaded into the program: a signal interrupts its calls that write a file, and its calls that
+   sync one, first once and then twice in a row before each call that is made. A body that makes a
+   call twice after one interruption, or after two, does so here. */
 #define _GNU_SOURCE
 #include <dlfcn.h>
 #include <errno.h>

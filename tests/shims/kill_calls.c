@@ -1,5 +1,6 @@
-/* Preloaded into the program: kills it before the call whose turn it is, of its calls that change files or names, or sync them. TURN tells
-   which, from 1; with TURN=0 none is killed, and each is counted in the file COUNT, by a byte. */
+/* Preloaded into the program: kills it before one of its calls that change files or names, or sync
+   them. TURN is the number of that call, from 1; with TURN=0 none is killed, and each is counted in
+   the file COUNT, by a byte. */
 #define _GNU_SOURCE
 #include <dlfcn.h>
 #include <fcntl.h>

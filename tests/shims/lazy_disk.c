@@ -81,7 +81,7 @@ static void tell(char letter, const char *path) {
     if (trace >= 0 && next_write(trace, line, length) != length) abort();
 }
 
-/* Counts a call, and returns whether it is the one whose number a variable tells. */
+/* Counts a call. Returns true if it is the one whose number is in a variable. */
 static int is_turn(atomic_int *counted, const char *name) {
     const char *armed = getenv("ARMED");
     if (!number_of(name) || (armed && access(armed, F_OK))) return 0;
@@ -110,7 +110,7 @@ static void find_path(int descriptor, char *path) {
     path[length < 0 ? 0 : length] = 0;
 }
 
-/* The file of the disk, if it is one. */
+/* Returns the file of the disk, if it is one. */
 static struct file *file_of(const struct stat *found) {
     for (int i = 0; i < count; i++)
         if (files[i].device == found->st_dev && files[i].inode == found->st_ino) return files + i;
@@ -125,7 +125,7 @@ static int open_kept(int number, int flags) {
     return descriptor;
 }
 
-/* Begins a file, of which nothing is kept. */
+/* Begins a file without kept bytes. */
 static struct file *begin_file(const struct stat *found) {
     struct file *file = file_of(found);
     if (!file && count == FILES) abort();
@@ -141,7 +141,7 @@ static void forget(const struct stat *found) {
     if (file && S_ISREG(found->st_mode) && found->st_nlink == 1) *file = files[--count];
 }
 
-/* Reads a file's bytes, which the caller frees. The descriptor may be for writing alone. */
+/* Reads a file's bytes, which the caller frees. The descriptor may be write-only. */
 static char *read_bytes(int descriptor, off_t from, off_t to) {
     char path[64], *bytes = malloc(to - from + 1);
     snprintf(path, sizeof path, "/proc/self/fd/%d", descriptor);
@@ -294,7 +294,7 @@ static void note(struct file *file, int descriptor, off_t from, off_t to) {
         keep_until(file, descriptor, from + 1 + rand_r(&chance) % (to - from));
 }
 
-/* Writes at a place of a file, or where it is if the place is negative. */
+/* Writes at an offset of a file, or at its current one if the offset is negative. */
 static ssize_t write_to(int descriptor, const void *bytes, size_t size, off_t at) {
     struct stat found;
     pthread_mutex_lock(&guard);

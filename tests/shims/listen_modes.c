@@ -1,5 +1,5 @@
-/* Preloaded into the program: before it listens at a unix socket, writes a line with the mode of the socket's file, in octal, to the
-   descriptor TRACE. */
+/* Preloaded into the program: before it listens on a unix socket, writes a line with the mode of
+   the socket's file, in octal, to the descriptor TRACE. */
 #define _GNU_SOURCE
 #include <dlfcn.h>
 #include <stddef.h>

@@ -1,4 +1,5 @@
-/* Preloaded into the program: right before it opens the file AWAY, that gets the path TO, or is removed if there is no TO. */
+/* Preloaded into the program: right before it opens the file AWAY, moves that file to the path TO,
+   or removes it if there is no TO. */
 #define _GNU_SOURCE
 #include <dlfcn.h>
 #include <fcntl.h>

@@ -1,8 +1,10 @@
-/* Preloaded into the program: counts its requests for memory, and refuses those from REFUSE_FROM to REFUSE_TO, counted
-   from 1. A request counts where its caller's code is the program's own; what the loader and the C library ask for is
-   counted apart and never refused. At the end both counts are written to the descriptor COUNTS, also where the program ends
-   by _exit, as one with threads does. Behind them stand the bytes of the program's longest request, and the most memory that
-   was given out at once, where a block that is moved counts once, and a program that has threads counts it roughly. */
+/* Preloaded into the program: counts its requests for memory, and refuses those from REFUSE_FROM to
+   REFUSE_TO, counted from 1. A request counts if its caller's code is the program's own; requests
+   of the loader and the C library are counted separately and never refused. At the end both counts
+   are written to the descriptor COUNTS, even if the program ends by _exit, as one with threads
+   does. After them come the bytes of the program's longest request, and the peak of the memory
+   given out, in which a block that is moved counts once, and which is approximate for a program
+   with threads. */
 #define _GNU_SOURCE
 #include <errno.h>
 #include <link.h>
@@ -62,7 +64,7 @@ void _exit(int status) {
     __builtin_unreachable();
 }
 
-/* Whether a request for so many bytes from this place in the code is refused. */
+/* Returns true if a request for this many bytes from this place in the code is refused. */
 static int refuses(void *place, size_t size) {
     uintptr_t caller = (uintptr_t)place;
     if (caller < low || high <= caller) {

@@ -1,4 +1,4 @@
-/* Preloaded into the program: each of its reads gets one byte at most. */
+/* Preloaded into the program: each of its reads gets at most one byte. */
 #define _GNU_SOURCE
 #include <dlfcn.h>
 #include <sys/socket.h>

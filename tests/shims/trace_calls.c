@@ -1,6 +1,6 @@
-/* Preloaded into the program: writes one line for each of its calls that write or sync, before the call is made, to the descriptor
-   TRACE: the call's name and its descriptor. A socket that was told to send at once what is written has such a line, too, whose word
-   is `nodelay`. */
+/* Preloaded into the program: writes one line for each of its calls that write or sync, before the
+   call is made, to the descriptor TRACE: the call's name and its descriptor. A socket that is set
+   to send at once what is written has such a line, too, with the word `nodelay`. */
 #define _GNU_SOURCE
 #include <dlfcn.h>
 #include <netinet/in.h>

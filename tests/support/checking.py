@@ -1,22 +1,22 @@
-"""Runs checks and counts those that passed; what they share that needs no program."""
+"""Runs and counts checks, and has the helpers of tests that need no program."""
 import signal
 import traceback
 
 SECONDS = 60
 S1 = b'{"version":4, "serial":1 ,"lineage":"L1"}'
 S2 = S1.replace(b"1 ", b"2 ")
-# The programs that checks have started; those that are left running are ended.
+# The programs that checks have started; those left running are ended.
 STARTED = []
 
 
 def expect(found, wanted, about=""):
-    """Fails where two values differ."""
+    """Fails if two values differ."""
     if found != wanted:
         raise AssertionError(f"{about}: found {str(found)[:400]}, wanted {str(wanted)[:400]}")
 
 
 class TooLong(BaseException):
-    """A test waits too long. Nothing that handles the errors of a test handles this."""
+    """Raised when a test waits too long. No handler of a test's errors catches it."""
 
 
 def stop(number, frame):
@@ -33,7 +33,7 @@ def end_all():
 
 
 def run_checks(checks):
-    """Runs the checks, prints the count as the last line, and gives the exit status."""
+    """Runs the checks, prints the count as the last line, and returns the exit status."""
     signal.signal(signal.SIGALRM, stop)
     failed = 0
     for check in checks:
@@ -51,5 +51,6 @@ def run_checks(checks):
 
 
 def checks_in(names):
-    """The functions of a module whose names begin with `check_`, in the order in which they stand."""
+    """Returns the functions of a module whose names begin with `check_`, in the order of the
+    module."""
     return [value for name, value in names.items() if name.startswith("check_") and callable(value)]

@@ -1,4 +1,4 @@
-"""Gets the built program `tfstatectl` for the checks, and serves folders of journals with it."""
+"""Runs the built program `tfstatectl` for the tests, and serves folders of journals with it."""
 import http.client
 import resource
 import signal
@@ -10,7 +10,7 @@ from checking import SECONDS, STARTED, expect
 from folders import LOOPBACK, ask_over, free_port
 from programs import TFSTATECTL as FOLDER_PROGRAM
 
-# The exit status by the name of a fault, as docs/FOLDER.md lists them.
+# The exit statuses by the names of faults, as docs/FOLDER.md lists them.
 STATUSES = {
     **dict.fromkeys(("Locked", "CannotRead", "CannotWrite", "CannotBind", "SyncFault", "AcceptFault", "Write", "Changing"), 20),
     **dict.fromkeys(("Arguments", "NotPast"), 21), "TornBase": 22, "Damaged": 23, "Unlawful": 24,
@@ -22,13 +22,14 @@ STATUSES = {
 
 
 def run(*words, **how):
-    """Runs the program, which is to end by itself: its status, and what it wrote on standard output and standard error."""
+    """Runs the program until it ends. Returns its status, and what it wrote to standard output and
+    standard error."""
     ran = subprocess.run([FOLDER_PROGRAM, *map(str, words)], stdin=subprocess.DEVNULL, capture_output=True, timeout=SECONDS, check=False, **how)
     return ran.returncode, ran.stdout.decode(), ran.stderr.decode()
 
 
 def ended(folder, *words, **how):
-    """A start that is to end by itself: its status, and what it wrote."""
+    """Runs a start that must end by itself. Returns its status, and what it wrote."""
     listen = () if "--listen" in words else ("--listen", f"{LOOPBACK}:0")
     return run("serve", folder, *listen, *words, **how)
 
@@ -47,7 +48,8 @@ class LocalConnection(http.client.HTTPConnection):
 
 
 class Serving:
-    """The server on a folder, or a start that failed: then there is no line. It listens at a port, or at a unix socket of this path."""
+    """A server on a folder, or a start that failed, which has no line. It listens on a port, or on
+    a unix socket of this path."""
 
     def __init__(self, folder, *words, port=None, path=None, workers="2", **how):
         self.folder, self.path, self.port = folder, path, None if path else port or free_port()
@@ -58,17 +60,18 @@ class Serving:
         self.line = self.process.stdout.readline()
 
     def listens(self):
-        """Fails where it doesn't serve."""
+        """Fails unless the server listens."""
         if self.line != f"listening {self.place}\n".encode():
             raise AssertionError(f"it ended: {self.end()}")
         return self
 
     def connect(self):
-        """A connection, which its first request makes."""
+        """Returns a connection, which its first request opens."""
         return LocalConnection(self.path) if self.path else http.client.HTTPConnection(LOOPBACK, self.port, timeout=SECONDS)
 
     def ask(self, method, target, body=None):
-        """The status and the body of the reply to one request, on a connection of its own."""
+        """Returns the status and the body of the reply to one request, on a connection of its
+        own."""
         connection = self.connect()
         try:
             return ask_over(connection, method, target, body)
@@ -76,17 +79,18 @@ class Serving:
             connection.close()
 
     def most_memory(self):
-        """The most bytes of memory that it has had at once."""
+        """Returns the peak memory in bytes."""
         lines = Path(f"/proc/{self.process.pid}/status").read_text().splitlines()
         return next(int(line.split()[1]) * 1024 for line in lines if line.startswith("VmHWM:"))
 
     def end(self):
-        """Waits until it has ended: its status, and what it wrote on standard error."""
+        """Waits until the program has ended. Returns its status, and what it wrote to standard
+        error."""
         errors = self.process.communicate(timeout=SECONDS)[1]
         return self.process.returncode, errors.decode()
 
     def kill(self):
-        """Kills it: what it wrote on standard error."""
+        """Kills the program. Returns what it wrote to standard error."""
         self.process.kill()
         errors = self.end()[1]
         STARTED.remove(self.process)
@@ -94,7 +98,8 @@ class Serving:
 
 
 def served(folder, *words, **how):
-    """Serves a folder, asks for the state of `a`, and kills the server: the answer, and the line of the start."""
+    """Serves a folder, asks for the state of `a`, and kills the server. Returns the answer, and the
+    line of the start."""
     server = Serving(folder, *words, **how).listens()
     answer = server.ask("GET", "/state/a")
     lines = server.kill().splitlines()
@@ -103,7 +108,8 @@ def served(folder, *words, **how):
 
 
 def limit_files(size):
-    """Lets files grow to a size, and takes the signal away that would tell."""
+    """Returns a function that limits the size of files and ignores the signal for a longer
+    write."""
     def limit():
         signal.signal(signal.SIGXFSZ, signal.SIG_IGN)
         resource.setrlimit(resource.RLIMIT_FSIZE, (size, size))

@@ -1,5 +1,5 @@
-"""Files of folders for Hypothesis: journals that follow one another, most of them sound. Some
-are cut, grown, swapped or renamed."""
+"""Files of folders for Hypothesis: journals that follow one another, most of them valid. Some are
+cut, grown, swapped or renamed."""
 from hypothesis import strategies as st
 
 from folder_model import Fault, started
@@ -17,7 +17,7 @@ OTHER_NAMES = st.sampled_from([f"{named(31)}.tfj.part", "copy", f"{named(31)}.tf
 
 
 def is_sound(data):
-    """Whether a start can go on from a journal."""
+    """Returns true if a start can continue a journal."""
     try:
         return bool(started(0, data))
     except Fault:
@@ -25,7 +25,7 @@ def is_sound(data):
 
 
 def sound(draw, made):
-    """What a strategy makes: most of the time it is repeated until the journal is sound."""
+    """Draws from a strategy, most of the time until the journal is valid."""
     data = draw(made)
     while not is_sound(data) and not draw(one_in(20)):
         data = draw(made)
@@ -34,7 +34,7 @@ def sound(draw, made):
 
 @st.composite
 def followed_files(draw):
-    """The files of a folder in which each journal follows its predecessor."""
+    """Draws the files of a folder in which each journal follows its predecessor."""
     journal, files = sound(draw, JOURNALS), {}
     for number in sorted(draw(SOME[draw(COUNTS)])):
         for _ in range(draw(MORE)):
@@ -49,7 +49,7 @@ def followed_files(draw):
 
 @st.composite
 def folder_files(draw):
-    """The same folder; at times a file is cut, grown, swapped or renamed."""
+    """Draws the same folder, in which a file is sometimes cut, grown, swapped or renamed."""
     files = draw(followed_files())
     names = sorted(files)
     kind = draw(KINDS) if names else "none"

@@ -1,4 +1,4 @@
-"""Folders of journals for the checks, each of its own, and what servers on them are asked."""
+"""Folders of journals, each used by one test, and requests to servers on them."""
 import concurrent.futures
 import hashlib
 import random
@@ -24,7 +24,7 @@ REBASED = b"TFJ2\n" + base_text(3, [(b"a", B, S2)])
 
 
 def fresh(**files):
-    """A folder that no check has used, with journals in it: `n3` is the journal of number 3."""
+    """Returns an unused folder with these journals: `n3` is the journal of number 3."""
     folder = Path(FOLDER.name) / f"folder-{next(NUMBER)}"
     folder.mkdir()
     for name, content in files.items():
@@ -37,26 +37,27 @@ def named(number):
 
 
 def journals(folder):
-    """What the journals of a folder hold, by their numbers."""
+    """Returns the bytes of the journals of a folder, by their numbers."""
     return {int(path.stem[8:]): path.read_bytes() for path in folder.glob("*.tfj")}
 
 
 def identity_text(value=VALUE, **files):
-    """The text of a file `identity`: the folder's value, and a mark of each journal."""
+    """Returns the text of a file `identity`: the folder's value, and a mark of each journal."""
     marks = [f"{named(int(name[1:]))}.tfj {len(data)} {hashlib.md5(data).hexdigest()}\n" for name, data in files.items()]
     return f"{value}\n{''.join(marks)}"
 
 
 def owned(value=VALUE, **files):
-    """A folder that no check has used, with journals in it, and an identity that has marks of them."""
+    """Returns an unused folder with these journals, and an identity with marks of them."""
     folder = fresh(**files)
     (folder / "identity").write_text(identity_text(value, **files))
     return folder
 
 
 def goes_on_alone(folder, after=0):
-    """Waits until a server's journal is the only one of its folder, with a number above another one, and nothing asks for a shorter one: the
-    number. A server looks at its folder once a second: then it takes `compact` away, and puts the journals before its own into `old/`."""
+    """Waits until a server's journal is the only one of its folder, with a number above `after`,
+    and no compaction is requested. Returns the number. A server looks at its folder once a second:
+    it then removes `compact`, and moves the journals before its own into `old/`."""
     end = time.monotonic() + SECONDS
     while time.monotonic() < end:
         numbers = [int(path.stem[8:]) for path in folder.glob("*.tfj")]
@@ -67,13 +68,14 @@ def goes_on_alone(folder, after=0):
 
 
 def all_of(folder):
-    """Every file of a folder with its bytes, but for its lock."""
+    """Returns every file of a folder with its bytes, except for its lock."""
     paths = [path for path in folder.rglob("*") if path.is_file() and path.name != "lock"]
     return {str(path.relative_to(folder)): path.read_bytes() for path in paths}
 
 
 def free_port():
-    """A port of the loopback that nobody uses at this moment, below those that connections get, and that this didn't give before."""
+    """Returns a free port of the loopback interface, below the range for connections, and not
+    returned before."""
     while True:
         port = random.randrange(10_000, 32_000)
         with socket.socket() as probe:
@@ -83,13 +85,14 @@ def free_port():
 
 
 def at_once(work, cases):
-    """Does the work of each case, of a few at once; fails where one does."""
+    """Does the work of each case, a few of them concurrently. Returns the
+    results. Fails if one fails."""
     with concurrent.futures.ThreadPoolExecutor(8) as pool:
         return list(pool.map(work, cases))
 
 
 def ask_over(connection, method, target, body=None, headers=None):
-    """The status and the body of the reply to one request."""
+    """Returns the status and the body of the reply to one request."""
     connection.request(method, target, body, headers or {})
     reply = connection.getresponse()
     return reply.status, reply.read()

@@ -1,11 +1,12 @@
-"""How bytes of journals are read, worked out by hand from docs/PROTOCOL.md (The journal): the rows of test_journals.py. Bytes are written
-in hex digits."""
+"""How bytes of journals read, worked out by hand from docs/JOURNAL.md: the rows of
+test_journals.py. Bytes are written in hex digits."""
 from checking import S1
 
 LOCK_INFO = b'{"ID":"B"}'
 
-# How the prefixes of each text are read, and the text with the lowest bit of a byte flipped: runs of lengths, or of places, each told by
-# its last one. A reading has the format, the position, the number of rows, the number of entries, and the end.
+# How the prefixes of each text read, and the text with the lowest bit of a byte flipped: runs of
+# lengths, or of places, each given by its last one. A reading has the format, the position, the
+# number of rows, the number of entries, and the end.
 PREFIXES = [
     "4: 1 0 0 0 torn 0, 5: 1 0 0 0 whole, 70: 1 0 0 0 torn 5, 71: 1 0 0 1 whole, 103: 1 0 0 1 torn 71, 104: 1 0 0 2 whole",
     "4: 1 0 0 0 torn 0, 30: 2 0 0 0 torn 5, 31: 2 0 0 0 whole, 96: 2 0 0 0 torn 31, 97: 2 0 0 1 whole, 129: 2 0 0 1 torn 97, "
@@ -25,9 +26,9 @@ FLIPPED = [
     "107: 2 2 2 0 torn 102, 167: 2 2 2 0 damaged 102, 191: 2 2 2 1 damaged 168",
 ]
 
-# What stands behind the header of format 2. The first stop inside a field that may be so; in the others a field is out of its range, or
-# a whole base has a wrong content: falling names, a name twice, a holder, a state, and a position past its limit. The MD5s were computed
-# apart.
+# Bytes after the header of format 2. The first ones stop inside a valid field; in the others a
+# field is out of its range, or a complete base has an invalid content: descending names, a repeated
+# name, a holder, a state, and a position past its limit. The MD5s were computed separately.
 TORN_BASES = """
 
 40000000000000
@@ -62,7 +63,8 @@ DAMAGED_BASES = """
 WHOLE_BASES = """
 0000000000000003 0001 01 63 00000000 00000000 2ed3ed7408f6a25483850611ab778044
 4000000000000000 0000 3e3c9e5df6115e32ce8b7174b0440bb5"""
-# Entries and their records, and bases, as docs/JOURNAL.md has them: what is read of each, and its bytes, in which S1 and B stand for their own.
+# Entries and their records, and bases, as docs/JOURNAL.md has them: what each reads as, and its
+# bytes, in which S1 and B mean the bytes of these texts.
 RECORDS = """
 lock a B: 01 01 61 0000000a B 51e58c87956661f2abce797e7e32df48
 unlock a -: 02 01 61 00000000 3656b9beb184d0f7fe8fdd5464f96972
@@ -75,8 +77,9 @@ BASES = """
 base 0: 0000000000000000 0000 a63c90cc3684ad8b0a2176a6a8fe9005
 base 3 row c - -: 0000000000000003 0001 01 63 00000000 00000000 2ed3ed7408f6a25483850611ab778044
 base 2 row a B - row b - S1: 0000000000000002 0002 01 61 0000000a B 00000000 01 62 00000000 00000029 S1 0ae5c3e2dc3f8858a68f384f57e987cd"""
-# What stands behind the empty base, likewise. The last ones have a right MD5: identifiers that aren't UTF-8, in an unlock and in a push;
-# a push of one byte, one whose identifier passes its end, and one without a state; lock information twice, and a state.
+# Bytes after the empty base, likewise. The last ones have a right MD5: identifiers that aren't
+# UTF-8, in an unlock and in a push; a push of one byte, one whose identifier passes its end, and
+# one without a state; lock information twice, and a state.
 EMPTY = "00000000000000000000 a63c90cc3684ad8b0a2176a6a8fe9005 "
 TORN_RECORDS = """
 01
@@ -108,8 +111,8 @@ ff
 01 01 61 00000002 7b7d d62b7880ea8954d8b9d8c8ab6df46503
 01 01 61 00000000 c81bdc197452b935ef70a4343403383b
 03 01 61 00000004 00007b7d 33ce4fe46b230e56114e83228ce6d078"""
-# Records of the longest contents, and of some that are a byte longer: what stands in front of a filling, the filling, what stands behind
-# it, and whether they are read.
+# Records of the longest contents, and of some that are one byte longer: the text before a filling,
+# the filling, the text after it, and whether they are read.
 LONG_RECORDS = [
     ("02 01 61 00000100", b"x" * 256, "3527c3893f3ce67690004aade2875168", True),
     ("02 01 61 00000101", b"x" * 257, "8210012769dcae8e062d62d563a16159", False),

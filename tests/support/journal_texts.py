@@ -13,19 +13,19 @@ BYTES = st.integers(0, 255)
 
 @functools.lru_cache(maxsize=None)
 def up_to(most):
-    """Numbers from 0 on."""
+    """Returns a strategy for the numbers from 0 to this one."""
     return st.integers(0, most)
 
 
 @functools.lru_cache(maxsize=None)
 def one_in(count):
-    """Whether something happens that does so once in this many times."""
+    """Returns a strategy for true once in this many times."""
     return st.sampled_from([False] * (count - 1) + [True])
 
 
 @st.composite
 def with_mistakes(draw, text, changed, cut):
-    """The text; one in `changed` has another byte, and one in `cut` is cut."""
+    """Draws the text; one in `changed` has another byte, and one in `cut` is cut."""
     if draw(one_in(changed)):
         place = draw(up_to(len(text) - 1))
         text = text[:place] + bytes([draw(BYTES)]) + text[place + 1 :]
@@ -33,7 +33,8 @@ def with_mistakes(draw, text, changed, cut):
 
 
 def contents_of(identifier):
-    """Kinds of acts by this identifier with what they carry, each as often as it is to come."""
+    """Returns kinds of acts by this identifier with their contents, each as often as it is to
+    occur."""
     pushes = [(3, push_content(identifier, state)) for state in (S1, S2, S2 + b" ")]
     locks = [(1, A)] * 10 + [(1, B)] * 19 + [(1, b"[]")]
     return pushes * 30 + locks + [(2, identifier), (4, identifier)] * 30
@@ -52,7 +53,7 @@ ENTRIES = st.lists(RECORDS, max_size=8).map(b"".join)
 
 @st.composite
 def journal_texts(draw):
-    """The text of a journal of either format."""
+    """Draws the text of a journal of either format."""
     front = FIRST
     if draw(one_in(3)):
         rows = [(name, *row) for name, row in zip((b"a", b"b", b"c"), draw(ROWS))]

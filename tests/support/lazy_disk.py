@@ -10,18 +10,19 @@ from programs import preloaded
 
 @functools.cache
 def shim():
-    """The library of the disk, which is built once."""
+    """Returns the library of the disk, which is built once."""
     return preloaded("lazy_disk.c")
 
 
 def slow(**how):
-    """The environment of a program on a disk whose power is never cut."""
+    """Returns the environment of a program on a disk whose power is never cut."""
     given = {name: str(value) for name, value in how.items()}
     return {**os.environ, "LD_PRELOAD": str(shim()), **given}
 
 
 class Disk:
-    """A disk with a folder of journals and a file of the least position, or one of this path."""
+    """A disk at this path, or a new one with a folder of journals and a file of the least
+    position."""
 
     def __init__(self, root=None):
         shim()
@@ -31,18 +32,19 @@ class Disk:
             self.folder.mkdir()
 
     def env(self, **how):
-        """The environment of a program that starts on the disk, which keeps all that is there."""
+        """Returns the environment of a program that starts on the disk, whose present contents are
+        kept."""
         self.kept = fresh()
         return slow(DISK=self.root, KEPT=self.kept, **how)
 
     def names(self):
-        """The paths that are kept, directories first, each with the number of its file or 0."""
+        """Returns the kept paths, directories first, each with the number of its file or 0."""
         lines = (self.kept / "names").read_text().splitlines()
         found = [(path, int(number)) for number, _, path in (line.partition(" ") for line in lines)]
         return sorted(found, key=lambda name: (name[1] > 0, name[0]))
 
     def kept_bytes(self, path):
-        """The kept bytes of the file of a path."""
+        """Returns the kept bytes of the file of a path."""
         number = dict(self.names())[str(Path(path).relative_to(self.root))]
         return (self.kept / str(number)).read_bytes()
 

@@ -1,12 +1,12 @@
-"""Texts of a state and of a lock with mistakes and further members, for Hypothesis."""
+"""Texts of a state and of a lock with mistakes and additional members, for Hypothesis."""
 from hypothesis import strategies as st
 
 from journal_texts import one_in, up_to
 
-# The lock that texts are made of.
+# The lock that texts are made from.
 LOCK = r'''{"ID":"6bf5\u00e9","Operation":"OperationTypeApply","Info":"","Who":"a@b","Version":"1.9.5","Path":{"ID":[1]}}'''
 
-# The state that texts are made of.
+# The state that texts are made from.
 STATE = r'''{"version":4,"terraform_version":"1.9.5","serial":7,"lineage":"L\u00e9-1","outputs":{"o":{"value":[1,2.5e-3,-0]}},"resources":[
 {"module":"module.m[\"a\"]","mode":"managed","type":"t","name":"a","provider":"p","instances":[
 {"index_key":0,"attributes":{"id":"x\\y","ports":[80,443],"tags":null},"dependencies":["t.b","module.m.t.a"]},
@@ -72,14 +72,15 @@ null
 '''.encode().split() + [b"  ", b"\xff"]
 
 
-# A piece, most often a member; and how many bytes it replaces.
+# A piece, most often a member, and the number of bytes that it replaces.
 SOME_PIECES = st.sampled_from(PIECES + PIECES[:24] * (len(PIECES) // 24 + 1))
 COUNTS = st.sampled_from([0] * 240 + [1] * 40 + [*range(40)])
 
 
 @st.composite
 def changed(draw, text):
-    """The text with a piece, often a member, at some place, often behind a comma, in place of some bytes or of none."""
+    """Draws the text with a piece, often a member, at some place, often after a comma, instead of
+    some bytes or of none."""
     place = draw(up_to(len(text) - 1))
     if not draw(one_in(4)):
         place = text.find(b",", place) + 1 or place
@@ -88,6 +89,6 @@ def changed(draw, text):
 
 @st.composite
 def texts_with_mistakes(draw, text):
-    """The bytes of the text with one change or two."""
+    """Draws the bytes of the text with one change or two."""
     text = draw(changed(text.encode()))
     return draw(changed(text)) if draw(one_in(3)) else text

@@ -16,19 +16,19 @@ WHO = {"ID": "x", "Operation": "OperationTypeApply", "Who": "ann@build", "Create
 
 
 def bytes_of(*words):
-    """What the program writes on standard output, which is to end well."""
+    """Returns what the program writes to standard output. The program must succeed."""
     ran = subprocess.run([FOLDER_PROGRAM, *map(str, words)], stdin=subprocess.DEVNULL, capture_output=True, timeout=SECONDS, check=False)
     expect((ran.returncode, ran.stderr), (0, b""), words)
     return ran.stdout
 
 
 def told(folder, *words):
-    """The rows that a command prints as JSON."""
+    """Returns the rows that a command prints as JSON."""
     return json.loads(bytes_of(words[0], folder, *words[1:], "--json"))
 
 
 def refused(fault, folder, *words, output=None):
-    """A command that ends with a fault, and changes nothing: what it tells."""
+    """Runs a command that must end with a fault and change nothing. Returns its report."""
     before = all_of(folder) if folder.is_dir() else None
     status, written, errors = run(words[0], folder, *words[1:])
     expect((status, f": {fault}" in errors, len(errors.splitlines())), (STATUSES[fault], True, 1), f"{words}: {errors}")
@@ -43,7 +43,7 @@ def state(serial, lineage=b"L1"):
 
 
 def put_away(folder, **files):
-    """The folder, with journals in its `old/`."""
+    """Returns the folder, with journals in its `old/`."""
     (folder / "old").mkdir()
     for name, data in files.items():
         (folder / "old" / f"{named(int(name[1:]))}.tfj").write_bytes(data)
@@ -51,12 +51,13 @@ def put_away(folder, **files):
 
 
 def some_past():
-    """A folder with two journals, of which the older one was put away."""
+    """Returns a folder with two journals; the older one was retired."""
     return put_away(fresh(n3=SHORT + PUSH2 + record_text(1, b"a", json.dumps(WHO).encode())), n2=b"TFJ1\n" + PUSH1)
 
 
 def graph():
-    """A state in which instances depend on others, and the instances as the model reads them."""
+    """Returns a state in which instances depend on others, and the instances as the model reads
+    them."""
     texts = [resource("a", [{"index_key": key} for key in (0, 1, *HARD)])]
     texts += [resource("b", [{"dependencies": ["t.a"]}]), resource("c", [{"index_key": key, "dependencies": ["t.b", "t.none"]} for key in ("x", "y")])]
     data = text_of([*texts, resource("d", [{}]), resource("e", [{"dependencies": ["t.d", "t.e"]}])])
@@ -68,7 +69,7 @@ def quoted(instance):
 
 
 def drawn(instances, among, chosen):
-    """The lines of a picture, by the model."""
+    """Returns the lines of a picture, by the model."""
     nodes = [f"  {quoted(instances[u])}{' [style=filled]' if u in chosen else ''};" for u in among]
     edges = [f"  {quoted(instances[u])} -> {quoted(instances[v])};" for u in among for v in among
              if instances[v].configuration in instances[u].dependencies]

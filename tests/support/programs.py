@@ -1,5 +1,5 @@
-"""The built programs and the preloaded libraries of the tests, as paths that are found or built
-when they are first used."""
+"""The built programs and the preloaded libraries of the tests, as paths that are found or built on
+first use."""
 import functools
 import shutil
 import subprocess
@@ -14,13 +14,13 @@ FOLDER = tempfile.TemporaryDirectory(prefix="tfstated-")
 
 
 class Built:
-    """A path that is known once it is used: collecting tests builds nothing."""
+    """A path that is found on first use: collecting tests builds nothing."""
 
     def __init__(self, name):
         self.name, self.path, self.guard = name, None, threading.Lock()
 
     def make(self):
-        """Finds or builds the file: its path."""
+        """Finds or builds the file. Returns its path."""
         raise NotImplementedError
 
     def __fspath__(self):
@@ -39,7 +39,7 @@ class Program(Built):
 
 
 class Shim(Built):
-    """A library that gcc builds out of a file of tests/shims/, to be preloaded."""
+    """A library that gcc builds from a file of tests/shims/, to be preloaded."""
 
     def make(self):
         if shutil.which("gcc") is None:
@@ -53,7 +53,7 @@ class Shim(Built):
 
 @functools.lru_cache(maxsize=None)
 def preloaded(name):
-    """The library of a file of tests/shims/, which is built once."""
+    """Returns the library of a file of tests/shims/, which is built once."""
     return Shim(name)
 
 

@@ -1,4 +1,5 @@
-"""Clients that push to `tfstatectl serve` and try again as Terraform does, and what the journals of their folder have of them."""
+"""Clients that push to `tfstatectl serve` and retry as Terraform does, and the serials in the
+journals of their folder."""
 import http.client
 import json
 import time
@@ -15,11 +16,12 @@ GONE = (OSError, http.client.HTTPException)
 
 
 class Lost(Exception):
-    """No try of a request had a reply."""
+    """Raised if no try of a request had a reply."""
 
 
 class Pusher:
-    """Pushes rising serials to a name of its own on a connection that is kept, and tries again where that ends, as Terraform does."""
+    """A client that pushes rising serials to a name of its own on a persistent connection, and
+    retries if that ends, as Terraform does."""
 
     def __init__(self, server, name, padding=b""):
         self.server, self.name, self.padding, self.acknowledged, self.failures = server, name, padding, 0, []
@@ -29,7 +31,7 @@ class Pusher:
         return S1.replace(b"1 ", b"%d " % serial)[:-1] + b',"x":"' + self.padding + b'"}'
 
     def push(self):
-        """Pushes the next serial: the tries that it took."""
+        """Pushes the next serial. Returns the number of tries."""
         text = self.text(self.acknowledged + 1)
         for tried in range(1, TRIES + 1):
             try:
@@ -53,7 +55,8 @@ class Pusher:
 
 
 def serials_of(folder):
-    """The serials that were pushed by names, in order, over all journals of a folder, each of which goes on at the position of the last."""
+    """Returns the serials that names pushed, in order, over all journals of a folder. Each journal
+    must continue at the position of the previous one."""
     found, position = {}, None
     for _, data in sorted({**journals(folder), **journals(folder / "old")}.items()):
         _, base, rows, entries, end = read_journal(data)
@@ -66,7 +69,7 @@ def serials_of(folder):
 
 
 def has_come(holds, about, seconds=SECONDS):
-    """Waits until something holds."""
+    """Waits until a condition holds."""
     end = time.monotonic() + seconds
     while not holds():
         expect(time.monotonic() < end, True, about)
@@ -74,11 +77,11 @@ def has_come(holds, about, seconds=SECONDS):
 
 
 def newest(folder):
-    """The number of a folder's newest journal."""
+    """Returns the number of a folder's newest journal."""
     return max((int(path.stem[8:]) for path in folder.glob("*.tfj")), default=0)
 
 
 def serving(folder, *words, **how):
-    """A server on a folder, whose standard error goes to a file beside it."""
+    """Starts a server on a folder, with its standard error in a file next to the folder."""
     begins = [] if journals(folder) else ["--first"]
     return Serving(folder, "--keep", "1000000", *begins, *words, **how).listens()

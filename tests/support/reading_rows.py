@@ -1,7 +1,8 @@
-"""What texts of addresses, states and locks are read as, by hand from RFC 8259, from Terraform's state format, version 4, and from
-docs/MODEL.md: the rows of test_readings.py. A row is a line, `GIVEN => WANTED`."""
+"""What texts of addresses, states and locks read as, worked out by hand from RFC 8259, from
+Terraform's state format, version 4, and from docs/MODEL.md: the rows of test_readings.py. A row is
+a line, `GIVEN => WANTED`."""
 
-# A text each, and what is left of it.
+# Texts, and each one stripped.
 STRIPPED = r''' => ''
 a => 'a'
 a[0].b["x\"]"] => 'a.b'
@@ -15,14 +16,15 @@ t.n["a key of more than sixteen bytes \" é"].x => 't.n.x'
 [18446744073709551616]["\\"] => ''
 '''
 
-# A module each, and both configuration addresses of t.n in it: where it is managed, and where it is only read.
+# Modules, and both configuration addresses of t.n in each: of a managed resource, and of a data
+# source.
 CONFIGURATIONS = r''' => 't.n' 'data.t.n'
 module.m[7] => 'module.m.t.n' 'module.m.data.t.n'
 module.m["a.b"] => 'module.m.t.n' 'module.m.data.t.n'
 [0] => '.t.n' '.data.t.n'
 '''
 
-# Texts whose first bracket without a key is one that closes.
+# Texts whose first bracket without a key is a closing one.
 STRAY = r''']
 a]
 a]b[
@@ -31,7 +33,7 @@ a[0]]
 a["é😀"]é]
 '''
 
-# Texts whose first bracket without a key is one that opens.
+# Texts whose first bracket without a key is an opening one.
 UNCLOSED = r'''[
 a[x]
 a[]
@@ -46,8 +48,8 @@ a[0].é[1
 a[0]["]"].b["x\"]
 '''
 
-# A state each, with its answer: the version, the serial, the lineage, which fault comes first, which of two members counts, further
-# members, and what is no JSON text.
+# States, with the answer to each: the version, the serial, the lineage, which fault comes first,
+# which of two members counts, additional members, and invalid JSON.
 STATES = r'''{"version":4, "serial":1 ,"lineage":"L1"} => 1 "L1"
 {"version":4.0,"serial":1,"lineage":"L1"} => Version
 {"version":4e0,"serial":1,"lineage":"L1"} => Version
@@ -104,7 +106,7 @@ abc => NotJson
 {"version":4,"serial":1,"lineage":"\ud800"} => NotJson
 '''
 
-# A list of resources each, or what is no such list, with its first fault.
+# Lists of resources and invalid lists, with the first fault of each.
 RESOURCES = r'''{} => Resource(0)
 7 => Resource(0)
 "[]" => Resource(0)
@@ -135,7 +137,7 @@ false => Resource(0)
 [{"mode":"managed","type":"t","name":"","instances":[{"dependencies":["a["]},{"index_key":-1}]},{"mode":"x"}] => Resource(0)
 '''
 
-# What is no instance, one each.
+# Invalid instances.
 NO_INSTANCES = r'''null
 7
 []
@@ -156,7 +158,7 @@ true
 {"dependencies":["a["],"deposed":1}
 '''
 
-# What is no dependency, one each.
+# Invalid dependencies.
 NO_DEPENDENCIES = r'''null
 7
 []
@@ -170,7 +172,7 @@ false
 "a[\"x\""
 '''
 
-# One resource each, with one instance, and its line.
+# Lists of one resource with one instance, and the line of each.
 MODULES = r'''[{"mode":"data","type":"t","name":"n","instances":[{}]}] => data.t.n of data.t.n:
 [{"module":null,"mode":"data","type":"t","name":"n","instances":[{}]}] => data.t.n of data.t.n:
 [{"mode":"data","type":"t","name":"n","instances":[{"index_key":0,"deposed":"ab12"}]}] => data.t.n[0] (deposed ab12) of data.t.n:
@@ -181,7 +183,7 @@ MODULES = r'''[{"mode":"data","type":"t","name":"n","instances":[{}]}] => data.t
 [{"module":"m[1]","mode":"managed","type":"t[0]","name":"n]","instances":[{}]}] => m[1].t[0].n] of m.t[0].n]:
 '''
 
-# Resources with no instances.
+# Resources without instances.
 EMPTY = r'''null
 []
 [{"mode":"data","type":"t","name":"n"}]
@@ -204,7 +206,7 @@ t.n["a\"\u0007é/"] of t.n:
 t.n[18446744073709551615] of t.n:
 '''
 
-# Resources that depend on each other, on themselves, and on what isn't there; two have one address.
+# Resources that depend on each other, on themselves, and on absent ones; two have one address.
 DEPENDENT = r'''[{"mode":"managed","type":"t","name":"a","instances":[{"dependencies":["t.a","t.a"]}]},
 {"mode":"managed","type":"t","name":"a","instances":[{"dependencies":[]}]},
 {"mode":"managed","type":"t","name":"b","instances":[{"dependencies":["t.a[\"k\"]"]}]},
@@ -232,8 +234,8 @@ module.m[0].t.n of module.m.t.n:
 t.z of t.z: 0 1
 '''
 
-# A lock text each, with its answer: what is kept, what is no JSON text, what is no object, what is no identifier, escapes, which of two
-# members counts, and further members.
+# Lock texts, with the answer to each: what is kept, invalid JSON, other values than objects,
+# invalid identifiers, escapes, which of two members counts, and additional members.
 LOCKS = r'''{"ID":"A" ,"Who":""} => "A"
 {"ID":"A"} => "A"
 {"ID":"lock"} => "lock"
@@ -284,7 +286,7 @@ true => NotObject
 {"Who":7,"Info":[null,{}],"ID":"A","id":"B","Path":null,"more":{"ID":"C"}} => "A"
 '''
 
-# A lock text each, in which `#` stands for 257 letters, and its answer.
+# Lock texts, in which `#` means 257 letters, with the answer to each.
 FILLED = r'''{"ID":"# => NotJson
 [{"ID":"#"}] => NotObject
 {"Who":"#"} => NoId

@@ -1,4 +1,4 @@
-"""Runs built programs whose requests for memory are refused, by a preloaded shim."""
+"""Runs built programs whose requests for memory a preloaded shim refuses."""
 import os
 import subprocess
 import tempfile
@@ -12,7 +12,8 @@ SECONDS = 60
 
 
 class Counts(NamedTuple):
-    """What a program asked for: its own requests and others', the bytes of its longest one, and the most that was given out at once."""
+    """What a program requested: the numbers of its own requests and of others', the bytes of its
+    longest one, and the peak of the memory given out."""
 
     own: int
     others: int
@@ -21,11 +22,12 @@ class Counts(NamedTuple):
 
 
 def run_counted(words, first, last, data=b"", **how):
-    """Runs a program, whose requests from the first to the last are refused: how it ended, and its counts."""
+    """Runs a program whose requests from the first to the last are refused. Returns how it ended,
+    and its counts."""
     reading, writing = os.pipe()
     given = {"LD_PRELOAD": str(SHIM), "REFUSE_FROM": str(first), "REFUSE_TO": str(last), "COUNTS": str(writing)}
     with tempfile.TemporaryFile() as text:
-        # A read of a file gives all that there is room for, so each run makes the same requests.
+        # A read of a file fills all available room, so each run makes the same requests.
         text.write(data)
         text.seek(0)
         how = {"stdin": text, "stdout": subprocess.PIPE, "stderr": subprocess.PIPE, "timeout": SECONDS, "check": False, **how}
@@ -36,14 +38,16 @@ def run_counted(words, first, last, data=b"", **how):
 
 
 def run_refused(words, first, last, data=b"", **how):
-    """The same: what it wrote, its status, what it wrote on standard error, and the counts of its own requests and of others."""
+    """Does the same. Returns the output, the status, standard error, and the counts of its own
+    requests and of others'."""
     ran, counts = run_counted(words, first, last, data, **how)
     return ran.stdout, ran.returncode, ran.stderr, counts.own, counts.others
 
 
 def fault_of(words, ample, first, last, data=b""):
-    """Runs a program, whose requests from the first to the last are refused: what it wrote, and its fault, which is empty where
-    there is none. It has to write its ample output, or whole lines of it and end with status 1."""
+    """Runs a program whose requests from the first to the last are refused. Returns its output, and
+    its fault, which is empty if there is none. The program must write its ample output, or complete
+    lines of it and end with status 1."""
     output, status, fault = run_refused(words, first, last, data)[:3]
     lines = ample.splitlines(keepends=True)
     is_cut = output in [b"".join(lines[:count]) for count in range(len(lines) + 1)]
@@ -53,7 +57,8 @@ def fault_of(words, ample, first, last, data=b""):
 
 
 def count_of(words, ample, data=b""):
-    """How many requests a program makes with ample memory, of which it has to write this output."""
+    """Returns how many requests a program makes with ample memory, when it must write this
+    output."""
     output, status, fault, own, _ = run_refused(words, 0, 0, data)
     if (output, status, fault) != (ample, 0, b"") or not own:
         raise AssertionError(f"with ample memory: {output[-200:]}, status {status}, {fault}, {own} requests")
@@ -61,5 +66,5 @@ def count_of(words, ample, data=b""):
 
 
 def most_of(words, data=b""):
-    """The most bytes that a program has at once, where no request is refused."""
+    """Returns the peak memory of a program in bytes, if no request is refused."""
     return run_counted(words, 0, 0, data)[1].most

@@ -1,17 +1,18 @@
-"""States that checks and benchmarks read, the same at each run."""
+"""States that tests and benchmarks read, the same in each run."""
 import json
 import random
 import string
 
 HEAD = {"version": 4, "terraform_version": "1.9.0", "serial": 7, "lineage": "3f2a9c0e-8d1b-4a57-9a35-2f6e1d7b5c11"}
 OUTPUTS = {"address": {"value": "10.0.0.1", "type": "string"}}
-# How many layers a layered state has, and how many resources the others that have many instances of each.
+# The number of layers of a layered state, and the numbers of resources of the states with many
+# instances of each.
 LAYERS, DENSE, GROUPS = 32, 64, 8
 LETTERS = string.ascii_letters + string.digits + "-_"
 
 
 def text_of(resources, **head):
-    """The text of a state with these resources, in one line."""
+    """Returns the text of a state with these resources, in one line."""
     text = {**HEAD, "outputs": OUTPUTS, "resources": resources, "check_results": None, **head}
     return json.dumps(text, separators=(",", ":")).encode()
 
@@ -21,7 +22,8 @@ def resource(name, instances, **members):
 
 
 def written(count, more):
-    """As Terraform writes it: so many resources of one instance, each with so many attributes beyond some that all have."""
+    """Returns a state as Terraform writes it: resources of one instance, each with `more`
+    attributes in addition to the common ones."""
     return text_of([written_resource(number, more) for number in range(count)])
 
 
@@ -36,51 +38,53 @@ def written_resource(number, more):
 
 
 def letters(number):
-    """One of 4,096 names of two letters."""
+    """Returns one of 4,096 names of two letters."""
     return LETTERS[number // 64 % 64] + LETTERS[number % 64]
 
 
 def dependent(count, each):
-    """So many resources of one instance, each with so many dependencies."""
+    """Returns a state with this many resources of one instance, each with `each` dependencies."""
     return text_of([resource(letters(i), [{"dependencies": [f"t.{letters(31 * i + 7 * k)}" for k in range(each)]}]) for i in range(count)])
 
 
 def deep(count, path, instances):
-    """So many resources in a module whose path has so many bytes, each with so many instances."""
+    """Returns a state with this many resources in a module whose path has `path` bytes, each with
+    this many instances."""
     return text_of([resource(f"n{i}", [{"index_key": key} for key in range(instances)], module="m" * path) for i in range(count)])
 
 
 def chain(count, **head):
-    """So many instances, each of which depends on the one before."""
+    """Returns a state with this many instances, each depending on the previous one."""
     return text_of([resource(f"r{i}", [{"dependencies": [f"t.r{i - 1}"] if i else []}]) for i in range(count)], **head)
 
 
 def layered(count):
-    """In layers, each instance depends on four of the layer before."""
+    """Returns a state in layers, whose instances each depend on four of the previous layer."""
     chance, width = random.Random(1), count // LAYERS
     return text_of([resource(f"r{i}", [{"dependencies": [f"t.r{(i // width - 1) * width + chance.randrange(width)}" for _ in range(4 * (i >= width))]}])
                     for i in range(count)])
 
 
 def keyed(count, resources, dependencies_of):
-    """Resources with many instances; what each instance depends on is given by the number of its resource."""
+    """Returns a state of resources with many instances. The number of a resource gives the
+    dependencies of its instances."""
     return text_of([resource(f"r{i}", [{"index_key": key, "dependencies": dependencies_of(i)} for key in range(count // resources)])
                     for i in range(resources)])
 
 
 def dense(count):
-    """Each instance depends on half of the resources."""
+    """Returns a state in which each instance depends on half of the resources."""
     chance = random.Random(1)
     return keyed(count, DENSE, lambda i: [f"t.r{k}" for k in range(DENSE) if chance.random() < 0.5])
 
 
 def groups(count):
-    """Each instance depends on all instances of the resource before."""
+    """Returns a state in which each instance depends on all instances of the previous resource."""
     return keyed(count, GROUPS, lambda i: [f"t.r{i - 1}"] if i else [])
 
 
 def servers(serial, count):
-    """A state of a serial as Terraform writes it, with so many servers in a module."""
+    """Returns a state with a serial as Terraform writes it, with this many servers in a module."""
     return text_of([server(number) for number in range(count)], serial=serial)
 
 

@@ -1,4 +1,4 @@
-"""Runs the built program as a server, for the checks: on a port that is free and a journal of its own."""
+"""Runs the built program as a server for the tests, on a free port and a journal of its own."""
 import contextlib
 import ctypes
 import itertools
@@ -21,7 +21,7 @@ PIDFD_GETFD = 438  # pidfd_getfd(2) of Linux, for which Python has no name
 
 
 def fresh(content=None):
-    """A path in the folder that no check has used; with a content, a file of it is there."""
+    """Returns an unused path in the folder; with a content, writes it to a file there."""
     path = Path(FOLDER.name) / f"journal-{next(NUMBER)}"
     if content is not None:
         path.write_bytes(content)
@@ -29,14 +29,14 @@ def fresh(content=None):
 
 
 def free_port():
-    """A port of the loopback that nobody uses at this moment."""
+    """Returns a free port of the loopback interface."""
     with socket.socket() as probe:
         probe.bind((LOOPBACK, 0))
         return probe.getsockname()[1]
 
 
 class Server:
-    """The running server on a journal of its own, which is new or goes on from an old one."""
+    """The running server on a journal of its own, which is new or continues an old one."""
 
     def __init__(self, workers=2, old=None, **how):
         self.address, self.new = f"{LOOPBACK}:{free_port()}", fresh()
@@ -52,41 +52,45 @@ class Server:
         return connection
 
     def ask(self, method, target, body=b"", more=""):
-        """The status and the body of the reply to one request, on a connection of its own."""
+        """Returns the status and the body of the reply to one request, on a connection of its
+        own."""
         with self.connect() as connection:
             return asked(connection, method, target, body, more)
 
     def kill(self):
-        """Kills the server, and waits until it is gone: its journal's bytes."""
+        """Kills the server, and waits until it is gone. Returns its journal's bytes."""
         self.process.kill()
         self.process.communicate()
         return Path(self.new).read_bytes()
 
     def end(self):
-        """Waits until it has ended by itself: what else it wrote, its status, and what it wrote on standard error."""
+        """Waits until the server has ended. Returns the rest of its output, its status, and what it
+        wrote to standard error."""
         output, errors = self.process.communicate(timeout=SECONDS)
         return output, self.process.returncode, errors
 
     def shut(self):
-        """Shuts the socket that it listens on: it is given no connection any more. Those that it has stay."""
+        """Shuts the listening socket: the server gets no further connections, and keeps the
+        existing ones."""
         for name in os.listdir(f"/proc/{self.process.pid}/fd"):
             with contextlib.suppress(OSError), descriptor_of(self.process.pid, int(name)) as copied:
                 if copied.getsockopt(socket.SOL_SOCKET, socket.SO_ACCEPTCONN):
                     copied.shutdown(socket.SHUT_RDWR)
 
     def lowest_free(self):
-        """The number that its next descriptor gets."""
+        """Returns the number that the server's next descriptor gets."""
         used = set(map(int, os.listdir(f"/proc/{self.process.pid}/fd")))
         return next(number for number in itertools.count() if number not in used)
 
     def leave_free(self, count):
-        """Lets it have new descriptors below this number alone; those that it has stay."""
+        """Limits the server's new descriptors to numbers below this one; it keeps the existing
+        ones."""
         _, most = resource.prlimit(self.process.pid, resource.RLIMIT_NOFILE)
         resource.prlimit(self.process.pid, resource.RLIMIT_NOFILE, (count, most))
 
 
 def descriptor_of(pid, number):
-    """A socket that a process of ours has under this number."""
+    """Returns a copy of the socket that a child process has under this number."""
     process = os.pidfd_open(pid)
     try:
         copied = ctypes.CDLL(None, use_errno=True).syscall(PIDFD_GETFD, process, number, 0)
@@ -102,7 +106,8 @@ def descriptor_of(pid, number):
 
 
 def reply_of(file):
-    """The status and the body of the next reply; none where the connection ends before it is whole."""
+    """Returns the status and the body of the next reply; none if the connection ends before it is
+    complete."""
     line = file.readline()
     if not line.endswith(b"\r\n"):
         return None
@@ -115,14 +120,14 @@ def reply_of(file):
 
 
 def asked(connection, method, target, body=b"", more=""):
-    """The status and the body of the reply to one request."""
+    """Returns the status and the body of the reply to one request."""
     connection.sendall(request_text(method, target, body, more))
     with connection.makefile("rb") as file:
         return reply_of(file)
 
 
 def answer_over(connection, request):
-    """The reply to a request; none where its connection ends without one."""
+    """Returns the reply to a request; none if its connection ends without one."""
     try:
         return asked(connection, *request)
     except ConnectionError:
@@ -130,33 +135,34 @@ def answer_over(connection, request):
 
 
 def answer_of(server, request):
-    """The same on a connection of its own."""
+    """Does the same on a connection of its own."""
     with server.connect() as connection:
         return answer_over(connection, request)
 
 
 def run(*words, **how):
-    """Runs the program, which is to end by itself: what it wrote, its status, and what it wrote on standard error."""
+    """Runs the program until it ends. Returns its output, its status, and what it wrote to standard
+    error."""
     how = {"stdout": subprocess.PIPE, **how}
     ran = subprocess.run([PROGRAM, *words], stderr=subprocess.PIPE, stdin=subprocess.DEVNULL, timeout=SECONDS, check=False, **how)
     return ran.stdout, ran.returncode, ran.stderr
 
 
 def state(serial, *resources):
-    """A state's text, with resources of type t, each with its dependencies."""
+    """Returns a state's text, with resources of type t, each with its dependencies."""
     listed = [{"mode": "managed", "type": "t", "name": name, "instances": [{"dependencies": needs}]} for name, *needs in resources]
     return json.dumps({"version": 4, "serial": serial, "lineage": "L1", "resources": listed}).encode()
 
 
 def entries_of(data):
-    """The entries of a journal's bytes, which are whole or torn."""
+    """Returns the entries of a journal's bytes, which are whole or torn."""
     _, _, _, entries, end = read_journal(data)
     expect(end.split()[0] in ("whole", "torn"), True, f"the journal's end: {end}")
     return entries
 
 
 def calls_in(trace):
-    """The calls that a trace has told so far, in order."""
+    """Returns the calls that a trace has recorded so far, in order."""
     lines = os.read(trace, 65536).decode().splitlines()
     return [(name, int(descriptor)) for name, descriptor in map(str.split, lines)]
 
@@ -170,7 +176,7 @@ def send_all(connection, data):
 
 
 def rest_of(file):
-    """What comes until a connection ends."""
+    """Returns the bytes up to the end of a connection."""
     try:
         return file.read()
     except ConnectionError:
@@ -178,22 +184,24 @@ def rest_of(file):
 
 
 def limited(space):
-    """What limits the address space of a program."""
+    """Returns a function that limits the address space of a program."""
     return lambda: resource.setrlimit(resource.RLIMIT_AS, (space, space))
 
 
 def hostile(length):
-    """A body of so many bytes, which takes many times its bytes to be read."""
+    """Returns a body of this many bytes, which takes many times its length in memory to be read."""
     return (b"[" + b'{"":0},' * ((length - 4) // 7)).ljust(length - 3) + b"{}]"
 
 
 def zeros(length):
-    """A list of so many bytes, each number of which takes many times its bytes to be read."""
+    """Returns a list of this many bytes, whose numbers each take many times their length in memory
+    to be read."""
     return (b"[" + b"0," * ((length - 4) // 2)).ljust(length - 2) + b"0]"
 
 
 def crowd(length):
-    """A state of so many bytes that lists far too many instances, each of which takes many times its bytes to be read."""
+    """Returns a state of this many bytes that lists far too many instances, which each take many
+    times their length in memory to be read."""
     head, tail = state(1, ("a",)).rsplit(b"{", 1)
     expect(tail.startswith(b'"dependencies"'), True, "the last object is the instance")
     room = length - len(head) - len(tail) - 1
@@ -201,7 +209,8 @@ def crowd(length):
 
 
 def push_large(server, text, statuses):
-    """Pushes a text, and keeps the status of the reply; none where the connection ends without one."""
+    """Pushes a text, and records the status of the reply; none if the connection ends without
+    one."""
     try:
         reply = server.ask("POST", "/state/large", text)
     except OSError:

@@ -1,4 +1,5 @@
-"""Sessions of `tfstated serve` that work at the same time. What each of them is answered has to follow one journal, by a plain model of the rules."""
+"""Sessions of `tfstated serve` that work concurrently. The answers to each must follow one journal,
+by a plain model of the rules."""
 import json
 import threading
 
@@ -8,12 +9,13 @@ from serve_program import Server, asked, entries_of, fresh, state
 
 
 def chain(serial):
-    """A state in which t.b depends on t.a, and t.c on t.b."""
+    """Returns a state in which t.b depends on t.a, and t.c on t.b."""
     return state(serial, ("a", "x.y"), ("b", "t.a"), ("c", "t.b"))
 
 
 def at_once(server, count, talk):
-    """What this gives of so many sessions, each with a connection of its own, which talk at the same time."""
+    """Returns the results of this many sessions, which talk concurrently, each on a connection of
+    its own."""
     given = [None] * count
 
     def session(number):
@@ -29,15 +31,16 @@ def at_once(server, count, talk):
 
 
 def asked_in_turn(number, turn, count):
-    """What a session of so many asks in a turn: pushes with serials that no other push has, one of them with an identifier of its own, its lock
-    and its unlock, queries, a read, and an unlock of a name of its own."""
+    """Returns the requests of one of the sessions in a turn: pushes with serials that no other push
+    has, one of them with an identifier of its own, its lock and its unlock, queries, a read, and an
+    unlock of a name of its own."""
     me, serial, query = number + 1, count * turn + number + 2, ("GET", "/impact/a/any?of=t.a")
     return [("POST", "/state/a", chain(serial)), query, ("LOCK", "/state/a", b'{"ID":"%d"}' % me), ("POST", f"/state/a?ID={me}", chain(serial)), query,
             ("UNLOCK", f"/state/a?ID={me}"), ("GET", "/state/a"), ("UNLOCK", f"/state/own{number}")][turn % 8]
 
 
 def entry_for(method, target, *body):
-    """The entry of a change that is accepted; none of another request."""
+    """Returns the entry of a change that is accepted; none for another request."""
     name, _, identifier = target.removeprefix("/state/").partition("?ID=")
     carried = {"POST": ("push", [identifier.encode(), *body]), "LOCK": ("lock", [*body]), "UNLOCK": ("unlock", [identifier.encode()])}.get(method)
     return carried and (carried[0], name, carried[1])
@@ -51,13 +54,13 @@ class Standing:
         self.serial, self.held = json.loads(text)["serial"], json.loads(holder)["ID"] if holder else ""
 
     def after(self, kind, name, parts):
-        """What an entry leaves."""
+        """Returns the state and the holder after an entry."""
         if name != "a":
             return self
         return Standing(parts[1] if kind == "push" else self.text, {"push": self.holder, "lock": parts[0], "unlock": b""}[kind])
 
     def refusal(self, method, target, *body):
-        """Why a change is refused; none where it isn't."""
+        """Returns why a change is refused; None if it isn't."""
         identifier = target.partition("?ID=")[2]
         others = {"LOCK": self.holder != b"".join(body), "UNLOCK": "own" not in target and identifier != self.held, "POST": identifier != self.held}
         if self.holder and others[method]:
@@ -67,7 +70,7 @@ class Standing:
         return (409, b'{"error":"SerialTooLow"}') if method == "POST" and json.loads(body[0])["serial"] < self.serial else None
 
     def answer(self, position, method, target, *body):
-        """What a request is answered by which no entry is made; none where one would be."""
+        """Returns the answer to a request that makes no entry; None for one that makes an entry."""
         if method != "GET":
             return self.refusal(method, target, *body)
         if target == "/state/a":
@@ -76,7 +79,7 @@ class Standing:
 
 
 def standings_of(entries):
-    """What `a` has at each position from 1 on, which is the base's."""
+    """Returns the state and the holder of `a` at each position from 1 on, which is the base's."""
     standings = [Standing(chain(1))]
     for entry in entries:
         standings.append(standings[-1].after(*entry))
@@ -84,8 +87,9 @@ def standings_of(entries):
 
 
 def follow(requests, replies, entries, standings):
-    """Each reply is over a beginning of the journal, no shorter than that of the one before, and each accepted change is an entry there. How many
-    changes were accepted."""
+    """Checks that each reply is based on a prefix of the journal, no shorter than that of the
+    previous reply, and that each accepted change is an entry there. Returns the number of accepted
+    changes."""
     changes, seen = [entry_for(*request) for request in requests], 1
     own = [position for position, entry in enumerate(entries, 2) if entry in changes]
     count = len(own)
@@ -102,7 +106,8 @@ def follow(requests, replies, entries, standings):
 
 
 def round_of(count, turns):
-    """So many sessions make so many requests each, at once, and all that they are answered follows one journal. How many changes were accepted."""
+    """Has sessions make this many turns of requests each, concurrently, and checks that all answers
+    follow one journal. Returns the number of accepted changes."""
     server = Server(workers=count, old=fresh(b"TFJ2\n" + base_text(1, [(b"a", b"", chain(1))])))
     asked_by = [[asked_in_turn(number, turn, count) for turn in range(turns)] for number in range(count)]
     replies = at_once(server, count, lambda connection, number: [asked(connection, *request) for request in asked_by[number]])

@@ -1,4 +1,5 @@
-"""Conversations by hand over the built program and over the model's table, and replies that they have, byte by byte."""
+"""Conversations by hand over the built program and over the model's table, and their replies, byte
+by byte."""
 from checking import expect
 from stdio_model import CLEAN, Request, Table
 from stdio_program import request_text, run
@@ -45,19 +46,19 @@ JOURNAL_FULL = (
 
 
 def showing(body):
-    """The reply that shows a state."""
+    """Returns the reply that shows a state."""
     head = b"HTTP/1.1 200 OK\r\nContent-Type: application/json\r\nContent-Length: %d\r\n\r\n"
     return head % len(body) + body
 
 
 def locked_by(held):
-    """The reply that shows the holder of a lock."""
+    """Returns the reply that shows the holder of a lock."""
     head = b"HTTP/1.1 423 Locked\r\nContent-Type: application/json\r\nContent-Length: %d\r\n\r\n"
     return head % len(held) + held
 
 
 def expect_replies(output, replies, requests, about):
-    """Fails at the first reply of an output that isn't the wanted one, and where more follows."""
+    """Fails at the first reply of an output that isn't the expected one, and if more follows."""
     at = 0
     for number, reply in enumerate(replies):
         found = output[at : at + len(reply)]
@@ -68,7 +69,8 @@ def expect_replies(output, replies, requests, about):
 
 
 def expect_talk(rows):
-    """Runs rows of method, target, body and reply as one conversation, over the program and over the model's table."""
+    """Runs rows of method, target, body and reply as one conversation, over the program and
+    over the model's table."""
     requests, wanted = [row[:3] for row in rows], [row[3] for row in rows]
     table = Table()
     expect_replies(b"".join(table.reply(Request(*request)) for request in requests), wanted, requests, "the model")

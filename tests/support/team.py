@@ -1,5 +1,6 @@
-"""Clients that work as Terraform does: they lock, fetch, push and unlock on connections that are kept. Some of them are killed, between
-requests and inside one, and the server is killed under all of them. What they sent, and what was acknowledged, is kept."""
+"""Clients that work as Terraform does: they lock, fetch, push and unlock on persistent connections.
+Some of them are killed, between requests and inside one, and the server is killed while all of them
+work. Their requests and the acknowledgements are recorded."""
 import base64
 import hashlib
 import http.client
@@ -17,7 +18,8 @@ GONE = (OSError, http.client.HTTPException)
 
 
 class Changes:
-    """What was asked of a server, and when it was sent and acknowledged. No change is asked for twice."""
+    """The requested changes, and when each was sent and acknowledged. No change is requested
+    twice."""
 
     def __init__(self):
         self.sent, self.acknowledged = {}, {}
@@ -30,8 +32,9 @@ class Changes:
         self.acknowledged[change] = time.monotonic()
 
     def expect_in(self, entries, about):
-        """Each acknowledged change is among the entries of a journal, and before each that was sent after it was acknowledged. None is
-        there twice, nor one that nobody sent."""
+        """Checks that each acknowledged change is among the entries of a journal, before each
+        change that was sent after the acknowledgement, and that no entry occurs twice or was never
+        sent."""
         found, latest = [(kind, name, tuple(fields)) for kind, name, fields in entries], 0
         expect(len(set(found)), len(found), f"{about}: how often each is there")
         expect([change for change in found if change not in self.sent], [], f"{about}: what nobody sent")
@@ -43,7 +46,7 @@ class Changes:
 
 
 class Team:
-    """What all clients know together."""
+    """The state that all clients share."""
 
     def __init__(self, server):
         self.server, self.goes_on, self.changes, self.failures = server, True, Changes(), []
@@ -51,13 +54,13 @@ class Team:
         self.guard = threading.Condition()
 
     def kill(self):
-        """Kills the server while the clients work: the journal's bytes."""
+        """Kills the server while the clients work. Returns the journal's bytes."""
         with self.guard:
             server, self.server = self.server, None
         return server.kill()
 
     def go_on(self, server):
-        """Has the clients work on with another server."""
+        """Has the clients continue with another server."""
         with self.guard:
             self.server = server
             self.guard.notify_all()
@@ -69,21 +72,21 @@ class Team:
             self.guard.notify_all()
 
     def current(self):
-        """The server, once there is one; none where the clients are to end."""
+        """Returns the server, once there is one; None if the clients must end."""
         with self.guard:
             if not self.guard.wait_for(lambda: self.server is not None or not self.goes_on, SECONDS):
                 self.failures.append("there is no server")
             return self.server if self.goes_on and not self.failures else None
 
     def enter(self, name, number, status):
-        """A client got a lock: nobody else is to have it."""
+        """Records that a client got a lock, which no other client may have then."""
         with self.guard:
             if status != 200 or name in self.inside:
                 self.failures.append(f"{name}: {number} got status {status} while {self.inside.get(name)} is inside")
             self.inside[name] = number
 
     def leave(self, name, number, orphan=None):
-        """A client is about to unlock, or has gone and perhaps left its lock."""
+        """Records that a client is about to unlock, or has gone and perhaps left its lock."""
         with self.guard:
             if self.inside.get(name) == number:
                 del self.inside[name]
@@ -91,26 +94,29 @@ class Team:
                 self.orphans.add(orphan)
 
     def lose(self, server, error):
-        """A client lost its connection, which is right only where its server was killed."""
+        """Records that a client lost its connection, which is right only if its server was
+        killed."""
         with self.guard:
             self.lost += 1
             if server is self.server:
                 self.failures.append(f"a connection ends while the server goes on: {error!r}")
 
     def take_orphan(self, server, name, holder):
-        """Whether a holder, as this server told it, is one that has gone; then it is the caller's to unlock."""
+        """Returns true if a holder that this server reported has gone; the caller must then
+        unlock."""
         with self.guard:
             is_left = server is self.server and name not in self.inside and holder in self.orphans
             self.orphans -= {holder} if is_left else set()
             return is_left
 
     def give_back(self, holder):
-        """A holder that has gone may still have its lock."""
+        """Records that a holder that has gone may still have its lock."""
         with self.guard:
             self.orphans.add(holder)
 
     def find(self, name, serial):
-        """Who has the lock finds the last push that was acknowledged, or one that wasn't since the server was killed."""
+        """Checks that the holder of the lock finds the last acknowledged push, or an unacknowledged
+        one from before the server was killed."""
         with self.guard:
             wanted = {self.serials.get(name, 0), self.doubtful.pop(name, self.serials.get(name, 0))}
             if serial not in wanted:
@@ -119,7 +125,8 @@ class Team:
 
 
 class Client(threading.Thread):
-    """One machine with Terraform: it changes workspaces under their locks, on a connection that it keeps."""
+    """One machine with Terraform: it changes workspaces under their locks, on a persistent
+    connection."""
 
     def __init__(self, number, team):
         super().__init__(daemon=True)
@@ -144,13 +151,13 @@ class Client(threading.Thread):
                 self.team.failures.append(f"client {self.number}: {error!r}")
 
     def drop(self):
-        """Closes the connection, as a client that is killed does."""
+        """Closes the connection, as a killed client does."""
         if self.connection is not None:
             self.connection.close()
             self.connection = None
 
     def ask(self, method, target, body=None):
-        """The status and the body of the reply."""
+        """Returns the status and the body of the reply."""
         if time.monotonic() - self.used > 1:
             self.drop()  # the server closes it soon
         if self.connection is None:
@@ -165,7 +172,8 @@ class Client(threading.Thread):
         return status, text
 
     def submit(self, change, method, target, body):
-        """Asks for a change, and keeps it where it is acknowledged: the status and the body of the reply."""
+        """Requests a change, and records it if it is acknowledged. Returns the status and the body
+        of the reply."""
         change = self.team.changes.send(*change)
         status, text = self.ask(method, target, body)
         if status == 200:
@@ -173,7 +181,7 @@ class Client(threading.Thread):
         return status, text
 
     def cut(self, name, info, request):
-        """Is killed after a part of a request, with the lock perhaps."""
+        """Ends the client as if killed, after a part of a request, perhaps with the lock."""
         if self.connection is not None and self.connection.sock is not None:
             self.connection.sock.sendall(request[: self.rng.randrange(1, len(request))])
             self.team.cut += 1
@@ -181,7 +189,8 @@ class Client(threading.Thread):
         self.team.leave(name, self.number, info)
 
     def change(self, name, identifier, info):
-        """One run of Terraform on a workspace; where somebody else has the lock, the run ends. Some are killed inside."""
+        """Does one run of Terraform on a workspace. The run ends if another client has the lock.
+        Some clients are killed inside."""
         target, fate = f"/state/{name}", self.rng.random()
         if fate < 0.03:
             return self.cut(name, None, request_text("LOCK", target, info))
@@ -211,7 +220,7 @@ class Client(threading.Thread):
         self.team.serials[name] = serial
 
     def break_lock(self, name, holder):
-        """Where the holder is one that has gone, its lock is opened."""
+        """Unlocks the workspace if the holder has gone."""
         if not self.team.take_orphan(self.server, name, holder):
             return
         try:

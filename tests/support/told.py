@@ -1,4 +1,5 @@
-"""What servers tell the clients of the tests, and clients that ask until a server is gone."""
+"""What servers reported to the clients of the tests, and clients that send requests until a server
+is gone."""
 import http.client
 import json
 import threading
@@ -14,8 +15,8 @@ NAMES = [f"n{number}" for number in range(4)]
 
 
 class Told:
-    """What a server has told: of each name the last serial that was acknowledged or read, and the
-    greatest position."""
+    """What a server has reported: the last serial of each name that was acknowledged or read, and
+    the greatest position."""
 
     def __init__(self):
         self.acknowledged, self.read, self.position, self.count = {}, {}, 0, 0
@@ -40,7 +41,7 @@ class Told:
             self.position = max(self.position, answer["position"])
 
     def expect_in(self, folder, about):
-        """All of it is in the journals of a folder."""
+        """Checks that the journals of a folder have all of it."""
         serials, position = serials_of(folder)
         for name in NAMES:
             found, last = serials.get(name, []), self.acknowledged.get(name, 0)
@@ -53,7 +54,8 @@ class Told:
 
 
 def ask_on(server, step):
-    """Asks until the server is gone. One that compacts its journal ends connections."""
+    """Sends requests until the server is gone. A server that compacts its journal ends
+    connections."""
     connection = http.client.HTTPConnection(LOOPBACK, server.port, timeout=10)
     while server.process.poll() is None:
         try:
@@ -64,7 +66,7 @@ def ask_on(server, step):
 
 
 def beside(server, told, readers):
-    """Threads that push to each name, and some that read."""
+    """Starts threads that push to each name, and some that read. Returns them."""
     steps = [lambda connection, name=name: told.push(connection, name) for name in NAMES]
     for name in NAMES[:readers]:
         steps.append(lambda connection, name=name: told.look(connection, name))
@@ -75,7 +77,7 @@ def beside(server, told, readers):
 
 
 def kill_beside(server, told, rng, is_due):
-    """Kills a server at a random moment under load, after something holds."""
+    """Kills a server at a random moment under load, after a condition holds."""
     threads, count = beside(server, told, 3), told.count + rng.randrange(12)
     while told.count < count or not is_due():
         expect(server.process.poll(), None, "the server runs")

@@ -1,7 +1,7 @@
-"""A state as Terraform writes it, with each address and each dependency by hand."""
+"""A state as Terraform writes it, and each address and each dependency by hand."""
 
-# A state as Terraform writes it, after its published layout: a network module for each of two zones, servers by `count` and by `for_each`, and
-# data sources.
+# A state as Terraform writes it, in its published layout: a network module for each of two zones,
+# servers by `count` and by `for_each`, and data sources.
 WRITTEN = r'''{
   "version": 4,
   "terraform_version": "1.9.5",
@@ -91,7 +91,8 @@ WRITTEN = r'''{
 }
 '''
 
-# Its instances in the order of the text: an instance's address, its configuration address, and the numbers of those that it depends on.
+# Its instances in the order of the text: an instance's address, its configuration address, and the
+# numbers of its dependencies.
 WRITTEN_LINES = r'''data.cloud_image.linux of data.cloud_image.linux:
 cloud_network.main of cloud_network.main:
 module.zone["east"].data.cloud_zone.this of module.zone.data.cloud_zone.this:

@@ -1,4 +1,5 @@
-//! The index of a state, beside a plane from pairs that are ready; and its queries, beside listing their answers.
+//! Builds the index of a state, compared with a plane from pairs that are ready, and answers
+//! queries, compared with listing their answers.
 
 ghost use Rattle.std.specs.Prelude.{◌<◌, ◌≤◌, length};
 
@@ -13,7 +14,8 @@ use tfs_index::{ImpactFault, Version};
 use tfs_planes::Plane;
 use tfs_state::Doc;
 
-/// A state with its index, its pairs of instances of which the second depends on the first, and addresses of a query.
+/// A state with its index, the pairs of its instances in which the second depends on the first, and
+/// the addresses of a query.
 #[derive(Drop)]
 pub(crate) struct Impacts<'a> {
     texts: Vec<&'a str>,
@@ -22,7 +24,7 @@ pub(crate) struct Impacts<'a> {
 }
 
 impl<'a> Impacts<'a> {
-    /// The state of the first line, and the addresses of the others.
+    /// Reads the state of the first line, and the addresses of the others.
     pub(crate) fn read(alloc: Global, input: &'a [u8]) -> Result<Impacts<'a>> {
         let (state, addresses) = split_state(input)?;
         let texts = lines_of(alloc, addresses)?;
@@ -35,7 +37,7 @@ impl<'a> Impacts<'a> {
         })
     }
 
-    /// Makes the call of a name once.
+    /// Makes the call with this name once.
     pub(crate) fn call(&self, rt: &(impl AllocGlobal + Clock), name: &str) -> Result<Measured> {
         match name {
             "build" => self.build(rt),
@@ -56,21 +58,21 @@ impl<'a> Impacts<'a> {
         }
     }
 
-    /// Builds the index: how many instances the state has.
+    /// Builds the index. Counts the instances of the state.
     fn build(&self, rt: &(impl AllocGlobal + Clock)) -> Result<Measured> {
         let start = Instant::now(rt)?;
         let version = Version::build(rt.alloc(), self.version.doc().clone()?)?;
         Measured::since(rt, start, version.doc().len())
     }
 
-    /// Makes a plane, fills it from the pairs, and closes it: how many pairs it has.
+    /// Makes a plane, fills it from the pairs, and closes it. Counts its pairs.
     fn plane(&self, rt: &(impl AllocGlobal + Clock)) -> Result<Measured> {
         let start = Instant::now(rt)?;
         let plane = closed_plane(rt.alloc(), self.version.doc().len(), self.pairs.as_slice())?;
         counted(rt, start, &plane)
     }
 
-    /// The instances of a query.
+    /// Returns the instances that answer a query.
     fn chosen(&self, alloc: Global, is_any: bool) -> Result<Vec<usize>, ImpactFault> {
         if is_any {
             return self.version.any(alloc, self.texts.as_slice());
@@ -78,7 +80,7 @@ impl<'a> Impacts<'a> {
         self.version.all(alloc, self.texts.as_slice())
     }
 
-    /// Asks: how many instances are chosen.
+    /// Answers a query. Counts the chosen instances.
     fn ask(&self, rt: &(impl AllocGlobal + Clock), is_any: bool) -> Result<Measured> {
         let start = Instant::now(rt)?;
         let chosen = self.chosen(rt.alloc(), is_any)?;
@@ -86,7 +88,7 @@ impl<'a> Impacts<'a> {
     }
 }
 
-/// Writes the addresses that a query gave one after the other: how many bytes they have.
+/// Writes the addresses of an answer one after the other. Counts their bytes.
 fn list(rt: &(impl AllocGlobal + Clock), doc: &Doc, chosen: &[usize]) -> Result<Measured> {
     let mut text = String::with_capacity(rt.alloc(), 65_536)?;
     let start = Instant::now(rt)?;
@@ -94,13 +96,13 @@ fn list(rt: &(impl AllocGlobal + Clock), doc: &Doc, chosen: &[usize]) -> Result<
     Measured::since(rt, start, text.len())
 }
 
-/// The version of a state.
+/// Returns the version of a state.
 fn version_of(alloc: Global, state: &str) -> Result<Version> {
     let doc = doc_of(alloc, state.as_bytes())?;
     Ok(Version::build(alloc, Arc::new(alloc, doc)?)?)
 }
 
-/// The pairs (v, u) of instances of which u depends on v.
+/// Returns the pairs (v, u) of instances in which u depends on v.
 fn pairs_of(alloc: Global, doc: &Doc) -> Result<Vec<(u32, u32)>, AllocError> {
     let mut pairs = Vec::new(alloc);
     for u in 0..doc.len() {
@@ -109,7 +111,7 @@ fn pairs_of(alloc: Global, doc: &Doc) -> Result<Vec<(u32, u32)>, AllocError> {
     Ok(pairs)
 }
 
-/// Adds the pairs of an instance and those on which it depends.
+/// Adds the pairs of an instance and its dependencies.
 fn push_pairs(doc: &Doc, u: usize, pairs: &mut Vec<(u32, u32)>) -> Result<(), AllocError>
     requires { u < length doc.now.instances }
 {
@@ -121,7 +123,7 @@ fn push_pairs(doc: &Doc, u: usize, pairs: &mut Vec<(u32, u32)>) -> Result<(), Al
     Ok(())
 }
 
-/// The closed plane of pairs.
+/// Returns the closed plane of pairs.
 fn closed_plane(alloc: Global, size: usize, pairs: &[(u32, u32)]) -> Result<Plane, AllocError>
     requires { size ≤ 4096 }
 {
@@ -133,7 +135,7 @@ fn closed_plane(alloc: Global, size: usize, pairs: &[(u32, u32)]) -> Result<Plan
     Ok(plane)
 }
 
-/// Adds the addresses of instances.
+/// Appends the addresses of instances.
 fn push_addresses(text: &mut String, doc: &Doc, chosen: &[usize]) -> Result<(), AllocError> {
     for u in chosen {
         if *u < doc.len() {

@@ -1,4 +1,4 @@
-//! Input, and what is made of it.
+//! Input, and the values that are made of it.
 
 ghost use Rattle.std.specs.Prelude.{◌≤◌, length, IfOk};
 
@@ -9,7 +9,7 @@ use tfs_records::Entry;
 use tfs_rules::{Act, Name};
 use tfs_state::{Doc, MAX_STATE_BYTES};
 
-/// The text of bytes.
+/// Returns the text of bytes.
 pub(crate) fn text_of(bytes: &[u8]) -> Result<&str> {
     match str::from_utf8(bytes) {
         Ok(text) => Ok(text),
@@ -17,7 +17,7 @@ pub(crate) fn text_of(bytes: &[u8]) -> Result<&str> {
     }
 }
 
-/// The lines of a text.
+/// Returns the lines of a text.
 pub(crate) fn lines_of(alloc: Global, text: &str) -> Result<Vec<&str>, AllocError> {
     let mut lines = Vec::new(alloc);
     for line in text.lines() {
@@ -26,7 +26,7 @@ pub(crate) fn lines_of(alloc: Global, text: &str) -> Result<Vec<&str>, AllocErro
     Ok(lines)
 }
 
-/// The state that is the first line, and the text behind it.
+/// Returns the state in the first line, and the text after it.
 pub(crate) fn split_state(input: &[u8]) -> Result<(&str, &str)> {
     match text_of(input)? {
         "" => bail!("there is no state"),
@@ -34,7 +34,7 @@ pub(crate) fn split_state(input: &[u8]) -> Result<(&str, &str)> {
     }
 }
 
-/// The document of a state.
+/// Returns the document of a state.
 pub(crate) fn doc_of(alloc: Global, state: &[u8]) -> Result<Doc> {
     if MAX_STATE_BYTES < state.len() {
         bail!("the state is too long");
@@ -42,7 +42,7 @@ pub(crate) fn doc_of(alloc: Global, state: &[u8]) -> Result<Doc> {
     Ok(Doc::read(alloc, state.to_vec(alloc)?)?)
 }
 
-/// The entry of the push of a state to the name `a`.
+/// Returns the entry of the push of a state to the workspace `a`.
 pub(crate) fn entry_of(alloc: Global, state: &str) -> Result<Entry> {
     let Some(name) = Name::read(String::from_str(alloc, "a")?) else {
         bail!("there is no name");

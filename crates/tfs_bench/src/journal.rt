@@ -1,4 +1,5 @@
-//! The reading and opening of a journal, beside the reading of its states; and the writing of a record, beside a copy of its bytes.
+//! Reads and opens a journal, compared with reading its states, and encodes a record, compared with
+//! copying its bytes.
 
 use crate::input::{doc_of, entry_of};
 use crate::measure::Measured;
@@ -12,7 +13,7 @@ use tfs_rules::Act;
 use tfs_state::Doc;
 use tfs_table::Table;
 
-/// The bytes of a journal, and what they list.
+/// The bytes of a journal, and what they decode to.
 #[derive(Drop)]
 pub(crate) struct Journal<'a> {
     bytes: &'a [u8],
@@ -20,13 +21,13 @@ pub(crate) struct Journal<'a> {
 }
 
 impl<'a> Journal<'a> {
-    /// The journal of bytes.
+    /// Decodes a journal.
     pub(crate) fn read(alloc: Global, bytes: &'a [u8]) -> Result<Journal<'a>> {
         let read = decode(alloc, bytes)?;
         Ok(Journal { bytes, read })
     }
 
-    /// Makes the call of a name once.
+    /// Makes the call with this name once.
     pub(crate) fn call(
         &self,
         rt: &(impl AllocGlobal + Clock + Print),
@@ -44,7 +45,7 @@ impl<'a> Journal<'a> {
         }
     }
 
-    /// The record of the first entry.
+    /// Returns the record of the first entry.
     fn record(&self, alloc: Global) -> Result<Vec<u8>> {
         match self.read.entries.as_slice().first() {
             Some(entry) => Ok(encode(alloc, entry)?),
@@ -52,21 +53,22 @@ impl<'a> Journal<'a> {
         }
     }
 
-    /// Reads the journal: how many entries it has.
+    /// Decodes the journal. Counts its entries.
     fn decode(&self, rt: &(impl AllocGlobal + Clock)) -> Result<Measured> {
         let start = Instant::now(rt)?;
         let read = decode(rt.alloc(), self.bytes)?;
         Measured::since(rt, start, read.entries.as_slice().len())
     }
 
-    /// Prints a line before the journal is read, with its bytes, and one while what was read is kept, with its entries.
+    /// Prints a line with the number of bytes before the journal is decoded, and one with the
+    /// number of entries while the result is in memory.
     fn keep(&self, rt: &(impl AllocGlobal + Print)) -> Result<Measured> {
         Measured::told(rt, "journal", self.bytes.len())?;
         let read = decode(rt.alloc(), self.bytes)?;
         Measured::told(rt, "journal", read.entries.as_slice().len())
     }
 
-    /// Reads a copy of each state, and makes one MD5 of the journal's bytes: how many states there are.
+    /// Reads a copy of each state, and computes one MD5 of the journal's bytes. Counts the states.
     fn parts(&self, rt: &(impl AllocGlobal + Clock)) -> Result<Measured> {
         let start = Instant::now(rt)?;
         let docs = docs_of(rt.alloc(), self.read.entries.as_slice())?;
@@ -74,14 +76,14 @@ impl<'a> Journal<'a> {
         Measured::since(rt, start, docs.len())
     }
 
-    /// Opens a table of the journal that keeps no bytes: how many entries it has.
+    /// Opens a table of the journal that keeps no bytes. Counts its entries.
     fn open(&self, rt: &(impl AllocGlobal + Clock)) -> Result<Measured> {
         let start = Instant::now(rt)?;
         let (table, _end) = Table::open(rt.alloc(), self.bytes, Discard)?;
         Measured::since(rt, start, table.len())
     }
 
-    /// Writes the record of the first entry: how many bytes it has.
+    /// Encodes the record of the first entry. Counts its bytes.
     fn encode(&self, rt: &(impl AllocGlobal + Clock)) -> Result<Measured> {
         let start = Instant::now(rt)?;
         let record = self.record(rt.alloc())?;
@@ -89,7 +91,7 @@ impl<'a> Journal<'a> {
     }
 }
 
-/// Makes a copy of a record, and its MD5: how many bytes it has.
+/// Copies a record, and computes its MD5. Counts the bytes.
 fn copy(rt: &(impl AllocGlobal + Clock), record: &[u8]) -> Result<Measured> {
     let start = Instant::now(rt)?;
     let copy = record.to_vec(rt.alloc())?;
@@ -97,7 +99,7 @@ fn copy(rt: &(impl AllocGlobal + Clock), record: &[u8]) -> Result<Measured> {
     Measured::since(rt, start, copy.len())
 }
 
-/// Appends a record to a new sink in memory: how many bytes that has.
+/// Appends a record to a new sink in memory. Counts the sink's bytes.
 fn append(rt: &(impl AllocGlobal + Clock), record: &[u8]) -> Result<Measured> {
     let mut out = Out::new(MemorySink::new(rt.alloc(), usize::MAX, u64::MAX));
     let start = Instant::now(rt)?;
@@ -105,7 +107,7 @@ fn append(rt: &(impl AllocGlobal + Clock), record: &[u8]) -> Result<Measured> {
     Measured::since(rt, start, out.sink().bytes().len())
 }
 
-/// The documents of pushes, each read anew.
+/// Returns the documents of pushes, each read again.
 fn docs_of(alloc: Global, entries: &[Entry]) -> Result<Vec<Doc>> {
     let mut docs = Vec::new(alloc);
     for entry in entries {
@@ -116,7 +118,7 @@ fn docs_of(alloc: Global, entries: &[Entry]) -> Result<Vec<Doc>> {
     Ok(docs)
 }
 
-/// The text of a journal that has the push of a state.
+/// Returns the text of a journal that has the push of a state.
 pub(crate) fn text_of(alloc: Global, state: &str) -> Result<Vec<u8>> {
     let mut text = b"TFJ2\n".to_vec(alloc)?;
     push_base(&mut text, alloc)?;
@@ -124,19 +126,19 @@ pub(crate) fn text_of(alloc: Global, state: &str) -> Result<Vec<u8>> {
     Ok(text)
 }
 
-/// Adds the base of a journal that begins with nothing.
+/// Appends the base of a journal without a history.
 fn push_base(text: &mut Vec<u8>, alloc: Global) -> Result<()> {
     let base = encode_base(alloc, &Base::empty(alloc))?;
     Ok(text.extend_from_slice(base.as_slice())?)
 }
 
-/// Adds the record of the push of a state.
+/// Appends the record of the push of a state.
 fn push_record(text: &mut Vec<u8>, alloc: Global, state: &str) -> Result<()> {
     let record = record_of(alloc, state)?;
     Ok(text.extend_from_slice(record.as_slice())?)
 }
 
-/// The record of the push of a state.
+/// Returns the record of the push of a state.
 fn record_of(alloc: Global, state: &str) -> Result<Vec<u8>> {
     let entry = entry_of(alloc, state)?;
     Ok(encode(alloc, &entry)?)

@@ -1,6 +1,6 @@
-//! Measures the calls of the repository's libraries, a subject at a time, over input that comes from standard input: README.md lists
-//! the subjects, their calls and their input. Without a word it makes each call once over a small state and prints what is the same
-//! each time.
+//! Measures the calls of the repository's libraries, one subject after another, over input from
+//! standard input. README.md lists the subjects, their calls and their input. Without arguments,
+//! makes each call once over a small state, and prints the results that don't vary.
 #![tactic(auto)]
 
 mod index;
@@ -29,7 +29,7 @@ fn main(rt: HostRuntime) -> Result<()> {
     run(&rt, words.as_str(), input.as_slice())
 }
 
-/// The words that the program was called with, a line each.
+/// Returns the arguments of the program, one a line.
 fn words_of(rt: &HostRuntime) -> Result<String> {
     let mut words = String::new(rt.alloc());
     for word in env::args(rt)?.skip(1) {
@@ -38,7 +38,7 @@ fn words_of(rt: &HostRuntime) -> Result<String> {
     Ok(words)
 }
 
-/// Measures calls of a subject; without a word, all calls are made once.
+/// Measures the calls of a subject; without arguments, makes all calls once.
 fn run<R: Clock + Print + AllocGlobal>(rt: &R, words: &str, input: &[u8]) -> Result<()> {
     if words.is_empty() {
         return make_all(rt, input);
@@ -50,7 +50,7 @@ fn run<R: Clock + Print + AllocGlobal>(rt: &R, words: &str, input: &[u8]) -> Res
     measure_subject(rt, subject, input, Some(rounds.parse()?), names)
 }
 
-/// Measures calls of a subject in so many rounds, or makes them once.
+/// Measures calls of a subject in this number of rounds, or makes them once.
 fn measure_subject<R: Clock + Print + AllocGlobal>(
     rt: &R,
     subject: &str,
@@ -98,7 +98,8 @@ fn measure_journal<R: Clock + Print + AllocGlobal>(
 /// A relation of four numbers in a row, as `planes` takes it.
 const ROW: &[u8] = &[4, 0, 0, 0, 0, 0, 1, 0, 1, 0, 2, 0, 2, 0, 3, 0];
 
-/// Makes each call once over input that is as small: the first line is a state, the others are its addresses.
+/// Makes each call once over a small input: the first line is a state, the others are its
+/// addresses.
 fn make_all<R: Clock + Print + AllocGlobal>(rt: &R, input: &[u8]) -> Result<()> {
     let (state, _) = split_state(input)?;
     measure_subject(rt, "planes", ROW, None, "close")?;

@@ -1,4 +1,4 @@
-//! What is measured of a call.
+//! The measurement of a call.
 
 use anyhow::Result;
 use std::time::{Clock, Duration, Instant};
@@ -11,7 +11,7 @@ pub(crate) struct Measured {
 }
 
 impl Measured {
-    /// So long, and so many.
+    /// Returns a measurement with this time and count.
     pub(crate) fn new(time: Duration, count: usize) -> Measured {
         Measured {
             time,
@@ -19,12 +19,12 @@ impl Measured {
         }
     }
 
-    /// From a start until now, and so many.
+    /// Returns a measurement from a start until now, with this count.
     pub(crate) fn since(rt: &impl Clock, start: Instant, count: usize) -> Result<Measured> {
         Ok(Measured::new(start.elapsed(rt)?, count))
     }
 
-    /// Prints how many there are; no time is measured.
+    /// Prints a count; no time is measured.
     pub(crate) fn told(rt: &impl Print, what: &str, count: usize) -> Result<Measured> {
         println!(rt; "{what} {count}")?;
         Ok(Measured::new(Duration::ZERO, count))

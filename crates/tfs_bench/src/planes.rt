@@ -8,14 +8,15 @@ use std::alloc::{AllocError, Global};
 use std::time::{Clock, Instant};
 use tfs_planes::{Plane, Row, is_size};
 
-/// A relation as pairs of numbers of two bytes each, the low one first. The first pair has the size and 0.
+/// A relation as pairs of numbers of two bytes each, the low byte first. The first pair has the
+/// size and 0.
 #[derive(Clone, Copy)]
 pub(crate) struct Relation<'a> {
     pub(crate) bytes: &'a [u8],
 }
 
 impl Relation<'_> {
-    /// Makes the call of a name once.
+    /// Makes the call with this name once.
     pub(crate) fn call(&self, rt: &(impl AllocGlobal + Clock), name: &str) -> Result<Measured> {
         let size = self.number(0);
         if name != "close" || !is_size(size) {
@@ -28,7 +29,7 @@ impl Relation<'_> {
         counted(rt, start, &plane)
     }
 
-    /// The number at a place; 0 behind the last.
+    /// Returns the number at a place; 0 after the last one.
     fn number(&self, place: usize) -> usize {
         let at = place.saturating_mul(2);
         match (self.bytes.get(at), self.bytes.get(at.saturating_add(1))) {
@@ -37,7 +38,7 @@ impl Relation<'_> {
         }
     }
 
-    /// Relates all pairs but the first.
+    /// Relates all pairs except the first.
     fn fill(&self, plane: &mut Plane) {
         for pair in 1..self.bytes.len() / 4 {
             let place = pair.saturating_mul(2);
@@ -50,7 +51,7 @@ impl Relation<'_> {
     }
 }
 
-/// Relates two numbers, if they are below the size.
+/// Relates two numbers if they are below the size.
 pub(crate) fn relate(plane: &mut Plane, i: usize, j: usize)
     ensures { plane.new.size ≡ plane.old.size }
 {
@@ -59,7 +60,7 @@ pub(crate) fn relate(plane: &mut Plane, i: usize, j: usize)
     }
 }
 
-/// From a start until now, and how many pairs a plane has.
+/// Returns a measurement from a start until now, with the number of a plane's pairs.
 pub(crate) fn counted(
     rt: &(impl AllocGlobal + Clock),
     start: Instant,
@@ -69,7 +70,7 @@ pub(crate) fn counted(
     Ok(Measured::new(time, pair_count(rt.alloc(), plane)?))
 }
 
-/// How many pairs a plane has.
+/// Returns the number of a plane's pairs.
 fn pair_count(alloc: Global, plane: &Plane) -> Result<usize, AllocError> {
     let mut row = Row::new(alloc, plane.size())?;
     let mut count: usize = 0;

@@ -1,4 +1,4 @@
-//! The reading of a state, beside that of a JSON value of the same bytes.
+//! Reads a state, compared with reading a JSON value from the same bytes.
 
 use crate::input::doc_of;
 use crate::measure::Measured;
@@ -14,7 +14,7 @@ pub(crate) struct StateText<'a> {
 }
 
 impl StateText<'_> {
-    /// Makes the call of a name once.
+    /// Makes the call with this name once.
     pub(crate) fn call(
         &self,
         rt: &(impl AllocGlobal + Clock + Print),
@@ -29,7 +29,7 @@ impl StateText<'_> {
         }
     }
 
-    /// Reads a document, which is dropped later: how many instances it has.
+    /// Reads a document, which is dropped after the measurement. Counts its instances.
     fn document(&self, rt: &(impl AllocGlobal + Clock)) -> Result<Measured> {
         if MAX_STATE_BYTES < self.text.len() {
             bail!("the state is too long");
@@ -47,14 +47,15 @@ impl StateText<'_> {
         Measured::since(rt, start, self.text.len())
     }
 
-    /// Reads a JSON value, which is dropped later.
+    /// Reads a JSON value, which is dropped after the measurement.
     fn tree(&self, rt: &(impl AllocGlobal + Clock)) -> Result<Measured> {
         let start = Instant::now(rt)?;
         let _value = Value::from_str(rt.alloc(), self.text)?;
         Measured::since(rt, start, self.text.len())
     }
 
-    /// Prints a line before a document is read, with its bytes, and one while it is kept, with its instances.
+    /// Prints a line with the number of bytes before a document is read, and one with the number of
+    /// instances while it is in memory.
     fn keep(&self, rt: &(impl AllocGlobal + Print)) -> Result<Measured> {
         Measured::told(rt, "state", self.text.len())?;
         let doc = doc_of(rt.alloc(), self.text.as_bytes())?;

@@ -1,4 +1,4 @@
-//! The subjects of which calls are measured, and how.
+//! The subjects whose calls are measured, and how.
 
 use crate::index::Impacts;
 use crate::input::lines_of;
@@ -10,7 +10,7 @@ use anyhow::Result;
 use std::alloc::Global;
 use std::time::{Clock, Duration};
 
-/// What has calls, over some input.
+/// A subject: it has calls, over some input.
 #[derive(Clone, Copy)]
 pub(crate) enum Subject<'s, 'a> {
     Planes(Relation<'a>),
@@ -20,7 +20,7 @@ pub(crate) enum Subject<'s, 'a> {
 }
 
 impl Subject<'_, '_> {
-    /// Makes the call of a name once.
+    /// Makes the call with this name once.
     fn call<R: Clock + Print + AllocGlobal>(&self, rt: &R, name: &str) -> Result<Measured> {
         match self {
             Subject::Planes(relation) => relation.call(rt, name),
@@ -31,8 +31,9 @@ impl Subject<'_, '_> {
     }
 }
 
-/// Makes calls so many times, in turns, and prints the nanoseconds of the shortest of each, and what it gave last. No rounds: each call
-/// is made once, and what it gave is printed. In none of 0 rounds the input was made, and no more.
+/// Makes each call once in each round, and prints the nanoseconds of the shortest of each call, and
+/// its last count. Without a number of rounds, makes each call once, and prints its count. With 0
+/// rounds only the input is made.
 pub(crate) fn print_calls<R: Clock + Print + AllocGlobal>(
     rt: &R,
     subject: Subject,
@@ -65,7 +66,7 @@ fn take_turns<R: Clock + Print + AllocGlobal>(
     Ok(())
 }
 
-/// Prints the number of each call, behind its time where that is wanted.
+/// Prints the count of each call, after its time if that is wanted.
 fn print_all(rt: &impl Print, names: &[&str], all: &[Measured], is_timed: bool) -> Result<()> {
     for (i, Measured { time, count }) in all.iter().enumerate() {
         let name = names.get(i).unwrap_or(&"");

@@ -1,11 +1,11 @@
-//! The answers of tfs_addr for a few texts. A call that gets no memory answers `out of memory`, and the calls after it are made all the
-//! same.
+//! The answers of tfs_addr for a few texts. A call that is refused memory prints `out of memory`,
+//! and the following calls are made nonetheless.
 
 use anyhow::Result;
 use std::alloc::Global;
 use tfs_addr::{AddrFault, Key, Mode, config_text, instance_text, strip};
 
-/// Module paths: texts that read, with keys and without, and texts with a fault.
+/// Module paths: valid texts, with keys and without, and invalid ones.
 const MODULES: [&str; 8] = [
     "",
     "module.m",
@@ -42,12 +42,12 @@ pub(crate) fn print_answers(rt: &(impl AllocGlobal + Print)) -> Result<()> {
     Ok(())
 }
 
-/// The configuration address of a data source in a module.
+/// Returns the configuration address of a data source in a module.
 fn config(alloc: Global, module: &str) -> Result<String, AddrFault> {
     config_text(alloc, module, Mode::DataSource, "aws_ami", "base")
 }
 
-/// The address of an instance of a managed resource in a module.
+/// Returns the address of an instance of a managed resource in a module.
 fn instance(
     alloc: Global,
     module: &str,
@@ -66,7 +66,7 @@ fn instance(
     Ok(text)
 }
 
-/// Prints one answer on a line.
+/// Prints an answer on a line.
 fn print_answer(rt: &impl Print, call: &str, answer: Result<String, AddrFault>) -> Result<()> {
     match answer {
         Ok(text) => println!(rt; "{call}: {text}")?,

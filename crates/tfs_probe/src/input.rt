@@ -1,4 +1,4 @@
-//! Names and pushes out of texts.
+//! Reads names and pushes from texts.
 
 use anyhow::{Result, bail};
 use std::alloc::Global;
@@ -6,7 +6,7 @@ use tfs_calls::{Bytes, Draft, Raw};
 use tfs_rules::Name;
 use tfs_state::MAX_STATE_BYTES;
 
-/// The text of bytes.
+/// Returns the text of bytes.
 pub(crate) fn text_of(bytes: &[u8]) -> Result<&str> {
     match str::from_utf8(bytes) {
         Ok(text) => Ok(text),
@@ -14,7 +14,7 @@ pub(crate) fn text_of(bytes: &[u8]) -> Result<&str> {
     }
 }
 
-/// The push of a state.
+/// Returns the push of a state.
 fn push_of(alloc: Global, state: &[u8]) -> Result<Draft> {
     if MAX_STATE_BYTES < state.len() {
         bail!("the state is too long");
@@ -26,13 +26,13 @@ fn push_of(alloc: Global, state: &[u8]) -> Result<Draft> {
     }
 }
 
-/// The push of a state to the workspace `a`.
+/// Returns the push of a state to the workspace `a`.
 pub(crate) fn named_push(alloc: Global, state: &[u8]) -> Result<(Name, Draft)> {
     let name = name_of(alloc, "a")?;
     Ok((name, push_of(alloc, state)?))
 }
 
-/// A workspace's name.
+/// Returns a workspace's name.
 fn name_of(alloc: Global, text: &str) -> Result<Name> {
     match Name::read(String::from_str(alloc, text)?) {
         Some(name) => Ok(name),

@@ -1,5 +1,6 @@
-//! Has the libraries do what the black-box checks can't see of the built program, over input that comes from standard input, and prints
-//! what came of it: README.md lists the words. Without a word it does a little of each but `append` and `texts`.
+//! Makes calls of the libraries that black-box tests can't observe in the built program, over input
+//! from standard input, and prints the results. README.md lists the words. Without a word, makes a
+//! few calls of each kind except `append` and `texts`.
 #![tactic(auto)]
 
 mod addresses;
@@ -32,7 +33,7 @@ fn main(rt: HostRuntime) -> Result<()> {
     probe(&rt, words.as_slice(), text_of(input.as_slice())?)
 }
 
-/// These words, lent.
+/// Returns slices of these words.
 fn lent(alloc: Global, words: &[String]) -> Result<Vec<&str>> {
     let mut list = Vec::new(alloc);
     for word in words {
@@ -41,7 +42,7 @@ fn lent(alloc: Global, words: &[String]) -> Result<Vec<&str>> {
     Ok(list)
 }
 
-/// Does what words say with a text.
+/// Makes the calls that the words name, over a text.
 fn probe<R: AllocGlobal + Print>(rt: &R, words: &[&str], text: &str) -> Result<()> {
     match words {
         [] => probe_all(rt, text),
@@ -59,7 +60,8 @@ fn probe<R: AllocGlobal + Print>(rt: &R, words: &[&str], text: &str) -> Result<(
     }
 }
 
-/// Does a little of each: of a state, its first line, with the address of the second, and of journals, the lines behind them.
+/// Makes a few calls of each kind: over a state in the first line, with the address in the second,
+/// and over journals in the lines after them.
 fn probe_all<R: AllocGlobal + Print>(rt: &R, text: &str) -> Result<()> {
     let Some((state, rest)) = text.split_once('\n') else {
         bail!("the input has one line");

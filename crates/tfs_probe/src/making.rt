@@ -1,5 +1,5 @@
-//! Tables that are made over a sink that counts, so that requests for memory can be refused: a new one, one that is opened from a journal,
-//! and one that is rebased from that.
+//! Makes tables over a sink that counts, so that tests can refuse their requests for memory: a new
+//! table, one opened from a journal, and one rebased from that.
 
 use anyhow::{Result, bail};
 use std::alloc::Global;
@@ -7,7 +7,7 @@ use std::sync::atomic::{AtomicU64, Ordering};
 use tfs_records::{Discard, Sink, SinkFault};
 use tfs_table::{OpenFault, Table};
 
-/// Counts the bytes that it is given, and keeps none.
+/// A sink that counts its bytes, and keeps none.
 #[derive(Drop)]
 struct Counting<'c> {
     bytes: &'c AtomicU64,
@@ -26,8 +26,8 @@ impl<'c> Sink for Counting<'c> {
     }
 }
 
-/// Makes a table as a word says, out of a journal in hex digits. A line tells its position or the fault, and how many bytes the sink was
-/// given.
+/// Makes a table as the word says from a journal in hex digits. Prints a line with its position or
+/// the fault, and the number of bytes that the sink was given.
 pub(crate) fn print_made(rt: &(impl AllocGlobal + Print), word: &str, digits: &str) -> Result<()> {
     let journal = hex::decode(rt.alloc(), digits)?;
     let bytes = AtomicU64::new(0);
@@ -46,18 +46,18 @@ pub(crate) fn print_made(rt: &(impl AllocGlobal + Print), word: &str, digits: &s
     Ok(())
 }
 
-/// The position of a new table.
+/// Returns the position of a new table.
 fn created(alloc: Global, sink: Counting) -> Result<u64, OpenFault> {
     Ok(Table::new(alloc, sink)?.position())
 }
 
-/// The position of the table that is opened from a journal.
+/// Returns the position of the table opened from a journal.
 fn opened(alloc: Global, journal: &[u8], sink: Counting) -> Result<u64, OpenFault> {
     let (table, _end) = Table::open(alloc, journal, sink)?;
     Ok(table.position())
 }
 
-/// The position of the table that is rebased from the one that is opened from a journal.
+/// Opens a table from a journal, rebases it, and returns the new table's position.
 fn rebased(alloc: Global, journal: &[u8], sink: Counting) -> Result<u64, OpenFault> {
     let (table, _end) = Table::open(alloc, journal, Discard)?;
     Ok(table.rebase(sink)?.position())

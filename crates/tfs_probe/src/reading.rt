@@ -1,4 +1,4 @@
-//! What journals are read as, in lines.
+//! Prints what journals decode to, in lines.
 
 use anyhow::Result;
 use std::alloc::{AllocError, Global};
@@ -7,7 +7,7 @@ use tfs_lock::Id;
 use tfs_records::{BaseRow, Entry, encode, encode_base};
 use tfs_rules::Act;
 
-/// Prints how the bytes of each line, in hex digits, are read, and the text of what was read.
+/// Prints how the bytes of each line, in hex digits, decode, and the text of the result.
 pub(crate) fn print_readings(rt: &(impl AllocGlobal + Print), text: &str) -> Result<()> {
     for line in text.lines() {
         let bytes = hex::decode(rt.alloc(), line)?;
@@ -16,7 +16,7 @@ pub(crate) fn print_readings(rt: &(impl AllocGlobal + Print), text: &str) -> Res
     Ok(())
 }
 
-/// Prints what was read, and its text.
+/// Prints a decoded journal, and its text.
 fn print_reading(rt: &(impl AllocGlobal + Print), read: &Decoded) -> Result<()> {
     let values = reading_line(rt.alloc(), read)?;
     println!(rt; "{values}")?;
@@ -25,7 +25,7 @@ fn print_reading(rt: &(impl AllocGlobal + Print), read: &Decoded) -> Result<()> 
     Ok(())
 }
 
-/// The header, the base and the record of each entry of a reading, written again.
+/// Returns the header, the base and the record of each entry of a decoded journal, encoded again.
 fn text_line(alloc: Global, read: &Decoded) -> Result<String, AllocError> {
     let mut line = String::from_str(alloc, "text")?;
     if read.format == 1 {
@@ -40,7 +40,8 @@ fn text_line(alloc: Global, read: &Decoded) -> Result<String, AllocError> {
     Ok(line)
 }
 
-/// The format, the position and the rows of the base, the entries, and the end of a reading.
+/// Returns the format, the position and the rows of the base, the entries, and the end of a decoded
+/// journal.
 fn reading_line(alloc: Global, read: &Decoded) -> Result<String, AllocError> {
     let position = read.base.position();
     let mut line = format!(in alloc; "format {} base {position}", read.format)?;
@@ -58,7 +59,7 @@ fn reading_line(alloc: Global, read: &Decoded) -> Result<String, AllocError> {
     Ok(line)
 }
 
-/// Adds the name, the holder and the state of a row.
+/// Appends the name, the holder and the state of a row.
 fn push_row(line: &mut String, row: &BaseRow) -> Result<(), AllocError> {
     let name = row.name.text();
     write!(line, " row {name}")?;
@@ -72,7 +73,7 @@ fn push_row(line: &mut String, row: &BaseRow) -> Result<(), AllocError> {
     }
 }
 
-/// Adds the kind and the name of an entry, and what its act carries.
+/// Appends the kind and the name of an entry, and the contents of its act.
 fn push_entry(line: &mut String, entry: &Entry) -> Result<(), AllocError> {
     let name = entry.name.text();
     match &entry.act {
@@ -96,7 +97,7 @@ fn push_entry(line: &mut String, entry: &Entry) -> Result<(), AllocError> {
     }
 }
 
-/// Adds an identifier.
+/// Appends an identifier.
 fn push_id(line: &mut String, id: &Option<Id>) -> Result<(), AllocError> {
     match id {
         Some(id) => push_hex(line, id.text().as_bytes()),
@@ -104,7 +105,7 @@ fn push_id(line: &mut String, id: &Option<Id>) -> Result<(), AllocError> {
     }
 }
 
-/// Adds a space and the hex digits of bytes; a dash where there are none.
+/// Appends a space and the hex digits of bytes; a dash if there are none.
 pub(crate) fn push_hex(line: &mut String, bytes: &[u8]) -> Result<(), AllocError> {
     line.push(' ')?;
     if bytes.is_empty() {

@@ -1,4 +1,4 @@
-//! The reading of a state, its index, and queries.
+//! Reads a state, builds its index, and answers queries.
 
 use anyhow::{Result, bail};
 use std::alloc::{AllocError, Global};
@@ -6,14 +6,15 @@ use std::sync::Arc;
 use tfs_index::Version;
 use tfs_state::{Doc, MAX_STATE_BYTES};
 
-/// Reads a state, and prints how many instances it has.
+/// Reads a state, and prints its number of instances.
 pub(crate) fn print_count(rt: &(impl AllocGlobal + Print), state: &str) -> Result<()> {
     let doc = doc_of(rt.alloc(), state)?;
     println!(rt; "{} instances", doc.len())?;
     Ok(())
 }
 
-/// Reads the state that is the first line, builds its index, and asks it for any and all of the addresses that are the other lines.
+/// Reads the state in the first line, builds its index, and queries it for any and all of the
+/// addresses in the other lines.
 pub(crate) fn print_answers(rt: &(impl AllocGlobal + Print), text: &str) -> Result<()> {
     let Some((state, addresses)) = text.split_once('\n') else {
         bail!("there are no addresses");
@@ -21,7 +22,7 @@ pub(crate) fn print_answers(rt: &(impl AllocGlobal + Print), text: &str) -> Resu
     print_impacts(rt, state, addresses)
 }
 
-/// The same of a state and of addresses that are lines.
+/// Does the same for a state and for addresses in lines.
 pub(crate) fn print_impacts(
     rt: &(impl AllocGlobal + Print),
     state: &str,
@@ -31,7 +32,8 @@ pub(crate) fn print_impacts(
     print_chosen(rt, &version, addresses)
 }
 
-/// The index of a state. A line tells that the state is read, and one that the index is built.
+/// Returns the index of a state. Prints a line when the state is read, and one when the index is
+/// built.
 fn told_version(rt: &(impl AllocGlobal + Print), state: &str) -> Result<Version> {
     let doc = doc_of(rt.alloc(), state)?;
     println!(rt; "read")?;
@@ -40,12 +42,12 @@ fn told_version(rt: &(impl AllocGlobal + Print), state: &str) -> Result<Version>
     Ok(version)
 }
 
-/// The index of a state.
+/// Returns the index of a state.
 fn version_of(alloc: Global, doc: Doc) -> Result<Version> {
     Ok(Version::build(alloc, Arc::new(alloc, doc)?)?)
 }
 
-/// The lines of a text.
+/// Returns the lines of a text.
 fn lines_of(alloc: Global, text: &str) -> Result<Vec<&str>, AllocError> {
     let mut lines = Vec::new(alloc);
     for line in text.lines() {
@@ -54,7 +56,8 @@ fn lines_of(alloc: Global, text: &str) -> Result<Vec<&str>, AllocError> {
     Ok(lines)
 }
 
-/// Prints the numbers of what an index has for any and all of the addresses, one a line.
+/// Prints the numbers of the instances that an index chooses for any and all of the addresses, one
+/// a line.
 fn print_chosen(rt: &(impl AllocGlobal + Print), version: &Version, addresses: &str) -> Result<()> {
     let texts = lines_of(rt.alloc(), addresses)?;
     let texts = texts.as_slice();
@@ -70,7 +73,7 @@ fn print_numbers(rt: &impl Print, word: &str, numbers: &[usize]) -> Result<()> {
     Ok(())
 }
 
-/// The document of a text.
+/// Returns the document of a text.
 fn doc_of(alloc: Global, text: &str) -> Result<Doc> {
     if MAX_STATE_BYTES < text.len() {
         bail!("the state is too long");

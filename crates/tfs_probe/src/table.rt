@@ -1,4 +1,4 @@
-//! One push over a new table, so that its requests for memory can be counted, and refused.
+//! Makes one push over a new table, so that tests can count and refuse its requests for memory.
 
 use crate::input::named_push;
 use anyhow::{Result, bail};
@@ -6,8 +6,8 @@ use tfs_calls::Refusal;
 use tfs_records::Discard;
 use tfs_table::Table;
 
-/// Reads the push of a state and, where it is to be applied, applies it; where that was refused, it is read and applied once more. A
-/// line tells what became of each push.
+/// Reads the push of a state and, if requested, applies it; if that is refused, reads and applies
+/// it once more. Prints a line with the outcome of each push that is applied.
 pub(crate) fn push(rt: &(impl AllocGlobal + Print), is_applied: bool, state: &[u8]) -> Result<()> {
     let Ok(mut table) = Table::new(rt.alloc(), Discard) else {
         bail!("there is no memory for a table");
@@ -15,7 +15,7 @@ pub(crate) fn push(rt: &(impl AllocGlobal + Print), is_applied: bool, state: &[u
     push_to(rt, &mut table, is_applied, state)
 }
 
-/// The same over a table.
+/// Does the same over a table.
 fn push_to(
     rt: &(impl AllocGlobal + Print),
     table: &mut Table<Discard>,
@@ -30,7 +30,7 @@ fn push_to(
     Ok(())
 }
 
-/// Reads the push of a state and applies it. Whether it was accepted.
+/// Reads the push of a state and applies it. Returns true if it was accepted.
 fn apply(
     rt: &(impl AllocGlobal + Print),
     table: &mut Table<Discard>,
@@ -40,7 +40,7 @@ fn apply(
     tell(rt, table.apply(name, draft))
 }
 
-/// Prints what became of a push. Whether it was accepted.
+/// Prints the outcome of a push. Returns true if it was accepted.
 fn tell(rt: &impl Print, outcome: Result<u64, Refusal>) -> Result<bool> {
     match outcome {
         Ok(position) => {

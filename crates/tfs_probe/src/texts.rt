@@ -1,4 +1,4 @@
-//! What addresses, states and lock texts are read as. A text is written in hex digits.
+//! Prints what addresses, states and lock texts read as. A text is written in hex digits.
 
 ghost use Rattle.std.specs.Prelude.{◌<◌, length};
 
@@ -11,7 +11,8 @@ use tfs_addr::{AddrFault, Key, Mode, config_text, instance_text, strip};
 use tfs_lock::LockInfo;
 use tfs_state::{Doc, MAX_STATE_BYTES, text_digest};
 
-/// Prints what each line of the input is answered: a word, and texts behind it. All states are read over one room.
+/// Prints the answer to each line of the input: a word, and texts after it. All states are read
+/// with one scratch buffer.
 pub(crate) fn print_texts(rt: &(impl AllocGlobal + Print), input: &str) -> Result<()> {
     let mut scratch = Scratch::new(rt.alloc());
     for line in input.lines() {
@@ -20,7 +21,7 @@ pub(crate) fn print_texts(rt: &(impl AllocGlobal + Print), input: &str) -> Resul
     Ok(())
 }
 
-/// Prints what a line is answered.
+/// Prints the answer to a line.
 fn print_answer(rt: &(impl AllocGlobal + Print), line: &str, scratch: &mut Scratch) -> Result<()> {
     let mut words = Vec::new(rt.alloc());
     for word in line.split(" ") {
@@ -34,7 +35,7 @@ fn print_answer(rt: &(impl AllocGlobal + Print), line: &str, scratch: &mut Scrat
     Ok(())
 }
 
-/// What words about an address, a lock text or a digest are answered.
+/// Returns the answer to words about an address, a lock text or a digest.
 fn answer_of(alloc: Global, words: &[&str]) -> Result<String> {
     match words {
         ["strip", digits] => address_line(alloc, strip(alloc, text_in(alloc, digits)?.as_str())),
@@ -48,13 +49,13 @@ fn answer_of(alloc: Global, words: &[&str]) -> Result<String> {
     }
 }
 
-/// The text of hex digits.
+/// Returns the text of hex digits.
 fn text_in(alloc: Global, digits: &str) -> Result<String> {
     let bytes = hex::decode(alloc, digits)?;
     Ok(String::from_str(alloc, text_of(bytes.as_slice())?)?)
 }
 
-/// The text of the hex digits behind a `t`; none of a word that has no `t`.
+/// Returns the text of the hex digits after a `t`; none if the word doesn't begin with `t`.
 fn marked_text(alloc: Global, word: &str) -> Result<Option<String>> {
     match word.strip_prefix('t') {
         Some(digits) => Ok(Some(text_in(alloc, digits)?)),
@@ -62,7 +63,7 @@ fn marked_text(alloc: Global, word: &str) -> Result<Option<String>> {
     }
 }
 
-/// The line of an address, or of its fault.
+/// Returns the line of an address, or of its fault.
 fn address_line(alloc: Global, read: Result<String, AddrFault>) -> Result<String> {
     match read {
         Ok(text) => hex_line(alloc, "text", text.as_str()),
@@ -70,14 +71,14 @@ fn address_line(alloc: Global, read: Result<String, AddrFault>) -> Result<String
     }
 }
 
-/// A word, and a text in hex digits; a dash where it is empty.
+/// Returns a word and a text in hex digits; a dash if the text is empty.
 fn hex_line(alloc: Global, word: &str, text: &str) -> Result<String> {
     let mut line = String::from_str(alloc, word)?;
     push_hex(&mut line, text.as_bytes())?;
     Ok(line)
 }
 
-/// The line of the configuration address of t.n in a module.
+/// Returns the line of the configuration address of t.n in a module.
 fn config_line(alloc: Global, mode: &str, module: &str) -> Result<String> {
     let mode = match mode {
         "managed" => Mode::Managed,
@@ -88,8 +89,8 @@ fn config_line(alloc: Global, mode: &str, module: &str) -> Result<String> {
     address_line(alloc, config_text(alloc, module.as_str(), mode, "t", "n"))
 }
 
-/// The line of the address of an instance of the managed resource t.n: the module, the key, which is a number behind an `n` or a text
-/// behind a `t`, and the text of a deposed object behind a `t`.
+/// Returns the line of the address of an instance of the managed resource t.n. The key is a number
+/// after an `n` or a text after a `t`; the key of a deposed object is a text after a `t`.
 fn instance_line(alloc: Global, module: &str, key: &str, deposed: &str) -> Result<String> {
     let module = text_in(alloc, module)?;
     let text = marked_text(alloc, key)?;
@@ -108,7 +109,7 @@ fn instance_line(alloc: Global, module: &str, key: &str, deposed: &str) -> Resul
     hex_line(alloc, "text", read?.as_str())
 }
 
-/// The key of a word whose text, if it is one, was read.
+/// Returns the key of a word, given its text if it is one.
 fn key_of<'t>(word: &str, text: &'t Option<String>) -> Option<Key<'t>> {
     match text {
         Some(text) => Some(Key::Text(text.as_str())),
@@ -116,7 +117,7 @@ fn key_of<'t>(word: &str, text: &'t Option<String>) -> Option<Key<'t>> {
     }
 }
 
-/// The line of lock information, which has its identifier, or of its fault.
+/// Returns the line of lock information, with its identifier, or of its fault.
 fn lock_line(alloc: Global, digits: &str) -> Result<String> {
     match LockInfo::read(alloc, hex::decode(alloc, digits)?) {
         Ok(info) => hex_line(alloc, "lock", info.id().text()),
@@ -124,7 +125,7 @@ fn lock_line(alloc: Global, digits: &str) -> Result<String> {
     }
 }
 
-/// The line of a state, or of its fault.
+/// Returns the line of a state, or of its fault.
 fn state_line(alloc: Global, digits: &str, scratch: &mut Scratch) -> Result<String> {
     let bytes = hex::decode(alloc, digits)?;
     if MAX_STATE_BYTES < bytes.len() {
@@ -136,7 +137,7 @@ fn state_line(alloc: Global, digits: &str, scratch: &mut Scratch) -> Result<Stri
     }
 }
 
-/// The serial and the lineage of a document, and its instances.
+/// Returns the serial and the lineage of a document, and its instances.
 fn doc_line(alloc: Global, doc: &Doc) -> Result<String, AllocError> {
     let mut line = format!(in alloc; "state {}", doc.serial())?;
     push_hex(&mut line, doc.lineage().as_bytes())?;
@@ -146,7 +147,8 @@ fn doc_line(alloc: Global, doc: &Doc) -> Result<String, AllocError> {
     Ok(line)
 }
 
-/// Adds the address of an instance, its configuration address, and the numbers of those that it depends on.
+/// Appends the address of an instance, its configuration address, and the numbers of its
+/// dependencies.
 fn push_instance(line: &mut String, doc: &Doc, u: usize) -> Result<(), AllocError>
     requires { u < length doc.now.instances }
 {
@@ -160,7 +162,8 @@ fn push_instance(line: &mut String, doc: &Doc, u: usize) -> Result<(), AllocErro
     Ok(())
 }
 
-/// Adds the number of an instance that another depends on, and a mark where the numbers of texts say otherwise.
+/// Appends the number of an instance that another depends on, and a question mark if the document's
+/// numbers of texts disagree.
 fn push_number(line: &mut String, doc: &Doc, u: usize, v: usize) -> Result<(), AllocError>
     requires u { u < length doc.now.instances }
     requires v { v < length doc.now.instances }

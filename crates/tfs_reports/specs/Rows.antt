@@ -9,19 +9,19 @@ use Rattle.tfs_records.specs.Journal.{Journal, acts_of}
 use Rattle.tfs_versions.specs.declared.event.Outline.{Outline}
 use Rattle.tfs_versions.specs.Holding.{word_at}
 
--- A number.
+-- A number as JSON.
 abbrev pub whole : ℕ → Data
 whole n = number (unsigned n)
 
--- A number, if it is known.
+-- A number as JSON; null if it isn't known.
 abbrev pub whole_or_null : Option ℕ → Data
 whole_or_null n = option_map_or whole n null
 
--- A text, if it is known.
+-- A text as JSON; null if it isn't known.
 abbrev pub text_or_null : Option (List ℕ) → Data
 text_or_null text = option_map_or string text null
 
--- A name with its state and its holder, as far as it has them.
+-- The row of a workspace with its state and its lock holder; members of an absent one are null.
 abbrev pub standing_row : List ℕ → Option Document → Option LockInformation → Data
 standing_row name state holder = object
     (member (codes "bytes") (whole_or_null (option_map (λ d. length d.bytes) state))
@@ -33,16 +33,16 @@ standing_row name state holder = object
     (member (codes "serial") (whole_or_null (option_map (λ d. d.serial) state))
     (member (codes "who") (text_or_null (option_and_then (word_at (codes "Who")) holder)) no_members))))))))
 
--- The row of a name of a journal.
+-- The row of a workspace of a journal.
 abbrev pub name_row : Journal → List ℕ → Data
 name_row j name = standing_row name (state_of (acts_of name j)) (holder_of (acts_of name j))
 
--- An act without more than its identifier.
+-- The row of an act that carries only an identifier.
 abbrev pub act_row : List ℕ → ℕ → Option (List ℕ) → Data
 act_row act position id = object
     (member (codes "act") (string act) (member (codes "id") (text_or_null id) (member (codes "position") (whole position) no_members)))
 
--- A push, with the outline of its state.
+-- The row of a push, with the outline of its state.
 abbrev pub push_row : ℕ → Option (List ℕ) → Outline → Data
 push_row position id outline = object
     (member (codes "act") (string (codes "push"))

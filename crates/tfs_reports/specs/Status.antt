@@ -4,8 +4,9 @@ use Rattle.tfs_files.specs.Status as files
 use Rattle.tfs_reports.specs.declared.fault.Fault.{Fault}
 use Rattle.tfs_reports.specs.declared.fault.Fault.TheVariants as fault
 
--- The status by the fault: that of all commands for a fault that they share, 20 if another try may help, and from 30 on for what doesn't exist
--- or can't be restored.
+-- The exit status of a fault: the shared status for a fault that all commands share, 20 if a retry
+-- may help, and 30 or more for something that doesn't exist, can't be restored, or isn't a valid
+-- query.
 abbrev pub status_of : Fault → ℕ
 status_of (fault.Files shared) = files.status_of shared
 status_of fault.Changing = 20

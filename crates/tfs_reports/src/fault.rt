@@ -1,4 +1,4 @@
-//! How a reading command ends: what it tells on standard error, and the status.
+//! The end of a reading command: the report on standard error, and the exit status.
 
 ghost use Rattle.std.specs.Prelude.{◌≡◌};
 ghost use Rattle.tfs_reports.specs.Status.{status_of};
@@ -10,7 +10,7 @@ use tfs_stream::ReadFault;
 use tfs_versions::RestoreFault;
 use thiserror::Error;
 
-/// Why a reading command ended before its work was done.
+/// Why a reading command ended early.
 #[derive(Clone, Copy, Debug, Error)]
 pub enum Fault {
     /// A fault that all commands share.
@@ -44,7 +44,7 @@ pub enum Fault {
     UnknownAddress(usize),
 }
 
-/// The status of a fault.
+/// Returns the exit status of a fault.
 pub fn status_of(fault: Fault) -> u8
     ensures status { result ≡ status_of fault }
 {
@@ -65,23 +65,23 @@ pub fn status_of(fault: Fault) -> u8
 pub enum Place {
     /// The command itself.
     Command,
-    /// The folder.
+    /// The folder of journals.
     Folder,
     /// The folder's `old/`.
     Old,
-    /// The folder's journal of a number.
+    /// The journal with this number in the folder.
     Journal(u64),
-    /// The journal of a number in the folder's `old/`.
+    /// The journal with this number in the folder's `old/`.
     OldJournal(u64),
-    /// The workspace that was asked for.
+    /// The requested workspace.
     Name,
     /// The folder of copies.
     Copies,
-    /// The newest journal of the copies, by its number.
+    /// The newest journal of the copies, which has this number.
     Copy(u64),
 }
 
-/// The end of a command by a fault.
+/// The fault that ended a command, and what it is about.
 #[derive(Clone, Copy)]
 pub struct End {
     place: Place,
@@ -89,17 +89,17 @@ pub struct End {
 }
 
 impl End {
-    /// The end by a fault that is about this.
+    /// Returns the end by a fault, and what it is about.
     pub fn at(place: Place, fault: Fault) -> End {
         End { place, fault }
     }
 
-    /// The end by a fault that all commands share.
+    /// Returns the end by a fault that all commands share.
     pub(crate) fn of_files(place: Place, fault: tfs_files::Fault) -> End {
         End::at(place, Fault::Files(fault))
     }
 
-    /// The end because something can't be read, by what the system told.
+    /// Returns the end by an error that the system reported for a read.
     pub(crate) fn by_system(place: Place, error: &io::Error) -> End {
         let fault = match error.kind() {
             io::ErrorKind::OutOfMemory => tfs_files::Fault::OutOfMemory,
@@ -117,7 +117,7 @@ impl End {
         End::of_files(place, fault)
     }
 
-    /// The end because a journal isn't read to its end.
+    /// Returns the end by a journal that couldn't be read to its end.
     pub(crate) fn unread(place: Place, why: ReadFault) -> End {
         match why {
             ReadFault::NoMemory => End::from(AllocError),
@@ -127,7 +127,7 @@ impl End {
         }
     }
 
-    /// The end because a version isn't brought back.
+    /// Returns the end by a version that couldn't be restored.
     pub(crate) fn unrestored(why: RestoreFault) -> End {
         let fault = match why {
             RestoreFault::LineageDiffers => Fault::LineageDiffers,
@@ -146,8 +146,9 @@ impl From<AllocError> for End {
     }
 }
 
-/// Ends by a fault, which is told on standard error with what it is about: the folder, a file of it, or what another argument names, as a
-/// workspace or a folder of copies. Where that can't be written, nothing else can be told.
+/// Reports a fault on standard error with what it is about, and returns the exit status. A fault is
+/// about the folder, a file in it, or what `name` names: a workspace or a folder of copies. A
+/// failure to write the report is ignored, because there is nowhere left to report it.
 pub fn end_by(rt: &impl Eprint, folder: &str, name: &str, end: End) -> ExitCode {
     let fault = end.fault;
     let _ = match end.place {
@@ -163,12 +164,12 @@ pub fn end_by(rt: &impl Eprint, folder: &str, name: &str, end: End) -> ExitCode 
     ExitCode::from(status_of(fault))
 }
 
-/// Tells a fault of a folder, or of one below it.
+/// Reports a fault of a folder, or of a folder below it.
 fn tell(rt: &impl Eprint, folder: &str, below: &str, fault: Fault) -> io::Result<()> {
     eprintln!(rt; "tfstatectl: {folder}{below}: {fault}")
 }
 
-/// Tells a fault of the journal of a number in a folder, or in one below it.
+/// Reports a fault of a journal in a folder, or in a folder below it.
 fn tell_journal(
     rt: &impl Eprint,
     folder: &str,

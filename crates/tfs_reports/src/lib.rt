@@ -1,5 +1,6 @@
-//! What is told of a folder of journals that may be served meanwhile: its names, a name's history and versions, what a change reaches, and
-//! numbers for a monitor. Nothing of the folder is changed.
+//! Reports about a folder of journals that may be served meanwhile: its workspaces, the history and
+//! versions of a workspace, what a change reaches, and metrics for a monitor. Nothing in the folder
+//! is changed.
 #![tactic(auto)]
 
 mod acts;

@@ -1,4 +1,4 @@
-//! The names of a folder: what each has, and who holds its lock.
+//! The workspaces of a folder: the state of each, and who holds its lock.
 
 ghost use Rattle.std.specs.Prelude.{◌≡◌, List, ℕ, length, option_and_then, option_map, IfOk};
 ghost use Rattle.serde_json.specs.View.{view};
@@ -31,8 +31,9 @@ const COLUMNS: &[&str] = &[
     "created",
 ];
 
-/// Prints what each name of the newest journal of a folder has, and from which position on versions are kept, unless that is 0: in each row of
-/// JSON, otherwise on standard error.
+/// Prints the state and the lock holder of each workspace of the newest journal of a folder. Unless
+/// versions are kept from position 0 on, the first position is reported: in each row of JSON
+/// (`kept_from`), or on standard error for a table and for a journal without workspaces.
 pub fn list(rt: &HostRuntime, folder: &str, json: bool) -> Result<(), End> {
     let missing = missing_in(rt, folder);
     let newest = newest_journal(rt, folder)?;
@@ -49,7 +50,8 @@ pub fn list(rt: &HostRuntime, folder: &str, json: bool) -> Result<(), End> {
     Ok(())
 }
 
-/// A row for each name, in the order in which they came. Versions are kept from this position on.
+/// Returns a row for each workspace, in the table's order, with the position from which on versions
+/// are kept.
 fn report_of(
     alloc: Global,
     table: &Table<Discard>,
@@ -66,7 +68,7 @@ fn report_of(
     Ok(report)
 }
 
-/// What a name has.
+/// Returns the row of a workspace: its state and its lock holder.
 fn row_of(alloc: Global, table: &Table<Discard>, name: &Name) -> Result<Value, AllocError>
     ensures { IfOk result (λ row. view row ≡ name_row table.now.journal name.now) }
 {
@@ -74,7 +76,7 @@ fn row_of(alloc: Global, table: &Table<Discard>, name: &Name) -> Result<Value, A
     standing_row(alloc, table, name, &held)
 }
 
-/// What a name has, whose holder says this of itself.
+/// Returns the row of a workspace whose lock information has these members.
 fn standing_row(
     alloc: Global,
     table: &Table<Discard>,
@@ -91,7 +93,7 @@ fn standing_row(
         "operation": member(alloc, held, "Operation")?, "created": member(alloc, held, "Created")?})
 }
 
-/// What the holder of a name says of itself; null for none.
+/// Returns the members of a workspace's lock information; null if nobody holds the lock.
 fn words_at(alloc: Global, table: &Table<Discard>, name: &Name) -> Result<Value, AllocError>
     ensures { IfOk result (λ words. (at : List ℕ) → text_at at (view words)
         ≡ option_and_then (word_at at) (holder_of (acts_of name.now table.now.journal))) }
@@ -102,7 +104,8 @@ fn words_at(alloc: Global, table: &Table<Discard>, name: &Name) -> Result<Value,
     }
 }
 
-/// The serial, the instances and the bytes of a name's state; none where it has none.
+/// Returns the serial, the number of instances and the length in bytes of a workspace's state; none
+/// without a state.
 fn numbers_of(table: &Table<Discard>, name: &Name) -> (Option<u64>, Option<u64>, Option<u64>)
     ensures serial { result.0 ≡ option_map (λ d. d.serial) (state_of (acts_of name.now table.now.journal)) }
     ensures instances { result.1 ≡ option_map (λ d. length d.instances) (state_of (acts_of name.now table.now.journal)) }
@@ -118,7 +121,7 @@ fn numbers_of(table: &Table<Discard>, name: &Name) -> (Option<u64>, Option<u64>,
     }
 }
 
-/// A number as JSON; null for none.
+/// Returns a number as JSON; null for none.
 fn whole(number: Option<u64>) -> Value
     ensures { view result ≡ whole_or_null number }
 {

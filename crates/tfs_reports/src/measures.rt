@@ -1,11 +1,12 @@
-//! What a monitor watches of a folder's newest journal.
+//! Metrics of a folder's newest journal.
 
 use crate::fault::{End, Fault, Place};
 use crate::files::{Newest, Opening, Source, fault_of, newest_opening};
 use std::alloc::Global;
 use tfs_versions::{Measures, measured, whole_part};
 
-/// The numbers of what is whole of the newest journal of a folder, and the fault behind that, if there is one.
+/// Returns the metrics of the valid part of a folder's newest journal, and the fault that follows
+/// that part, if any.
 pub(crate) fn measures_of(rt: &HostRuntime, folder: &str) -> Result<(Measures, Option<End>), End> {
     match newest_opening(rt, folder)? {
         Opening::Whole(Newest { len, table }) => Ok((measured(rt.alloc(), len, &table)?, None)),
@@ -17,7 +18,7 @@ pub(crate) fn measures_of(rt: &HostRuntime, folder: &str) -> Result<(Measures, O
     }
 }
 
-/// The numbers of what is whole of a journal; none where its base isn't.
+/// Returns the metrics of the valid part of a journal; none if its base isn't valid.
 fn measures_in(alloc: Global, source: &Source) -> Result<Option<Measures>, End> {
     let bytes = source.bytes.as_slice();
     match whole_part(alloc, bytes) {

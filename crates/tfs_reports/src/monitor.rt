@@ -1,4 +1,4 @@
-//! Numbers of a folder for a monitor, in the text format of Prometheus. (Prometheus, 'Exposition formats'.)
+//! Metrics of a folder, in the text format of Prometheus. (Prometheus, 'Exposition formats'.)
 
 use crate::fault::{End, Fault, Place};
 use crate::files::TRIES;
@@ -11,7 +11,7 @@ use std::{fs, io};
 use tfs_files::{journal_path, numbers_in};
 use tfs_versions::Measures;
 
-/// A number: its name, and what it means.
+/// A metric: its name, and its help text.
 #[derive(Clone, Copy)]
 struct Metric {
     name: &'static str,
@@ -28,8 +28,9 @@ const COPY_AGE: Metric = Metric {
     help: "For how long the newest journal of the copies has been as it is.",
 };
 
-/// Prints the numbers of what is whole of the newest journal of a folder, and the age of the newest copy if a folder of copies is given.
-/// Leaves out an age that isn't known: of copies before the first one is made, too.
+/// Prints the metrics of the valid part of a folder's newest journal, and the age of the newest
+/// copy if a folder of copies is given. Leaves out an age that isn't known, such as that of copies
+/// before the first one is made.
 pub fn stats(rt: &HostRuntime, folder: &str, copies: Option<&str>) -> Result<(), End> {
     let (measures, fault) = measures_of(rt, folder)?;
     let (copied, copies_fault) = match copies {
@@ -46,7 +47,7 @@ pub fn stats(rt: &HostRuntime, folder: &str, copies: Option<&str>) -> Result<(),
     }
 }
 
-/// Prints the numbers, with ages where there is a clock.
+/// Prints the metrics, with ages if there is a clock.
 fn tell(rt: &HostRuntime, measures: &Measures, copied: Option<i64>) -> Result<(), End> {
     let mut text = String::new(rt.alloc());
     add_numbers(rt.alloc(), &mut text, measures)?;
@@ -58,7 +59,7 @@ fn tell(rt: &HostRuntime, measures: &Measures, copied: Option<i64>) -> Result<()
     write(rt, text.as_bytes())
 }
 
-/// The time, in seconds since 1970, if there is a clock.
+/// Returns the time in seconds since 1970, if there is a clock.
 fn seconds_now(rt: &HostRuntime) -> Option<i64> {
     match Timestamp::now(rt) {
         Ok(now) => Some(now.as_second()),
@@ -66,7 +67,8 @@ fn seconds_now(rt: &HostRuntime) -> Option<i64> {
     }
 }
 
-/// When the newest journal of a folder of copies was written, by the times of files, in seconds since 1970; none before the first copy.
+/// Returns when the newest journal of a folder of copies was modified, in seconds since 1970; none
+/// before the first copy.
 fn copied_at(rt: &HostRuntime, copies: &str) -> Result<Option<i64>, End> {
     for _ in 0..TRIES {
         let Some(number) = newest_copy(rt, copies)? else {
@@ -79,7 +81,8 @@ fn copied_at(rt: &HostRuntime, copies: &str) -> Result<Option<i64>, End> {
     Err(End::at(Place::Copies, Fault::Changing))
 }
 
-/// The number of the newest journal of a folder of copies; none if it has none, or doesn't exist.
+/// Returns the number of the newest journal of a folder of copies; none if the folder has no
+/// journal or doesn't exist.
 fn newest_copy(rt: &HostRuntime, copies: &str) -> Result<Option<u64>, End> {
     match numbers_in(rt, copies) {
         Ok(numbers) => Ok(numbers.as_slice().last().copied()),
@@ -90,7 +93,8 @@ fn newest_copy(rt: &HostRuntime, copies: &str) -> Result<Option<u64>, End> {
     }
 }
 
-/// When the journal of a number was written; none where it went away.
+/// Returns when the journal with a number was modified, in seconds since 1970; none if it went
+/// away.
 fn written_at(rt: &HostRuntime, copies: &str, number: u64) -> Result<Option<i64>, End> {
     let path = journal_path(rt, copies, number)?;
     let place = Place::Copy(number);
@@ -106,12 +110,12 @@ fn written_at(rt: &HostRuntime, copies: &str, number: u64) -> Result<Option<i64>
     }
 }
 
-/// When a file was written.
+/// Returns when a file was last modified.
 fn modified_at(rt: &HostRuntime, path: &str) -> io::Result<SystemTime> {
     fs::metadata(rt, path)?.modified()
 }
 
-/// Adds the numbers of a journal.
+/// Adds the metrics of a journal.
 fn add_numbers(alloc: Global, text: &mut String, of: &Measures) -> Result<(), AllocError> {
     let changes = Metric {
         name: "tfstated_changes_total",
@@ -156,13 +160,13 @@ fn add_age(
     }
 }
 
-/// How many seconds ago a time was, if it is known; 0 for one to come.
+/// Returns how many seconds ago a time was, if it is known; 0 for a time in the future.
 fn age_of(now: i64, then: Option<i64>) -> Option<u64> {
     let ago = now.saturating_sub(then?);
     Some(u64::try_from(ago).unwrap_or(0))
 }
 
-/// Adds the lines of a number of a kind.
+/// Adds the lines of a metric of a type.
 fn add(
     alloc: Global,
     text: &mut String,

@@ -1,9 +1,9 @@
-//! What goes to standard output.
+//! Standard output.
 
 use crate::fault::{End, Place};
 use std::io::Write;
 
-/// Writes bytes to standard output, as they are.
+/// Writes bytes to standard output unchanged.
 pub(crate) fn write(rt: &HostRuntime, bytes: &[u8]) -> Result<(), End> {
     match rt.stdout().write_all(bytes) {
         Ok(()) => Ok(()),

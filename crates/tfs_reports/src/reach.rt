@@ -1,4 +1,5 @@
-//! What a change reaches, by the newest state of a name: by the index and the rules of the server's own answers.
+//! What a change reaches in the newest state of a workspace, by the index and the rules that the
+//! server answers with.
 
 ghost use Rattle.std.specs.Prelude.{◌<◌, length};
 
@@ -17,20 +18,21 @@ use tfs_versions::picture;
 
 const COLUMNS: &[&str] = &["instance"];
 
-/// How an answer is told.
+/// How an answer is printed.
 #[derive(Clone, Copy)]
 pub enum Form {
-    /// As a table.
+    /// A table.
     Table,
-    /// As JSON.
+    /// JSON.
     Json,
-    /// As a picture of all instances, in which those of the answer are filled.
+    /// A picture of all instances, with those of the answer filled.
     Picture,
-    /// As a picture of the instances of the answer.
+    /// A picture of the answer's instances.
     AnswerPicture,
 }
 
-/// Prints what a change of the named instances reaches in the newest state of a name: `any` or `all` of them.
+/// Prints what a change of the named instances reaches in the newest state of a workspace: `any` or
+/// `all` of them.
 pub fn print_impact(
     rt: &HostRuntime,
     folder: &str,
@@ -43,7 +45,7 @@ pub fn print_impact(
     tell(rt, &answer, form)
 }
 
-/// The answer over the newest journal of a folder.
+/// Answers a query over the newest journal of a folder.
 fn answer_of(rt: &HostRuntime, folder: &str, name: &Name, query: &Query) -> Result<Impact, End> {
     let table = newest_journal(rt, folder)?.table;
     if table.number(name).is_none() {
@@ -55,14 +57,14 @@ fn answer_of(rt: &HostRuntime, folder: &str, name: &Name, query: &Query) -> Resu
     }
 }
 
-/// The query for what some texts name: `any` or `all` of them.
+/// Returns the query for `any` or `all` of the addresses.
 pub fn query_of(alloc: Global, is_all: bool, addresses: &[&str]) -> Result<Query, End> {
     let kind = if is_all { Kind::All } else { Kind::Any };
     let texts = Texts::new(texts_of(alloc, addresses)?);
     Ok(Query { kind, texts })
 }
 
-/// The texts that name instances.
+/// Returns the addresses as texts of a query.
 fn texts_of(alloc: Global, addresses: &[&str]) -> Result<Vec<Text>, AllocError> {
     let mut texts = Vec::with_capacity(alloc, addresses.len())?;
     for address in addresses {
@@ -71,7 +73,7 @@ fn texts_of(alloc: Global, addresses: &[&str]) -> Result<Vec<Text>, AllocError> 
     Ok(texts)
 }
 
-/// Why a query isn't answered.
+/// Returns the fault for a refused query.
 fn fault_of(refusal: &Refusal) -> Fault {
     match refusal {
         Refusal::NoState => Fault::NoState,
@@ -97,7 +99,7 @@ fn tell(rt: &HostRuntime, answer: &Impact, form: Form) -> Result<(), End> {
     }
 }
 
-/// Prints the picture of some instances, in which the chosen ones are filled.
+/// Prints a picture of some instances, with the chosen ones filled.
 fn draw(rt: &HostRuntime, doc: &Doc, among: &[usize], chosen: &[usize]) -> Result<(), End> {
     let bytes = picture(rt.alloc(), doc, among, chosen)?;
     let text = String::from_utf8_lossy(rt.alloc(), bytes.as_slice())?;
@@ -106,7 +108,7 @@ fn draw(rt: &HostRuntime, doc: &Doc, among: &[usize], chosen: &[usize]) -> Resul
     write(rt, drawn.as_bytes())
 }
 
-/// A row for each instance that was chosen.
+/// Returns a report with a row for each chosen instance.
 fn report_of(alloc: Global, doc: &Doc, chosen: &[usize], json: bool) -> Result<Report, AllocError> {
     let mut report = Report::new(alloc, COLUMNS, json)?;
     for number in chosen {
@@ -117,7 +119,7 @@ fn report_of(alloc: Global, doc: &Doc, chosen: &[usize], json: bool) -> Result<R
     Ok(report)
 }
 
-/// The row of an instance.
+/// Returns the row of an instance.
 fn row_of(alloc: Global, doc: &Doc, number: usize) -> Result<Value, AllocError>
     requires { number < length doc.now.instances }
 {
@@ -125,7 +127,7 @@ fn row_of(alloc: Global, doc: &Doc, number: usize) -> Result<Value, AllocError>
     json!(in alloc; {"instance": format!(in alloc; "{address}")?})
 }
 
-/// The numbers of all instances.
+/// Returns the numbers of all instances.
 fn all_numbers_of(alloc: Global, doc: &Doc) -> Result<Vec<usize>, AllocError> {
     let mut numbers = Vec::with_capacity(alloc, doc.len())?;
     for number in 0..doc.len() {

@@ -1,4 +1,5 @@
-//! A report: rows with named members, as a table for people or as JSON for programs. Of a row only its text is kept.
+//! Reports: rows with named members, as a table for people or as JSON for programs. A report keeps
+//! only the text of its rows.
 
 use crate::fault::End;
 use crate::output::write;
@@ -7,7 +8,8 @@ use serde_json::Value;
 use std::alloc::{AllocError, Global};
 use tfs_printed::push_json;
 
-/// The rows so far: as JSON in one line; or as lines of cells, each with a tab behind it, below the names of the columns.
+/// A report so far: one line of JSON, or the names of the columns and then the rows as lines of
+/// cells, each cell followed by a tab.
 #[derive(Drop)]
 pub(crate) struct Report {
     columns: &'static [&'static str],
@@ -17,7 +19,7 @@ pub(crate) struct Report {
 }
 
 impl Report {
-    /// A report without rows. A table shows these members of each.
+    /// Returns a report without rows. A table shows these members of each row.
     pub(crate) fn new(
         alloc: Global,
         columns: &'static [&'static str],
@@ -60,7 +62,7 @@ impl Report {
     }
 }
 
-/// Adds the text of a row, behind a comma where it isn't the first one.
+/// Adds the text of a row, after a comma unless it is the first.
 fn add_json(alloc: Global, text: &mut String, row: &Value) -> Result<(), AllocError> {
     if text.len() > "[".len() {
         text.push(',')?;
@@ -68,7 +70,7 @@ fn add_json(alloc: Global, text: &mut String, row: &Value) -> Result<(), AllocEr
     push_json(text, row.to_string(alloc)?.as_str())
 }
 
-/// Adds the line of the columns' names, which are the first cells.
+/// Adds the line of the column names, which are the first cells.
 fn add_names(
     text: &mut String,
     widths: &mut Vec<usize>,
@@ -82,7 +84,8 @@ fn add_names(
     text.push('\n')
 }
 
-/// Adds the line of a row's cells. No cell has a tab or an end of a line: they would be escaped.
+/// Adds the line of a row's cells. A cell contains no tab and no line end, because these are
+/// escaped.
 fn add_cells(
     alloc: Global,
     text: &mut String,
@@ -99,14 +102,14 @@ fn add_cells(
     text.push('\n')
 }
 
-/// Makes a column at least this wide.
+/// Widens a column to at least this width.
 fn widen(widths: &mut [usize], at: usize, width: usize) {
     if let Some(own) = widths.get_mut(at) {
         *own = width.max(*own);
     }
 }
 
-/// The lines of cells, with blanks for the tabs.
+/// Returns the lines of cells, aligned by blanks instead of tabs.
 fn table_text(alloc: Global, text: &str, widths: &[usize]) -> Result<String, AllocError> {
     let mut table = String::with_capacity(alloc, text.len())?;
     for line in text.lines() {
@@ -115,7 +118,7 @@ fn table_text(alloc: Global, text: &str, widths: &[usize]) -> Result<String, All
     Ok(table)
 }
 
-/// Adds the line of these cells up to its last letter.
+/// Adds the line of these cells, without trailing blanks.
 fn push_line(
     alloc: Global,
     table: &mut String,
@@ -128,7 +131,7 @@ fn push_line(
     table.push('\n')
 }
 
-/// Adds cells, each up to its column's width.
+/// Adds cells, each padded to its column's width.
 fn push_cells(line: &mut String, cells: &str, widths: &[usize]) -> Result<(), AllocError> {
     for (own, width) in cells.split('\t').zip(widths.iter()) {
         push_cell(line, own, *width)?;

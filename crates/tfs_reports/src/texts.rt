@@ -1,4 +1,4 @@
-//! Texts from clients as JSON values and as cells of a table.
+//! Texts from clients, as JSON values and as cells of a table.
 
 ghost use Rattle.std.specs.Prelude.{◌≡◌, IfOk, string_bytes, chars};
 ghost use Rattle.std.specs.List.{flat_map};
@@ -13,7 +13,7 @@ use std::alloc::{AllocError, Global};
 use tfs_lock::Id;
 use tfs_printed::push_printed;
 
-/// An identifier as JSON; null for none.
+/// Returns an identifier as JSON; null for none.
 pub(crate) fn id_text(alloc: Global, id: &Option<Id>) -> Result<Value, AllocError>
     ensures { IfOk result (λ value. view value ≡ text_or_null id.now) }
 {
@@ -23,7 +23,7 @@ pub(crate) fn id_text(alloc: Global, id: &Option<Id>) -> Result<Value, AllocErro
     }
 }
 
-/// The text of a member; null where it is absent or no text.
+/// Returns the text of a member; null if it is absent or isn't a text.
 pub(crate) fn member(alloc: Global, members: &Value, name: &str) -> Result<Value, AllocError>
     ensures { IfOk result (λ value. view value ≡ text_or_null (text_at name.now (view members.now))) }
 {
@@ -33,7 +33,7 @@ pub(crate) fn member(alloc: Global, members: &Value, name: &str) -> Result<Value
     }
 }
 
-/// The text of a cell: a text as a terminal prints it, a number, or a dash for nothing.
+/// Returns the text of a cell: an escaped text, a number, or a dash for anything else.
 pub(crate) fn cell(alloc: Global, row: &Value, column: &str) -> Result<String, AllocError> {
     match row.get(column) {
         Some(Value::String(text)) => text_cell(alloc, text.as_str()),
@@ -42,7 +42,7 @@ pub(crate) fn cell(alloc: Global, row: &Value, column: &str) -> Result<String, A
     }
 }
 
-/// A text in a cell.
+/// Returns a text with its unprintable characters escaped.
 fn text_cell(alloc: Global, text: &str) -> Result<String, AllocError>
     ensures { IfOk result (λ shown. string_bytes shown ≡ flat_map printed (chars text.now)) }
 {

@@ -1,4 +1,4 @@
-//! What sinks are given.
+//! The bytes that a table gives its sink before the first change.
 
 ghost use Rattle.std.specs.Prelude.{◌≡◌, false};
 
@@ -6,14 +6,14 @@ use std::process::Abort;
 use tfs_records::{Sink, SinkFault};
 use tfs_table::Table;
 
-/// A sink that takes no bytes, and fails where it is given some.
+/// A sink that takes no bytes, and fails if it is given any.
 #[derive(Drop)]
 struct Closed {
     has_failed: bool,
 }
 
 impl Closed {
-    /// It was given nothing.
+    /// Returns a sink that was given nothing.
     fn new() -> Closed
         ensures open { result.has_failed ≡ false }
     {

@@ -1,4 +1,4 @@
-//! Listeners on the loopback, and connections to them.
+//! Listeners on the loopback interface, and connections to them.
 
 use std::alloc::Global;
 use std::io;
@@ -6,7 +6,7 @@ use std::io::Write;
 use std::net::{Net, TcpListener, TcpStream};
 use std::process::Abort;
 
-/// A connection to a listener, on which requests were sent.
+/// Returns a connection to a listener, on which these requests were sent.
 pub(crate) fn asking<R: Abort + Net<Stream = TcpStream>>(
     rt: &R,
     listener: &TcpListener,
@@ -19,13 +19,13 @@ pub(crate) fn asking<R: Abort + Net<Stream = TcpStream>>(
     stream
 }
 
-/// These replies come on a connection, and then its end.
+/// Checks that a connection has these replies, and then ends.
 pub(crate) fn is_answered(rt: &(impl Alloc<A = Global> + Abort), stream: TcpStream, replies: &str) {
     let told = io::read_to_string(rt.alloc(), stream);
     assert!(rt; told.ok().expect(rt, "replies").as_str() == replies);
 }
 
-/// A listener on the loopback.
+/// Returns a listener on the loopback interface.
 pub(crate) fn listener_of<R: Abort + Net<Stream = TcpStream, Listener = TcpListener>>(
     rt: &R,
 ) -> TcpListener {

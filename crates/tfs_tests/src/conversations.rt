@@ -1,4 +1,5 @@
-//! Conversations over a table, whose reader or writer does what no file or socket does at will.
+//! Conversations over a table with readers and writers that behave as no file or socket can be made
+//! to.
 
 use crate::drafts::name_of;
 use crate::readers::Pieces;
@@ -11,8 +12,9 @@ use tfs_conversation::{Desk, Ended, Reads, ServeFault, TableDesk, Watched, conve
 use tfs_records::Discard;
 use tfs_table::Table;
 
-/// Wants these bytes. It takes at most so many a call, as long as it has room, and then none without an error. It counts the writes, and
-/// keeps whether it was given other bytes.
+/// A writer that expects these bytes. It takes at most `most` bytes a call, up to `room` bytes in
+/// all, and then none, without an error. It counts the writes, and records whether it was given
+/// other bytes.
 #[derive(Drop)]
 struct Taking<'w> {
     rest: &'w [u8],
@@ -23,7 +25,7 @@ struct Taking<'w> {
 }
 
 impl<'w> Taking<'w> {
-    /// Nothing was taken.
+    /// Returns a writer that was given nothing.
     fn new(rest: &'w [u8], most: usize, room: usize) -> Taking<'w> {
         Taking {
             rest,
@@ -34,7 +36,7 @@ impl<'w> Taking<'w> {
         }
     }
 
-    /// Whether it was given what it wants, and no more.
+    /// Returns true if it was given the expected bytes and no others.
     fn has_all(&self) -> bool {
         self.rest.is_empty() && !self.differs
     }
@@ -57,7 +59,8 @@ impl<'w> io::Write for Taking<'w> {
     }
 }
 
-/// How a conversation over a new table ends, how many reads it makes, and how many entries the table has then.
+/// Runs a conversation over a new table. Returns how it ended, how many reads it made, and how many
+/// entries the table has then.
 fn talk<S: io::Read>(
     rt: &(impl Alloc<A = Global> + Abort),
     reader: &mut Watched<S>,
@@ -69,8 +72,8 @@ fn talk<S: io::Read>(
     (ended, reads.used(), table.len())
 }
 
-/// An input that comes in reads of at most so many bytes is read to its end, and has these replies. How many reads it takes, which are all
-/// counted, and how many writes.
+/// Checks that an input that comes in reads of at most `most` bytes is read to its end, that all
+/// reads are counted, and that it has these replies. Returns the numbers of reads and writes.
 fn calls_of(
     rt: &(impl Alloc<A = Global> + Abort),
     input: &str,
@@ -89,7 +92,8 @@ fn calls_of(
     (reads, writer.inner.calls)
 }
 
-/// The push and the read, which come in reads of at most so many bytes, take so many reads, and each reply one write.
+/// Checks that the push and the read, in reads of at most `most` bytes, take this number of reads,
+/// and each reply one write.
 fn takes_reads(rt: &(impl Alloc<A = Global> + Abort), most: usize, reads: u64) {
     let calls = calls_of(rt, PUSH_AND_READ, most, REPLIES, Ended::Clean);
     assert!(rt; calls == (reads, 2), "{most}");
@@ -112,8 +116,9 @@ fn the_input_is_read_to_its_end(rt: HostRuntime) {
     assert!(rt; writes == 0);
 }
 
-/// A writer that takes at most so many bytes a call, and so many in all, has the front of the replies to the input, whose first request is
-/// accepted, and the conversation ends so, at the end of the input where it isn't broken off.
+/// Checks that a writer that takes at most `most` bytes a call, and `room` bytes in all, has this
+/// prefix of the replies to the input, whose first request is accepted, and that the conversation
+/// has this end. Unless the end is an error, the input is read to its end.
 fn is_taken(
     rt: &(impl Alloc<A = Global> + Abort),
     input: &str,
@@ -144,7 +149,8 @@ fn a_long_state_is_written_in_pieces(rt: HostRuntime) {
     is_in_pieces(&rt, blanks.as_str());
 }
 
-/// The replies to the push and the read of S1 with spaces, 200,000 bytes together, are taken in pieces of 1,000 bytes.
+/// Checks the replies to the push and the read of S1 with trailing spaces, 200,000 bytes, when they
+/// are taken in pieces of 1,000 bytes.
 fn is_in_pieces(rt: &(impl Alloc<A = Global> + Abort), blanks: &str) {
     let input = format!(in rt.alloc();
         "POST /state/a HTTP/1.1\r\nHost: h\r\nContent-Length: 200000\r\n\r\n{S1}{blanks}\
@@ -162,8 +168,8 @@ GET /state/a HTTP/1.1\r\nHost: h\r\n\r\n"
     );
 }
 
-/// A reader that fails behind the first so many bytes of the push and the read, which come in reads of at most so many, leaves so many
-/// bytes of their replies.
+/// Checks that a reader that fails after the first `count` bytes of the push and the read, in reads
+/// of at most `most` bytes, leaves the first `written` bytes of their replies.
 fn leaves(rt: &(impl Alloc<A = Global> + Abort), (count, most): (usize, usize), written: usize) {
     let (rest, _) = PUSH_AND_READ.as_bytes().split_at(count.min(130));
     let (front, _) = REPLIES.as_bytes().split_at(written.min(150));
@@ -192,7 +198,7 @@ fn a_reader_that_fails_behind_a_message_leaves_its_reply(rt: HostRuntime) {
     }
 }
 
-/// Gives one byte a read, without end: first its own.
+/// A reader that gives one byte a read, without end: first its own.
 #[derive(Drop)]
 struct Endless<'i>(&'i [u8]);
 

@@ -1,4 +1,5 @@
-//! Sessions that change one workspace at the same time, each in a thread of its own, and one that asks meanwhile.
+//! Sessions that change one workspace concurrently, each in a thread of its own, and a session that
+//! queries it meanwhile.
 
 use crate::drafts::{name_of, push_of, push_of_text};
 use crate::sessions::{ask, read};
@@ -13,20 +14,20 @@ use tfs_calls::{Bytes, Draft, Kind, Raw, Refusal};
 use tfs_records::{Discard, Sink};
 use tfs_shared::{Naming, Session, Shared};
 
-/// The forced unlock of a workspace.
+/// Returns the forced unlock of a workspace.
 fn unlock_of(rt: &(impl Alloc<A = Global> + Abort)) -> Draft {
     let body = Bytes::new(Vec::new(rt.alloc()));
     let draft = Draft::read(rt.alloc(), Raw::Unlock(body, None));
     draft.ok().expect(rt, "a draft")
 }
 
-/// The push of a state without resources, with a serial.
+/// Returns the push of a state without resources, with this serial.
 fn small_push(rt: &(impl Alloc<A = Global> + Abort), serial: u64) -> Draft {
     let text = format!(in rt.alloc(); "{{\"version\":4,\"serial\":{serial},\"lineage\":\"L1\"}}");
     push_of_text(rt, text.expect(rt, "memory").as_str())
 }
 
-/// Makes 100 forced unlocks. Each is accepted, at a higher position than the last.
+/// Makes 100 forced unlocks. Checks that each is accepted, at a higher position than the last.
 fn unlock<J: Naming, K: Sink, R: Wait + Abort + Alloc<A = Global>>(
     rt: &R,
     shared: &Shared<J, K>,
@@ -40,18 +41,19 @@ fn unlock<J: Naming, K: Sink, R: Wait + Abort + Alloc<A = Global>>(
     assert!(rt; session.accepted() == 100);
 }
 
-/// A number that is higher than the last one.
+/// Returns a number after checking that it is higher than the last one.
 fn higher(rt: &impl Abort, number: u64, last: u64) -> u64 {
     assert!(rt; last < number, "{number} comes after {last}");
     number
 }
 
-/// Whether an answer is the refusal of a state that is too old.
+/// Checks that an answer is the refusal of a state whose serial is too low.
 fn is_too_old(rt: &impl Abort, refusal: Refusal) {
     assert!(rt; refusal.name() == "SerialTooLow");
 }
 
-/// Pushes the serials from 1 to 100. Each is accepted at a higher position than the last, or too old.
+/// Pushes the serials from 1 to 100. Checks that each is accepted at a higher position than the
+/// last, or refused because its serial is too low.
 fn push<J: Naming, K: Sink, R: Wait + Abort + Alloc<A = Global>>(
     rt: &R,
     shared: &Shared<J, K>,
@@ -66,7 +68,8 @@ fn push<J: Naming, K: Sink, R: Wait + Abort + Alloc<A = Global>>(
     }
 }
 
-/// Pushes the chain with the serials from 2 to 100. Each is accepted at the position of its serial, and the next query is answered there.
+/// Pushes the chain with the serials from 2 to 100. Checks that each is accepted at the position of
+/// its serial, and that the next query is answered at that position.
 fn lead<J: Naming, K: Sink, R: Wait + Abort + Alloc<A = Global>>(
     rt: &R,
     shared: &Shared<J, K>,
@@ -81,7 +84,8 @@ fn lead<J: Naming, K: Sink, R: Wait + Abort + Alloc<A = Global>>(
     }
 }
 
-/// Asks 1,000 times. Each answer has the same serial and position, and no position is lower than the last.
+/// Makes 1,000 queries. Checks that each answer has the same number for serial and position, and
+/// that no position is lower than the last.
 fn follow<J: Naming, K: Sink, R: Abort + Alloc<A = Global>>(
     rt: &R,
     shared: &Shared<J, K>,
@@ -98,7 +102,7 @@ fn follow<J: Naming, K: Sink, R: Abort + Alloc<A = Global>>(
     }
 }
 
-/// All sessions unlock, each 100 times.
+/// Has all sessions make 100 forced unlocks each.
 pub(crate) fn unlock_all<
     J: Naming + Send + Sync,
     K: Sink + Send,
@@ -107,7 +111,7 @@ pub(crate) fn unlock_all<
     thread::for_each_mut(rt, sessions, 4, &|_, session| unlock(rt, shared, session));
 }
 
-/// All sessions push the serials from 1 to 100. The last state has serial 100.
+/// Has all sessions push the serials from 1 to 100. Checks that the last state has serial 100.
 pub(crate) fn push_all<
     J: Naming + Send + Sync,
     K: Sink + Send,
@@ -120,7 +124,8 @@ pub(crate) fn push_all<
     }
 }
 
-/// The first session pushes while the second one asks. Then both have the last answer.
+/// Has the first session push while the second one makes queries. Checks that both then have the
+/// last answer.
 pub(crate) fn follow_one<
     J: Naming + Send + Sync,
     K: Sink + Send,

@@ -1,4 +1,5 @@
-//! The MD5 of four texts at once, against RFC 1321's test suite and against the MD5 of each alone.
+//! The MD5s of four texts computed together, against RFC 1321's test suite and against the MD5 of
+//! each text alone.
 
 use crate::helpers::expect_vector;
 use crate::lines::{Judge, expect_at, expect_lines};
@@ -8,7 +9,7 @@ use std::alloc::Global;
 use std::process::Abort;
 use tfs_digests::digests;
 
-/// The test suite (section A.5): texts, and their MD5.
+/// The test suite (section A.5): texts, and their MD5s.
 const SUITE: &str = " = d41d8cd98f00b204e9800998ecf8427e
 a = 0cc175b9c0f1b6a831c399e269772661
 abc = 900150983cd24fb0d6963f7d28e17f72
@@ -36,7 +37,7 @@ fn texts_of_the_suite_have_their_digests(rt: HostRuntime) {
     expect_lines::<Suite>(&rt, SUITE);
 }
 
-/// Whether four texts have the digests that each has alone.
+/// Returns true if four texts have the digests that each has alone.
 fn are_as_alone(a: &[u8], b: &[u8], c: &[u8], d: &[u8]) -> bool {
     let [first, second, third, fourth] = digests([a, b, c, d]);
     first == Md5::digest(a)
@@ -45,7 +46,7 @@ fn are_as_alone(a: &[u8], b: &[u8], c: &[u8], d: &[u8]) -> bool {
         && fourth == Md5::digest(d)
 }
 
-/// Looks at four parts of 1,000 bytes, which this length divides.
+/// Checks four parts of 1,000 bytes, which this length divides.
 fn expect_parts(rt: &impl Abort, bytes: &[u8], len: usize) {
     assert!(rt; len <= 130 && bytes.len() == 1_000);
     let are = are_as_alone(

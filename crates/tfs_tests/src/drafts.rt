@@ -1,4 +1,4 @@
-//! Names, changes and queries of the state in which `t.b` depends on `t.a`, and `t.c` on `t.b`.
+//! Names, changes and queries for the state in which `t.b` depends on `t.a`, and `t.c` on `t.b`.
 
 use std::alloc::Global;
 use std::process::Abort;
@@ -16,13 +16,13 @@ const SECOND: &str =
 const THIRD: &str =
     r#"{"mode":"managed","type":"t","name":"c","instances":[{"dependencies":["t.b"]}]}"#;
 
-/// The name `a`.
+/// Returns the name `a`.
 pub(crate) fn name_of(rt: &(impl Alloc<A = Global> + Abort)) -> Name {
     let text = String::from_str(rt.alloc(), "a").ok().expect(rt, "a text");
     Name::read(text).expect(rt, "a name")
 }
 
-/// The chain with a serial.
+/// Returns the chain with this serial.
 pub(crate) fn chain_of(rt: &(impl Alloc<A = Global> + Abort), serial: u64) -> String {
     let text = format!(in rt.alloc();
         "{{\"version\":4,\"serial\":{serial},\"lineage\":\"L1\",\"resources\":[{FIRST},{SECOND},{THIRD}]}}"
@@ -30,17 +30,17 @@ pub(crate) fn chain_of(rt: &(impl Alloc<A = Global> + Abort), serial: u64) -> St
     text.ok().expect(rt, "a state")
 }
 
-/// The push of the chain with a serial.
+/// Returns the push of the chain with this serial.
 pub(crate) fn push_of(rt: &(impl Alloc<A = Global> + Abort), serial: u64) -> Draft {
     let text = chain_of(rt, serial);
     push_of_text(rt, text.as_str())
 }
 
-/// The resource `a` of the circle, which depends on the chain's `b`.
+/// The resource `a` of the cycle, which depends on the chain's `b`.
 const CLOSING: &str =
     r#"{"mode":"managed","type":"t","name":"a","instances":[{"dependencies":["t.b"]}]}"#;
 
-/// The push of two instances that depend on each other, with serial 1.
+/// Returns the push of two instances that depend on each other, with serial 1.
 pub(crate) fn circle(rt: &(impl Alloc<A = Global> + Abort)) -> Draft {
     let text = format!(in rt.alloc();
         "{{\"version\":4,\"serial\":1,\"lineage\":\"L1\",\"resources\":[{CLOSING},{SECOND}]}}"
@@ -49,7 +49,7 @@ pub(crate) fn circle(rt: &(impl Alloc<A = Global> + Abort)) -> Draft {
     push_of_text(rt, text.as_str())
 }
 
-/// The push of a state.
+/// Returns the push of a state.
 pub(crate) fn push_of_text(rt: &(impl Alloc<A = Global> + Abort), text: &str) -> Draft {
     let bytes = text.as_bytes().to_vec(rt.alloc()).ok().expect(rt, "bytes");
     assert!(rt; bytes.len() <= MAX_STATE_BYTES);
@@ -57,14 +57,14 @@ pub(crate) fn push_of_text(rt: &(impl Alloc<A = Global> + Abort), text: &str) ->
     draft.ok().expect(rt, "a draft")
 }
 
-/// A lock by `B`.
+/// Returns a lock by `B`.
 pub(crate) fn lock_of(rt: &(impl Alloc<A = Global> + Abort)) -> Draft {
     let bytes = br#"{"ID":"B"}"#.to_vec(rt.alloc()).ok().expect(rt, "bytes");
     let draft = Draft::read(rt.alloc(), Raw::Lock(Bytes::new(bytes)));
     draft.ok().expect(rt, "a draft")
 }
 
-/// A query of a kind for what `t.a` reaches.
+/// Returns a query of a kind for what `t.a` reaches.
 pub(crate) fn query_of(rt: &(impl Alloc<A = Global> + Abort), kind: Kind) -> Query {
     let text = String::from_str(rt.alloc(), "t.a")
         .ok()

@@ -1,5 +1,5 @@
-//! Tables over a sink that takes 50 bytes a call and fails after some calls, and tables that are opened from bytes. The texts are those of
-//! `src/journals.rt`.
+//! Tables over a sink that takes 50 bytes a call and fails after some calls, and tables that are
+//! opened from bytes. The texts are those of `src/journals.rt`.
 
 ghost use Rattle.std.specs.Prelude.{◌≡◌, [], false};
 
@@ -12,19 +12,19 @@ use tfs_calls::{Kind, Refusal};
 use tfs_records::MemorySink;
 use tfs_table::Table;
 
-/// Two states of one history, of 41 bytes each.
+/// Two states of one lineage, of 41 bytes each.
 const S1: &str = "{\"version\":4, \"serial\":1 ,\"lineage\":\"L1\"}";
 
 const S2: &str = "{\"version\":4, \"serial\":2 ,\"lineage\":\"L1\"}";
 
-/// A sink that takes 50 bytes a call, for a number of calls.
+/// Returns a sink that takes 50 bytes a call, for this number of calls.
 fn sink_of(alloc: Global, calls: u64) -> MemorySink
     ensures { (result.has_failed ≡ false) × (result.bytes ≡ []) }
 {
     MemorySink::new(alloc, 50, calls)
 }
 
-/// The answer to a change in one word.
+/// Returns the answer to a change as one word.
 fn word_of(answer: Result<u64, Refusal>) -> &'static str {
     match answer {
         Ok(_) => "Done",
@@ -32,7 +32,7 @@ fn word_of(answer: Result<u64, Refusal>) -> &'static str {
     }
 }
 
-/// Pushes a state to `a`, and returns the answer in one word.
+/// Pushes a state to `a`, and returns the answer as one word.
 fn pushed(
     rt: &(impl Alloc<A = Global> + Abort),
     table: &mut Table<MemorySink>,
@@ -41,7 +41,7 @@ fn pushed(
     word_of(table.apply(name_of(rt), push_of_text(rt, text)))
 }
 
-/// The serial of the state of `a`, or why there is none.
+/// Returns the serial of the state of `a`, or the refusal.
 fn serial_in(
     rt: &(impl Alloc<A = Global> + Abort),
     table: &Table<MemorySink>,
@@ -58,7 +58,8 @@ fn serial_in(
     }
 }
 
-/// Opens a table from bytes, and returns its number of entries, how the bytes end, and the length of its own journal; or the fault.
+/// Opens a table from bytes, and returns its number of entries, how the bytes end, and the length
+/// of its own journal; or the fault.
 fn opened(alloc: Global, bytes: &[u8]) -> Result<String, AllocError> {
     match Table::open(alloc, bytes, sink_of(alloc, 100)) {
         Ok((table, end)) => {
@@ -69,7 +70,8 @@ fn opened(alloc: Global, bytes: &[u8]) -> Result<String, AllocError> {
     }
 }
 
-/// Pushes two states to a table and reads one. Returns the answers, the length of its journal, and how that opens.
+/// Pushes two states to a table and reads one. Returns the answers, the length of its journal, and
+/// how that opens.
 fn answers_of(
     rt: &(impl Alloc<A = Global> + Abort),
     table: &mut Table<MemorySink>,
@@ -83,7 +85,7 @@ fn answers_of(
     format!(in rt.alloc(); "{first} {second} {serial} {length} {opened}")
 }
 
-/// The answers of a table whose sink takes a number of calls.
+/// Returns the answers of a table whose sink takes this number of calls.
 fn faulty(rt: &(impl Alloc<A = Global> + Abort), calls: u64) -> Result<String, AllocError> {
     match Table::new(rt.alloc(), sink_of(rt.alloc(), calls)) {
         Ok(mut table) => answers_of(rt, &mut table),
@@ -91,7 +93,8 @@ fn faulty(rt: &(impl Alloc<A = Global> + Abort), calls: u64) -> Result<String, A
     }
 }
 
-/// A line has the number of calls; then the answers to a push of S1, a push of S2 and a read, the length of the journal, and how it opens.
+/// Lines with a number of calls, and then the answers to a push of S1, a push of S2 and a read, the
+/// length of the journal, and how it opens.
 struct Calls;
 
 impl Judge for Calls {
@@ -112,7 +115,8 @@ fn a_sink_that_fails_after_some_calls_stops_its_table(rt: HostRuntime) {
     expect_lines::<Calls>(&rt, CALLS);
 }
 
-/// A line has the length of a journal and a number of its first bytes; then how a table opens from these.
+/// Lines with the length of a journal and a number of its first bytes, and then how a table opens
+/// from these bytes.
 struct Fronts;
 
 impl Judge for Fronts {
@@ -140,7 +144,7 @@ fn a_table_tells_how_the_bytes_end_that_it_opens(rt: HostRuntime) {
     expect_lines::<Fronts>(&rt, FRONTS);
 }
 
-/// The answers of a stopped table to a lock, a read and a query, and its position.
+/// Returns the answers of a stopped table to a lock, a read and a query, and its position.
 fn stopped_answers(
     rt: &(impl Alloc<A = Global> + Abort),
     table: &mut Table<MemorySink>,

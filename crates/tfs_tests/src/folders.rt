@@ -1,5 +1,6 @@
-//! Folders of journals: which one is gone on from, or why none is, worked out by hand. A line has files, each with its number, the length of
-//! its text and how many of its bytes are there, and then the choice.
+//! Folders of journals: which journal a start continues, or why none, worked out by hand. A line
+//! has files, each with its number, the length of its text and the number of its first bytes that
+//! the file has, and then the choice.
 
 use crate::journals::{front_of, journal_bytes};
 use crate::lines::{Judge, expect_lines, expect_text, expect_that, expect_words, number_in, split};
@@ -13,7 +14,7 @@ use tfs_folder::{
 use tfs_records::MemorySink;
 use tfs_table::{OpenFault, Table};
 
-/// The file of a word.
+/// Returns the file of a word.
 fn file_of(rt: &(impl Alloc<A = Global> + Abort), word: &str) -> FolderFile {
     let (number, text) = word.split_once(':').expect(rt, "a number");
     let (length, count) = text.split_once(':').expect(rt, "a length and a count");
@@ -21,7 +22,7 @@ fn file_of(rt: &(impl Alloc<A = Global> + Abort), word: &str) -> FolderFile {
     FolderFile::new(name.expect(rt, "memory"), front_of(rt, length, count))
 }
 
-/// The files of words.
+/// Returns the files of words.
 fn files_of(rt: &(impl Alloc<A = Global> + Abort), words: &str) -> Vec<FolderFile> {
     let mut files = Vec::new(rt.alloc());
     for word in words.split_whitespace() {
@@ -30,7 +31,8 @@ fn files_of(rt: &(impl Alloc<A = Global> + Abort), words: &str) -> Vec<FolderFil
     files
 }
 
-/// A choice in words: its number, the number of one that was left, and its position.
+/// Returns a choice in words: its number, the number of a journal that a failed start left, and its
+/// position.
 fn chosen_words(alloc: Global, chosen: &Chosen) -> Result<String, AllocError> {
     let (number, position) = (chosen.number, chosen.table.position());
     match chosen.left {
@@ -39,7 +41,7 @@ fn chosen_words(alloc: Global, chosen: &Chosen) -> Result<String, AllocError> {
     }
 }
 
-/// Why there is none, in words: the number of the journal that shows it, and the fault.
+/// Returns in words why there is no choice: the number of the journal that shows it, and the fault.
 fn unchosen_words(alloc: Global, unchosen: Unchosen) -> Result<String, AllocError> {
     let why = unchosen.why;
     match unchosen.number {
@@ -48,7 +50,7 @@ fn unchosen_words(alloc: Global, unchosen: Unchosen) -> Result<String, AllocErro
     }
 }
 
-/// The choice in a folder, in words.
+/// Returns the choice in a folder, in words.
 fn choice_of(alloc: Global, files: Vec<FolderFile>, least: u64) -> Result<String, AllocError> {
     match choose(alloc, files, least) {
         Ok(chosen) => chosen_words(alloc, &chosen),
@@ -56,7 +58,8 @@ fn choice_of(alloc: Global, files: Vec<FolderFile>, least: u64) -> Result<String
     }
 }
 
-/// Readers of the journals among files, in pieces of at most so many bytes. That of one number fails behind them.
+/// Returns readers of the journals among files, in pieces of at most `most` bytes. The reader of
+/// one number fails after its bytes.
 fn readers_of<'f>(
     rt: &(impl Alloc<A = Global> + Abort),
     files: &'f [FolderFile],
@@ -74,7 +77,7 @@ fn readers_of<'f>(
     readers
 }
 
-/// The choice among these readers, in words.
+/// Returns the choice among these readers, in words.
 fn choice_beside(
     alloc: Global,
     readers: Vec<JournalReader<Pieces<'_>>>,
@@ -86,7 +89,7 @@ fn choice_beside(
     }
 }
 
-/// Why there is no choice among readers, in words.
+/// Returns in words why there is no choice among readers.
 fn no_choice_words(alloc: Global, why: NoChoice) -> Result<String, AllocError> {
     match why {
         NoChoice::Unchosen(unchosen) => unchosen_words(alloc, unchosen),
@@ -94,10 +97,10 @@ fn no_choice_words(alloc: Global, why: NoChoice) -> Result<String, AllocError> {
     }
 }
 
-/// The number of no file.
+/// A number that no file has.
 const NONE: u64 = u64::MAX;
 
-/// The least position, and the files: whole ones, and in pieces.
+/// Lines with the least position and the files. They are read whole and in pieces.
 struct Choices;
 
 impl Judge for Choices {
@@ -116,7 +119,7 @@ impl Judge for Choices {
     }
 }
 
-/// Folders, and what is chosen of them.
+/// Folders, and the choice in each.
 const CHOICES: &str = "0 1:104:104 = 1 at 2
 2 1:104:104 = 1 at 2
 3 1:104:104 = 1 NotAtLeast(2)
@@ -150,7 +153,7 @@ fn the_newest_journal_that_follows_is_chosen(rt: HostRuntime) {
     expect_lines::<Choices>(&rt, CHOICES);
 }
 
-/// The number of the journal whose reader fails, and the files.
+/// Lines with the number of the journal whose reader fails, and the files.
 struct Failing;
 
 impl Judge for Failing {
@@ -162,7 +165,7 @@ impl Judge for Failing {
     }
 }
 
-/// Journals beside one another, of which the reader of one fails.
+/// Folders in which the reader of one journal fails, and the choice.
 const FAILING: &str = "1 1:104:104 2:92:92 = 1 unread Source
 1 1:104:0 2:92:92 = 1 unread Source
 2 1:104:104 2:92:92 = 2 unread Source
@@ -178,7 +181,8 @@ fn a_reader_that_fails_ends_the_choice(rt: HostRuntime) {
     expect_lines::<Failing>(&rt, FAILING);
 }
 
-/// What goes on from the choice in a folder, over a sink that takes so many calls.
+/// Returns the table that continues the choice in a folder, over a sink that takes this number of
+/// calls.
 fn going_on(
     rt: &(impl Alloc<A = Global> + Abort),
     words: &str,
@@ -189,13 +193,13 @@ fn going_on(
     chosen.go_on(MemorySink::new(rt.alloc(), 4096, calls))
 }
 
-/// Compares the bytes of the sink of what goes on from the choice in a folder.
+/// Checks the bytes in the sink of the table that continues the choice in a folder.
 fn expect_going_on(rt: &(impl Alloc<A = Global> + Abort), words: &str, wanted: &[u8]) {
     let table = going_on(rt, words, 1).ok().expect(rt, "a journal");
     expect_that(rt, table.sink().bytes() == wanted, words);
 }
 
-/// Folders whose choice has one base.
+/// Folders whose choices give the same base.
 const OF_ONE_BASE: &str = "1:104:104
 1:130:130
 1:104:104 2:92:50
@@ -210,7 +214,7 @@ fn the_next_journal_has_the_base_of_the_chosen_one(rt: HostRuntime) {
     assert!(rt; going_on(&rt, "1:104:104", 0).err() == Some(OpenFault::SinkFault));
 }
 
-/// Names, and the numbers of those that are journals'.
+/// Names of files, and the number of each that is a journal's name.
 const NAMES: &str = "journal-0000000042.tfj 42
 journal-0000000000.tfj 0
 journal-9999999999.tfj 9999999999
@@ -231,7 +235,7 @@ fn names_of_22_bytes_are_those_of_journals(rt: HostRuntime) {
     }
 }
 
-/// Compares the name of a number; `-` stands for none.
+/// Checks the name of a number; `-` means none.
 fn expect_name(rt: &(impl Alloc<A = Global> + Abort), number: u64, wanted: &str) {
     match name_of(rt.alloc(), number).expect(rt, "memory") {
         Some(name) => expect_text(rt, name.as_str(), wanted),

@@ -10,7 +10,7 @@ const PUSH_IN_CHUNKS: &str =
     "POST /state/a HTTP/1.1\r\nHost: h\r\nTransfer-Encoding: chunked\r\n\r\n\
 29\r\n{\"version\":4, \"serial\":1 ,\"lineage\":\"L1\"}\r\n0\r\n\r\n";
 
-/// The bytes begin with a push of S1, of so many.
+/// Checks that the bytes begin with a push of S1 of this length.
 fn expect_push(rt: &(impl Alloc<A = Global> + Abort), bytes: &[u8], len: usize) {
     match take(rt.alloc(), bytes).expect(rt, "memory") {
         Take::Got(request, used) => {
@@ -20,7 +20,7 @@ fn expect_push(rt: &(impl Alloc<A = Global> + Abort), bytes: &[u8], len: usize) 
     }
 }
 
-/// The bytes are no message yet.
+/// Checks that the bytes aren't a complete message yet.
 fn expect_need(rt: &(impl Alloc<A = Global> + Abort), bytes: &[u8]) {
     match take(rt.alloc(), bytes).expect(rt, "memory") {
         Take::Need => {}
@@ -28,7 +28,8 @@ fn expect_need(rt: &(impl Alloc<A = Global> + Abort), bytes: &[u8]) {
     }
 }
 
-/// The text begins with a push of S1, of so many bytes; fewer are none.
+/// Checks that a text begins with a push of S1 of this length, and that fewer bytes aren't a
+/// message.
 fn expect_first_push(rt: &(impl Alloc<A = Global> + Abort), text: &str, len: usize) {
     let bytes = text.as_bytes();
     for n in 0..bytes.len() {
@@ -47,7 +48,7 @@ fn a_message_is_taken_where_it_is_whole(rt: HostRuntime) {
     expect_first_push(&rt, PUSH_IN_CHUNKS, 115);
 }
 
-/// A decoder needs more bytes, of which it takes so many at once, and is fed with these.
+/// Checks that a decoder needs more bytes and has room for `wanted`, and feeds it these.
 fn feed(
     rt: &(impl Alloc<A = Global> + Abort),
     decoder: &mut RequestDecoder,
@@ -64,7 +65,7 @@ fn feed(
     }
 }
 
-/// A decoder has a push of S1, and no bytes behind it.
+/// Checks that a decoder has a push of S1, and no bytes after it.
 fn expect_received(rt: &(impl Alloc<A = Global> + Abort), decoder: &mut RequestDecoder) {
     match decoder.next(rt.alloc()).expect(rt, "memory") {
         Received::Message(request) => {
@@ -75,8 +76,8 @@ fn expect_received(rt: &(impl Alloc<A = Global> + Abort), decoder: &mut RequestD
     }
 }
 
-/// Of a text that begins with a push of so many bytes, behind the first so many so many are taken at once; the rest of the push
-/// completes it.
+/// Checks that a decoder has room for `wanted` bytes after the first `n` bytes of a text that
+/// begins with a push of `len` bytes, and that the rest of the push completes it.
 fn expect_wanted(
     rt: &(impl Alloc<A = Global> + Abort),
     text: &str,
@@ -108,7 +109,7 @@ fn a_chunk_is_wanted_with_its_end(rt: HostRuntime) {
 const HEAD_IN_CHUNKS: &str =
     "POST /state/a HTTP/1.1\r\nHost: h\r\nTransfer-Encoding: chunked\r\n\r\n";
 
-/// A decoder refuses the bytes, since no chunk begins where one is due.
+/// Checks that a decoder refuses its bytes because no chunk begins after the previous one.
 fn expect_bad_chunk(rt: &(impl Alloc<A = Global> + Abort), decoder: &mut RequestDecoder) {
     match decoder.next(rt.alloc()).expect(rt, "memory") {
         Received::Refused(refusal) => assert!(rt; refusal.name() == "BadChunk"),

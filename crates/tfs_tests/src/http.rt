@@ -9,7 +9,7 @@ use tfs_http::{Routes, call_of, write_reply};
 use tfs_index::Version;
 use tfs_state::{Doc, MAX_STATE_BYTES};
 
-/// A read of this target has no route.
+/// Checks that a read of this target has no route.
 fn has_no_route(rt: &(impl Alloc<A = Global> + Abort), routes: &Routes, target: &[u8]) {
     let request = Request::new(rt.alloc(), b"GET", target, Vec::new(rt.alloc()));
     let request = request.ok().expect(rt, "memory");
@@ -24,7 +24,7 @@ fn a_target_that_is_no_text_has_no_route(rt: HostRuntime) {
     has_no_route(&rt, &routes, b"/state/a?\xff");
 }
 
-/// The text of a reply stands behind what stood there before.
+/// Checks that the text of a reply is appended to the existing bytes.
 fn expect_text(rt: &(impl Alloc<A = Global> + Abort), reply: &Reply, close: bool, text: &str) {
     let mut out = b"before".to_vec(rt.alloc()).expect(rt, "memory");
     let written = write_reply(rt.alloc(), reply, Form { close, bare: false }, &mut out);
@@ -41,13 +41,13 @@ fn a_fault_of_the_journal_is_told(rt: HostRuntime) {
     expect_text(&rt, &fault, false, text);
 }
 
-/// Three instances, the second of which depends on the first, and the third on the second.
+/// Three instances: the second depends on the first, and the third on the second.
 const CHAIN: &str = "{\"version\":4,\"serial\":2,\"lineage\":\"L\",\"resources\":[\
      {\"mode\":\"managed\",\"type\":\"t\",\"name\":\"a\",\"instances\":[{\"dependencies\":[\"x.y\"]}]},\
      {\"mode\":\"managed\",\"type\":\"t\",\"name\":\"b\",\"instances\":[{\"dependencies\":[\"t.a\"]}]},\
      {\"mode\":\"managed\",\"type\":\"t\",\"name\":\"c\",\"instances\":[{\"dependencies\":[\"t.b[3]\"]}]}]}";
 
-/// The version of a state.
+/// Returns the version of a state.
 fn version_of(rt: &(impl Alloc<A = Global> + Abort), text: &str) -> Arc<Version> {
     assert!(rt; text.len() <= MAX_STATE_BYTES);
     let bytes = text.as_bytes().to_vec(rt.alloc()).expect(rt, "memory");
@@ -57,7 +57,7 @@ fn version_of(rt: &(impl Alloc<A = Global> + Abort), text: &str) -> Arc<Version>
     Arc::new(rt.alloc(), version).ok().expect(rt, "memory")
 }
 
-/// The first of three instances reaches the last one, which reaches none.
+/// Checks that the first of three instances reaches the last one, which reaches none.
 fn is_chain(rt: &impl Abort, version: &Version) {
     assert!(rt; version.doc().len() == 3);
     assert!(rt; version.reaches(0, 2) && !version.reaches(2, 0));

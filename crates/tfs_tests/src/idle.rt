@@ -1,4 +1,4 @@
-//! Sessions that are asked through a desk behind a gate, and that work for nobody.
+//! Sessions that are asked through a gated desk, and whose gates admit nobody.
 
 use crate::connections::listener_of;
 use crate::drafts::name_of;
@@ -25,7 +25,7 @@ fn sessions_whose_gates_admit_nobody_end_their_work(rt: HostRuntime) {
     assert!(rt; played(&rt, new_table(&rt), 1, scene) == 0);
 }
 
-/// The reply to a read through a desk behind a gate.
+/// Returns the reply to a read through a gated desk.
 fn asked<J: Naming, K: Sink, R: Wait + Abort + Alloc<A = Global>>(
     rt: &R,
     service: &Service<'_, J, K, R>,
@@ -38,12 +38,13 @@ fn asked<J: Naming, K: Sink, R: Wait + Abort + Alloc<A = Global>>(
     gated.answer(Call::Read(name_of(rt)))
 }
 
-/// A reply is the refusal that there is no state.
+/// Checks that a reply is the refusal NoState.
 fn is_no_state(rt: &impl Abort, reply: Reply) {
     assert!(rt; matches!(reply, Reply::Refused(Refusal::NoState)));
 }
 
-/// A session that is asked through a desk, and works alone, behind a gate that admits nobody.
+/// Checks a session that is asked through a desk, and that works alone with a gate that admits
+/// nobody.
 fn works<J: Naming, K: Sink, R: Wait + Clock + Abort + Alloc<A = Global>>(
     rt: &R,
     shared: &Shared<J, K>,
@@ -66,7 +67,7 @@ fn works<J: Naming, K: Sink, R: Wait + Clock + Abort + Alloc<A = Global>>(
     assert!(rt; work(&service, listener, &mut Shut, session) == Ok(()));
 }
 
-/// Sessions that have worked, alone and as workers, behind gates that admit nobody.
+/// Returns sessions that have worked, alone and as workers, with gates that admit nobody.
 pub(crate) fn worked<
     J: Naming + Send + Sync,
     K: Sink + Send,

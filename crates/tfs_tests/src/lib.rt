@@ -1,5 +1,6 @@
-//! Tests of the crates below the programs, through what they offer: planes, journals and folders, whose cases stand as lines of
-//! a text where they are many; requests, replies, conversations and shared tables. What is wanted is written by hand.
+//! Tests of the library crates by their public calls: planes, journals and folders, requests,
+//! replies, conversations and shared tables. Large sets of cases are lines of a text. The expected
+//! values are written by hand.
 #![tactic(auto)]
 
 #[cfg(test)]

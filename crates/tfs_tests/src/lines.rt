@@ -1,11 +1,11 @@
-//! Lines of tests: a text has one case in each, `GIVEN = WANTED`.
+//! Tests of lines: each line of a text is a case, `GIVEN = WANTED`.
 
 use std::alloc::{AllocError, Global};
 use std::process::Abort;
 
-/// What judges the lines of a table.
+/// A judge of the lines of a table.
 pub(crate) trait Judge {
-    /// Compares the answer to what a line gives with what is wanted of it.
+    /// Compares the answer to the given part of a line with the wanted part.
     fn judge(rt: &(impl Alloc<A = Global> + Abort), given: &str, wanted: &str);
 }
 
@@ -17,22 +17,22 @@ pub(crate) fn expect_lines<J: Judge>(rt: &(impl Alloc<A = Global> + Abort), line
     }
 }
 
-/// A word, and what follows it behind a space.
+/// Splits a line after its first word.
 pub(crate) fn split(line: &str) -> (&str, &str) {
     line.split_once(' ').unwrap_or((line, ""))
 }
 
-/// The number that a word spells.
+/// Returns the number in a word.
 pub(crate) fn number_in(rt: &impl Abort, word: &str) -> u64 {
     word.parse::<u64>().ok().expect(rt, "a number")
 }
 
-/// Fails where something isn't so, and tells what it is about.
+/// Fails with a text unless the condition holds.
 pub(crate) fn expect_that(rt: &impl Abort, is_so: bool, about: &str) {
     assert!(rt; is_so, "{about}");
 }
 
-/// Fails where something isn't so, and tells at which number.
+/// Fails with a number unless the condition holds.
 pub(crate) fn expect_at(rt: &impl Abort, is_so: bool, number: usize) {
     assert!(rt; is_so, "at {number}");
 }

@@ -1,7 +1,7 @@
-//! The table of orders in which three threads write and wait for a sync, which tests/models/sync_orders.py lists by a model;
-//! tests/test_durable.py compares both.
+//! The orders in which three threads write and wait for a sync. The model
+//! tests/models/sync_orders.py lists them, and tests/test_durable.py compares both.
 
-/// An order in each line: its steps, each with what is shown after it by `src/syncs_in_order.rt`.
+/// One order a line: its steps, each with what `src/syncs_in_order.rt` shows after it.
 pub(crate) const ORDERS: &str = "0:=..0 0:~..1 1:~=.1 1:~~.1 2:~~=1 2:~~~1 +:+~~2 +:+++2
 0:=..0 0:~..1 1:~=.1 1:~~.1 2:~~=1 2:~~~1 +:+~~2 -:+--2
 0:=..0 0:~..1 1:~=.1 1:~~.1 2:~~=1 2:~~~1 -:---1

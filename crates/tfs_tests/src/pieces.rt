@@ -1,4 +1,5 @@
-//! Journals that come in pieces of some sizes: they are read and rebased as they are whole, or have the same fault.
+//! Journals that come in pieces of several sizes. They are read and rebased as whole ones are, or
+//! have the same fault.
 
 ghost use Rattle.std.specs.Prelude.{◌≡◌, [], false};
 
@@ -13,12 +14,13 @@ use tfs_replay::rebase_from;
 use tfs_stream::{Buffer, Watched, read_front, read_more};
 use tfs_table::{OpenFault, Table};
 
-/// A source of these pieces.
+/// Returns a source of pieces of these bytes.
 fn source_of(bytes: &[u8], most: usize, fails: bool) -> Watched<Pieces<'_>> {
     Watched::new(Pieces::new(bytes, most, fails))
 }
 
-/// Adds what bytes read as to a text: the format, the base and the records. Gives their end.
+/// Appends to a text what bytes read as: the format, the base and the records. Returns how they
+/// end.
 fn push_whole(rt: &(impl Alloc<A = Global> + Abort), text: &mut Vec<u8>, bytes: &[u8]) -> End {
     let read = decode(rt.alloc(), bytes).expect(rt, "memory");
     text.push(read.format).ok().expect(rt, "memory");
@@ -27,7 +29,8 @@ fn push_whole(rt: &(impl Alloc<A = Global> + Abort), text: &mut Vec<u8>, bytes: 
     read.end
 }
 
-/// Adds the front of what a source gives to a text: the format, the base and the first records. Gives the end where it is known.
+/// Appends the front of a source to a text: the format, the base and the first records. Returns the
+/// end if it is known.
 fn push_front(
     rt: &(impl Alloc<A = Global> + Abort),
     text: &mut Vec<u8>,
@@ -43,7 +46,7 @@ fn push_front(
     front.piece.end
 }
 
-/// Adds the records of the next piece to a text. Gives the end where it is known.
+/// Appends the records of the next piece to a text. Returns the end if it is known.
 fn push_piece(
     rt: &(impl Alloc<A = Global> + Abort),
     text: &mut Vec<u8>,
@@ -55,7 +58,7 @@ fn push_piece(
     piece.end
 }
 
-/// Adds the same as `push_whole`, of bytes in pieces.
+/// Appends the same as `push_whole`, from bytes in pieces.
 fn push_pieces(
     rt: &(impl Alloc<A = Global> + Abort),
     text: &mut Vec<u8>,
@@ -73,7 +76,7 @@ fn push_pieces(
     end.expect(rt, "an end")
 }
 
-/// Checks that bytes read in pieces of at most so many as they do whole.
+/// Checks that bytes in pieces of at most `most` bytes read as they do whole.
 fn is_read_alike(rt: &(impl Alloc<A = Global> + Abort), bytes: &[u8], most: usize) {
     let mut wanted = Vec::new(rt.alloc());
     let whole = push_whole(rt, &mut wanted, bytes);
@@ -82,27 +85,28 @@ fn is_read_alike(rt: &(impl Alloc<A = Global> + Abort), bytes: &[u8], most: usiz
     expect_at(rt, end == whole && found == wanted, most);
 }
 
-/// A table in words: its position, its names, the bytes of its sink, and how the journal ended that it was made from.
+/// Returns a table in words: its position, its names, the bytes of its sink, and the end of the
+/// journal that it was made from.
 fn words_of(alloc: Global, table: &Table<MemorySink>, end: End) -> Result<String, AllocError> {
     let (position, names) = (table.position(), table.names());
     let bytes = table.sink().bytes();
     format!(in alloc; "{position} {names} {end:?} {bytes:?}")
 }
 
-/// A sink that takes 50 bytes a call, and 100 calls.
+/// Returns a sink that takes 50 bytes a call, and 100 calls.
 fn sink(alloc: Global) -> MemorySink
     ensures { (result.has_failed ≡ false) × (result.bytes ≡ []) }
 {
     MemorySink::new(alloc, 50, 100)
 }
 
-/// The table that the one is rebased to that bytes open as, and how they end.
+/// Opens a table from bytes and rebases it. Returns the rebased table, and how the bytes end.
 fn opened_and_rebased(alloc: Global, bytes: &[u8]) -> Result<(Table<MemorySink>, End), OpenFault> {
     let (table, end) = Table::open(alloc, bytes, sink(alloc))?;
     Ok((table.rebase(sink(alloc))?, end))
 }
 
-/// The same in words, or the fault.
+/// Returns the same in words, or the fault.
 fn rebased_whole(alloc: Global, bytes: &[u8]) -> Result<String, AllocError> {
     match opened_and_rebased(alloc, bytes) {
         Ok((table, end)) => words_of(alloc, &table, end),
@@ -110,7 +114,7 @@ fn rebased_whole(alloc: Global, bytes: &[u8]) -> Result<String, AllocError> {
     }
 }
 
-/// The same of bytes in pieces.
+/// Returns the same for bytes in pieces.
 fn rebased_pieces(
     alloc: Global,
     bytes: &[u8],
@@ -124,7 +128,7 @@ fn rebased_pieces(
     }
 }
 
-/// Checks bytes, whole and in pieces of at most so many.
+/// Checks bytes, whole and in pieces of at most `most` bytes.
 fn is_same(rt: &(impl Alloc<A = Global> + Abort), bytes: &[u8], most: usize) {
     is_read_alike(rt, bytes, most);
     let wanted = rebased_whole(rt.alloc(), bytes).expect(rt, "memory");
@@ -132,7 +136,8 @@ fn is_same(rt: &(impl Alloc<A = Global> + Abort), bytes: &[u8], most: usize) {
     expect_words(rt, found, wanted.as_str());
 }
 
-/// Checks the first bytes of a text, of each sixth count, in pieces of other sizes each time.
+/// Checks prefixes of a text, with a length of every sixth number, in pieces of a different size
+/// each time.
 fn are_same(rt: &(impl Alloc<A = Global> + Abort), bytes: &[u8]) {
     for i in 0..bytes.len() / 6 + 1 {
         is_same(rt, &bytes[..i * 6], 1 + i * 11 % 64);
@@ -148,7 +153,7 @@ fn first_bytes_in_pieces_are_what_they_are_whole(rt: HostRuntime) {
     }
 }
 
-/// Checks a text of which one bit is another, at each sixth place.
+/// Checks a text with one bit changed, at every sixth place.
 fn are_damaged_alike(rt: &(impl Alloc<A = Global> + Abort), bytes: &mut [u8]) {
     for i in 0..bytes.len() / 6 {
         bytes[i * 6] ^= 1;
@@ -174,7 +179,7 @@ fn a_source_that_fails_is_told(rt: HostRuntime) {
     }
 }
 
-/// Checks that a front has so many entries, and that its end isn't known yet.
+/// Checks that a front has this number of entries, and that its end isn't known yet.
 fn has_only_entries(
     rt: &(impl Alloc<A = Global> + Abort),
     buffer: &mut Buffer,
@@ -188,7 +193,7 @@ fn has_only_entries(
     expect_that(rt, front.piece.end.is_none(), "the end isn't known yet");
 }
 
-/// Checks that both entries of a text are taken before more is read, where the source fails.
+/// Checks that both entries of a text are returned before a read from a source that fails then.
 fn is_taken_first(rt: &(impl Alloc<A = Global> + Abort), bytes: &[u8]) {
     let mut source = source_of(bytes, 1_000, true);
     let mut buffer = Buffer::new(rt.alloc()).expect(rt, "memory");

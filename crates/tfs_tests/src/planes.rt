@@ -32,7 +32,7 @@ fn nine_words_that_differ_in_one_are_not_equal(rt: HostRuntime) {
     assert!(rt; !equal_words(&words, &[6, 7, 7, 7, 7, 7, 7, 7, 7]));
 }
 
-/// Makes a number a member that is below the size.
+/// Adds a number to a row if it is below the size.
 fn set(row: &mut Row, i: usize)
     ensures { row.new.size ≡ row.old.size }
 {
@@ -41,7 +41,7 @@ fn set(row: &mut Row, i: usize)
     }
 }
 
-/// A row of this size with the members of a list.
+/// Returns a row of this size with the members of a list.
 fn row_of(alloc: Global, size: usize, members: &[usize]) -> Result<Row, AllocError>
     requires { size ≤ 4096 }
     ensures { IfOk result (λ row. row.size ≡ size) }
@@ -72,7 +72,7 @@ fn a_row_is_a_set_of_numbers(rt: HostRuntime) {
     expect_members(&rt, &row, &[]);
 }
 
-/// Looks at the next members of the row with 0, 1, 63, 64, 130 and 199.
+/// Checks the next members of the row with 0, 1, 63, 64, 130 and 199.
 fn expect_next(rt: &impl Abort, row: &Row) {
     for (from, member) in [
         (0, 0),
@@ -87,7 +87,7 @@ fn expect_next(rt: &impl Abort, row: &Row) {
     }
 }
 
-/// Looks at numbers of at least 200, from which the row has no member.
+/// Checks that the row has no member from numbers of at least 200 on.
 fn expect_no_next(rt: &impl Abort, row: &Row) {
     for from in [200, 511, 512, 4096, usize::MAX] {
         assert!(rt; row.next_member(from) == None);
@@ -101,7 +101,7 @@ fn the_next_member_is_the_first_from_a_number_on(rt: HostRuntime) {
     expect_no_next(&rt, &row);
 }
 
-/// Relates two numbers that are below the size.
+/// Relates two numbers if they are below the size.
 fn relate(plane: &mut Plane, i: usize, j: usize)
     ensures { plane.new.size ≡ plane.old.size }
 {
@@ -110,7 +110,7 @@ fn relate(plane: &mut Plane, i: usize, j: usize)
     }
 }
 
-/// The plane of a list of pairs.
+/// Returns the plane of a list of pairs.
 fn plane_of(alloc: Global, size: usize, pairs: &[(usize, usize)]) -> Result<Plane, AllocError>
     requires { size ≤ 4096 }
     ensures { IfOk result (λ plane. plane.size ≡ size) }

@@ -2,7 +2,8 @@
 
 use std::io;
 
-/// Gives its bytes in reads of at most so many, and then tells its end, or fails. It counts the reads, and keeps whether it told its end.
+/// A reader that gives its bytes in reads of at most `most`, and then reports its end, or fails. It
+/// counts the reads, and records whether it reported its end.
 #[derive(Drop)]
 pub(crate) struct Pieces<'i> {
     rest: &'i [u8],
@@ -13,7 +14,7 @@ pub(crate) struct Pieces<'i> {
 }
 
 impl<'i> Pieces<'i> {
-    /// Nothing was read of these bytes.
+    /// Returns a reader of these bytes before its first read.
     pub(crate) fn new(rest: &'i [u8], most: usize, fails: bool) -> Pieces<'i> {
         Pieces {
             rest,

@@ -37,7 +37,7 @@ fn a_table_without_a_listener_comes_back(rt: HostRuntime) -> Result<(), Fail> {
     Ok(())
 }
 
-/// There is no listener, for this reason, and the table has its entry.
+/// Checks that the run had no listener, for this reason, and that the table has its entry.
 fn is_unserved(rt: &impl Abort, unserved: Option<Unserved<Discard, u8>>) {
     let unserved = unserved.expect(rt, "no run");
     assert!(rt; matches!(unserved.why, Obstacle::NoListener(7)) && unserved.table.len() == 1);

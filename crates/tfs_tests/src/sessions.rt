@@ -1,4 +1,5 @@
-//! What sessions of a shared table are answered. No call is refused: no copy is behind or has lost its version.
+//! Answers to the sessions of a shared table. No call is refused with NoCopy: no snapshot is
+//! outdated or has lost its version.
 
 use crate::drafts::{chain_of, circle, name_of, push_of, query_of};
 use std::alloc::Global;
@@ -8,7 +9,7 @@ use tfs_calls::Kind;
 use tfs_records::Sink;
 use tfs_shared::{Naming, Session, Shared};
 
-/// The position of a push of the chain with a serial, where it is accepted.
+/// Returns the position of a push of the chain with this serial, which must be accepted.
 fn push<J: Naming, K: Sink, R: Wait + Abort + Alloc<A = Global>>(
     rt: &R,
     shared: &Shared<J, K>,
@@ -19,7 +20,7 @@ fn push<J: Naming, K: Sink, R: Wait + Abort + Alloc<A = Global>>(
     session.submit(rt, shared, name_of(rt), draft).ok()
 }
 
-/// The serial of the state that is read under the lock, which is the chain.
+/// Returns the serial of the state that is read under the lock, which must be the chain.
 pub(crate) fn read<J: Naming, K: Sink, R: Wait + Abort + Alloc<A = Global>>(
     rt: &R,
     shared: &Shared<J, K>,
@@ -32,7 +33,7 @@ pub(crate) fn read<J: Naming, K: Sink, R: Wait + Abort + Alloc<A = Global>>(
     state.serial()
 }
 
-/// The same by a published copy.
+/// Returns the same from a snapshot.
 pub(crate) fn read_published<J: Naming, R: Abort + Alloc<A = Global>>(
     rt: &R,
     session: &mut Session<J>,
@@ -44,8 +45,8 @@ pub(crate) fn read_published<J: Naming, R: Abort + Alloc<A = Global>>(
     state.serial()
 }
 
-/// The position of the answer to a query of a kind for what `t.a` reaches, which is the other two, and the serial of the state that it is
-/// about.
+/// Returns the position of the answer to a query of a kind for what `t.a` reaches, and the serial
+/// of the queried state. The answer must be the other two instances.
 pub(crate) fn ask<J: Naming, K: Sink, R: Abort + Alloc<A = Global>>(
     rt: &R,
     shared: &Shared<J, K>,
@@ -60,7 +61,8 @@ pub(crate) fn ask<J: Naming, K: Sink, R: Abort + Alloc<A = Global>>(
     (answer.position, answer.version.doc().serial())
 }
 
-/// Each session makes each call once, one session after another: a push of the state that is there, a read and a query.
+/// Makes each call once in each session, one session after another: a push of the current state, a
+/// read and a query.
 pub(crate) fn turns<J: Naming, K: Sink, R: Wait + Abort + Alloc<A = Global>>(
     rt: &R,
     shared: &Shared<J, K>,
@@ -74,7 +76,8 @@ pub(crate) fn turns<J: Naming, K: Sink, R: Wait + Abort + Alloc<A = Global>>(
     }
 }
 
-/// The first session pushes the chain, and is refused an older state; both read the chain, and the first one asks.
+/// Checks that the first session pushes the chain and is refused an older state, that both read the
+/// chain, and that the first one's query is answered.
 pub(crate) fn refuses<J: Naming, K: Sink, R: Wait + Abort + Alloc<A = Global>>(
     rt: &R,
     shared: &Shared<J, K>,
@@ -88,7 +91,7 @@ pub(crate) fn refuses<J: Naming, K: Sink, R: Wait + Abort + Alloc<A = Global>>(
     assert!(rt; second.seen() == 1 && first.accepted() == 1 && second.accepted() == 0);
 }
 
-/// Whether a session is refused the circle for its serial.
+/// Checks that a session is refused the cycle for its serial.
 fn is_too_low<J: Naming, K: Sink, R: Wait + Abort + Alloc<A = Global>>(
     rt: &R,
     shared: &Shared<J, K>,
@@ -100,7 +103,7 @@ fn is_too_low<J: Naming, K: Sink, R: Wait + Abort + Alloc<A = Global>>(
     }
 }
 
-/// How many changes of sessions were accepted.
+/// Returns the number of accepted changes of sessions.
 pub(crate) fn accepted_by<J: Naming>(sessions: &[Session<J>]) -> u64 {
     let mut count = 0_u64;
     for session in sessions {

@@ -1,4 +1,5 @@
-//! Sessions of shared tables. None of their calls is refused without a cause, and all of them gather.
+//! Sessions of shared tables. None of their calls is refused without a cause, and all of them
+//! gather.
 
 ghost use Rattle.std.specs.Prelude.{◌≡◌, ◌≤◌, [], IfSome};
 
@@ -22,28 +23,31 @@ use tfs_records::{Discard, Sink};
 use tfs_shared::{Lack, Naming, Opened, Session, Shared, Strangers, Unshared, gather, share};
 use tfs_table::Table;
 
-/// What is done with the sessions of a shared table.
+/// What the sessions of a shared table do.
 #[derive(Clone, Copy)]
 pub(crate) enum Scene<'f> {
     /// Each session makes each call once, one session after another.
     Turns,
     /// The first session pushes, and is refused an older state; both read.
     Refuses,
-    /// The first session's change waits in the sink until the second one was answered.
+    /// The first session's change waits in the sink until the second session has its answers.
     Waits(&'f AtomicU64),
     /// Each session makes 100 forced unlocks.
     Unlocks,
     /// Each session pushes 100 serials.
     Pushes,
-    /// The first session pushes while the second one asks.
+    /// The first session pushes while the second one makes queries.
     Follows,
-    /// Each session is asked through a desk, and works for nobody, alone and as a worker of this listener.
+    /// Each session is asked through a desk, and works without clients, alone and as a worker of
+    /// this listener.
     Works(&'f TcpListener),
-    /// Each session works over one connection of this listener, and waits for the request of the other one.
+    /// Each session works over one connection of this listener, and waits for the request of the
+    /// other session.
     Meets(&'f TcpListener),
 }
 
-/// How many entries the table has that is gathered after a scene with so many sessions.
+/// Plays a scene with this number of sessions. Returns the number of entries of the table that is
+/// gathered then.
 pub(crate) fn played<
     K: Sink + Send + Drop,
     R: Threads + Wait + Clock + Abort + Alloc<A = Global> + Sync,
@@ -82,7 +86,8 @@ fn play<
     entries_of(rt, shared, sessions, position)
 }
 
-/// The shared table and its sessions, which don't give the table back where one of them is missing.
+/// Checks that the shared table and its sessions don't give the table back without one of the
+/// sessions, and returns them all.
 fn without_one<J: Naming, K: Sink + Drop, R: Wait + Abort>(
     rt: &R,
     shared: Shared<J, K>,
@@ -95,7 +100,7 @@ fn without_one<J: Naming, K: Sink + Drop, R: Wait + Abort>(
     }
 }
 
-/// The shared table and all of its sessions, of which the last one was missing.
+/// Returns the shared table and all of its sessions, after the last one was missing.
 fn whole<J: Naming, K: Sink>(
     rt: &impl Abort,
     strangers: Strangers<J, K>,
@@ -111,7 +116,7 @@ fn whole<J: Naming, K: Sink>(
     (shared, sessions)
 }
 
-/// How many entries the table has that is gathered, which is at a position.
+/// Gathers the table, checks that it has this position, and returns its number of entries.
 fn entries_of<J: Naming, K: Sink + Drop, R: Wait + Abort>(
     rt: &R,
     shared: Shared<J, K>,
@@ -136,7 +141,7 @@ fn entries_of<J: Naming, K: Sink + Drop, R: Wait + Abort>(
     }
 }
 
-/// The sessions that have played a scene.
+/// Returns the sessions after they have played a scene.
 fn acted<
     J: Naming + Send + Sync,
     K: Sink + Send,
@@ -157,7 +162,7 @@ fn acted<
     }
 }
 
-/// Plays a scene of sessions that don't work.
+/// Plays a scene whose sessions aren't workers.
 fn act<
     J: Naming + Send + Sync,
     K: Sink + Send,
@@ -176,7 +181,7 @@ fn act<
     }
 }
 
-/// A table over a sink that nothing went to, with a push of the chain with a serial to `a`.
+/// Returns a table over an unused sink, with a push of the chain with this serial to `a`.
 pub(crate) fn table_of<K: Sink + Drop>(
     rt: &(impl Alloc<A = Global> + Abort),
     sink: K,
@@ -191,7 +196,7 @@ pub(crate) fn table_of<K: Sink + Drop>(
     table
 }
 
-/// The table that goes on from it at position 1, with a base.
+/// Returns the table that continues it from position 1, with a base.
 fn later_table(rt: &(impl Alloc<A = Global> + Abort)) -> Table<Discard> {
     let table = table_of(rt, Discard, 1);
     table.rebase(Discard).ok().expect(rt, "a rebased table")
@@ -212,7 +217,7 @@ fn all_sessions_gather(rt: HostRuntime) -> Result<(), Fail> {
     Ok(())
 }
 
-/// A table without entries.
+/// Returns a table without entries.
 pub(crate) fn new_table(rt: &(impl Alloc<A = Global> + Abort)) -> Table<Discard> {
     Table::new(rt.alloc(), Discard).ok().expect(rt, "a table")
 }

@@ -1,4 +1,4 @@
-//! A stopped table goes on in a new journal.
+//! Stopped tables that continue in a new journal.
 
 use crate::drafts::{lock_of, name_of};
 use std::alloc::Global;
@@ -6,7 +6,7 @@ use tfs_journal::End;
 use tfs_records::{Discard, MemorySink};
 use tfs_table::Table;
 
-/// Whether bytes are opened as a whole journal of position 0.
+/// Returns true if bytes open as a complete journal at position 0.
 fn is_opened(alloc: Global, bytes: &[u8]) -> bool {
     match Table::open(alloc, bytes, Discard) {
         Ok((table, end)) => table.position() == 0 && end == End::Whole,
@@ -14,7 +14,7 @@ fn is_opened(alloc: Global, bytes: &[u8]) -> bool {
     }
 }
 
-/// Whether a table is rebased to position 0, and the new journal is opened.
+/// Returns true if a table is rebased to position 0, and the new journal opens.
 fn is_rebased(alloc: Global, table: &Table<MemorySink>) -> bool {
     match table.rebase(MemorySink::new(alloc, usize::MAX, 1)) {
         Ok(rebased) => is_opened(alloc, rebased.sink().bytes()),

@@ -1,5 +1,5 @@
-//! Public items under the names of the crates that offer them, also those that stand in a crate below. The other files, the program
-//! `tfs_probe` and the server call them.
+//! Public items by the names of the crates that offer them, including those defined in a lower
+//! crate. The other files, the program `tfs_probe` and the server call them.
 
 pub(crate) use tfs_addr::{AddrFault, Key, Mode, config_text, instance_text, strip};
 pub(crate) use tfs_http::{Form, Request, Routes, Take, call_of, take, write_reply};

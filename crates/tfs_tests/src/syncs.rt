@@ -7,14 +7,14 @@ use std::sync::atomic::{AtomicU64, Ordering};
 use tfs_durable::{Counted, Device, SyncFault, Tail};
 use tfs_records::{Out, Sink, SinkFault};
 
-/// How many bytes a file has, and how many of them are left after a cut.
+/// The number of bytes of a file, and the number of them that are left after a power cut.
 #[derive(Drop)]
 struct Disk {
     written: AtomicU64,
     left: AtomicU64,
 }
 
-/// Syncs a disk so often, and then fails.
+/// A device that syncs a disk this often, and then fails.
 #[derive(Drop)]
 struct Syncs<'d> {
     disk: &'d Disk,
@@ -41,7 +41,7 @@ impl<'d> Device for Syncs<'d> {
     }
 }
 
-/// Writes to a disk.
+/// A sink that writes to a disk.
 #[derive(Drop)]
 struct Writes<'d>(&'d Disk);
 
@@ -65,8 +65,8 @@ impl<'d> Tail<Syncs<'d>> for Writes<'d> {
     }
 }
 
-/// Makes so many appends over a disk whose device syncs so often, and waits for each third one: how many bytes were told as durable, and how
-/// many are left after a cut.
+/// Makes appends over a disk whose device syncs at most `syncs` times, and waits for every third
+/// one. Returns the number of bytes reported as durable, and the number left after a power cut.
 fn run(rt: &(impl Wait + Abort), alloc: Global, appends: u64, syncs: u64) -> (u64, u64) {
     let disk = Disk {
         written: AtomicU64::new(0),

@@ -1,4 +1,5 @@
-//! Three threads that write and wait for a sync, in every order of their steps, over a device whose syncs end on command.
+//! Three threads that write and wait for a sync, in every order of their steps, over a device whose
+//! syncs end on command.
 
 use crate::orders::ORDERS;
 use std::alloc::Global;
@@ -10,7 +11,8 @@ use std::time::{Clock, Duration};
 use tfs_durable::{Counted, Device, Durable, SyncFault, Tail};
 use tfs_records::{Sink, SinkFault};
 
-/// The outcome of a thread's steps so far: nothing, its byte is written, it waits, the byte is durable, the sync has failed.
+/// The outcome of a thread's steps so far: nothing, its byte is written, it waits, the byte is
+/// durable, the sync has failed.
 const OUTCOMES: [&str; 5] = [".", "=", "~", "+", "-"];
 
 const WRITTEN: u64 = 1;
@@ -29,7 +31,7 @@ struct Actor {
 }
 
 impl Actor {
-    /// It may take no step.
+    /// Returns an actor that may take no step.
     fn new() -> Actor {
         Actor {
             allowed: AtomicU64::new(0),
@@ -37,15 +39,16 @@ impl Actor {
         }
     }
 
-    /// The sign of the outcome.
+    /// Returns the sign of the outcome.
     fn sign(&self) -> &'static str {
         let outcome = self.outcome.load(Ordering::SeqCst) as usize;
         OUTCOMES.get(outcome).copied().unwrap_or("?")
     }
 }
 
-/// What three threads and their device share: how many bytes are written, how many of them a cut leaves, how many syncs have begun, how many
-/// may end, the number of the sync that fails, and a count of bytes that weren't written when a sync was asked for them.
+/// The state that three threads and their device share: how many bytes are written, how many of
+/// them a power cut leaves, how many syncs have begun, how many may end, the number of the sync
+/// that fails, and a count of bytes that weren't written when a sync was requested for them.
 #[derive(Drop)]
 struct Stage {
     first: Actor,
@@ -60,7 +63,7 @@ struct Stage {
 }
 
 impl Stage {
-    /// Nothing has happened.
+    /// Returns a stage on which nothing has happened.
     fn new() -> Stage {
         Stage {
             first: Actor::new(),
@@ -75,7 +78,7 @@ impl Stage {
         }
     }
 
-    /// The outcome of each thread's steps, and the number of syncs that have begun.
+    /// Returns the outcome of each thread's steps, and the number of syncs that have begun.
     fn shown(&self, rt: &(impl Alloc<A = Global> + Abort)) -> String {
         let (first, second, third) = (self.first.sign(), self.second.sign(), self.third.sign());
         let begun = self.begun.load(Ordering::SeqCst);
@@ -83,7 +86,8 @@ impl Stage {
         shown.expect(rt, "memory")
     }
 
-    /// Allows a step: of a thread by its number, or the end of the sync that has begun, which succeeds or fails.
+    /// Allows a step: the next one of a thread by its number, or the end of the sync that has
+    /// begun, with success or failure.
     fn allow(&self, step: &str) {
         match step {
             "0" => allow_more(&self.first.allowed),
@@ -104,12 +108,12 @@ fn allow_more(count: &AtomicU64) {
     count.fetch_add(1, Ordering::SeqCst);
 }
 
-/// A moment in which other threads go on.
+/// Pauses for a moment, in which other threads continue.
 fn pause(rt: &impl Clock) {
     thread::sleep(rt, Duration::from_micros(50));
 }
 
-/// Waits until a count has reached a number; whether it has in 400,000 moments.
+/// Waits until a count has reached a number. Returns false if it hasn't after 400,000 moments.
 fn reaches(rt: &impl Clock, count: &AtomicU64, least: u64) -> bool {
     for _turn in 0..400_000 {
         if least <= count.load(Ordering::SeqCst) {
@@ -120,7 +124,7 @@ fn reaches(rt: &impl Clock, count: &AtomicU64, least: u64) -> bool {
     false
 }
 
-/// Syncs what was written before the call, once it may.
+/// A device that syncs what was written before the call, once it may.
 #[derive(Drop)]
 struct Told<'s> {
     rt: &'s HostRuntime,
@@ -152,7 +156,7 @@ impl<'s> Device for Told<'s> {
     }
 }
 
-/// Counts the bytes that are written.
+/// A sink that counts the bytes written to it.
 #[derive(Drop)]
 struct Writes<'s>(&'s Stage);
 
@@ -185,7 +189,7 @@ struct Scene<'s> {
     durable: Arc<Durable<Told<'s>>>,
 }
 
-/// A scene on which nothing is written.
+/// Returns a scene on which nothing is written.
 fn scene_of<'s>(abort: &impl Abort, rt: &'s HostRuntime, stage: &'s Stage) -> Scene<'s> {
     let device = Told {
         rt,
@@ -210,7 +214,8 @@ impl<'s> Scene<'s> {
         self.stage.written.load(Ordering::SeqCst)
     }
 
-    /// Takes the two steps of a thread: it writes a byte, and waits until that is durable. Then a cut leaves it.
+    /// Takes the two steps of a thread: writes a byte, and waits until it is durable. Then checks
+    /// that a power cut leaves the byte.
     fn act(&self, rt: &(impl Wait + Clock + Abort), actor: &Actor) {
         assert!(rt; reaches(rt, &actor.allowed, 1));
         let own = self.write(rt);
@@ -228,7 +233,7 @@ impl<'s> Scene<'s> {
         actor.outcome.store(outcome, Ordering::SeqCst);
     }
 
-    /// Allows one step after another, and waits until what is wanted after it is seen.
+    /// Allows one step after another, and waits for the expected outcome of each.
     fn direct(&self, rt: &(impl Clock + Abort + Alloc<A = Global>), line: &str) {
         for word in line.split(' ') {
             let (step, wanted) = word.split_once(':').expect(rt, "a step");
@@ -237,7 +242,8 @@ impl<'s> Scene<'s> {
         }
     }
 
-    /// Waits until this is seen, and then for a moment, in which a thread that has to wait begins to.
+    /// Waits until this is shown, and then for a moment, in which a thread that must wait begins
+    /// to.
     fn wait_until(&self, rt: &(impl Clock + Abort + Alloc<A = Global>), wanted: &str, line: &str) {
         for _turn in 0..100_000 {
             if self.stage.shown(rt).as_str() == wanted {
@@ -266,7 +272,8 @@ impl<'s> Scene<'s> {
     }
 }
 
-/// After all steps the same is seen as after the last one, and no sync was asked for bytes that weren't written.
+/// Checks that the end shows the same as the last step, and that no sync was requested for bytes
+/// that weren't written.
 fn expect_end(rt: &(impl Abort + Alloc<A = Global>), stage: &Stage, line: &str) {
     let (_, wanted) = line.rsplit_once(':').expect(rt, "a step");
     assert!(rt; stage.shown(rt).as_str() == wanted, "{line}");

@@ -1,4 +1,4 @@
-//! What a session is answered while another one's change is inside the sink.
+//! Answers to a session while another session's change is inside the sink.
 
 use crate::drafts::{lock_of, name_of};
 use crate::sessions::{ask, read, read_published};
@@ -15,7 +15,8 @@ use tfs_calls::Kind;
 use tfs_records::{Sink, SinkFault};
 use tfs_shared::{Naming, Session, Shared};
 
-/// What the flag says: nothing is to be waited for; the next piece is; the sink is inside; it may go on; it has waited too long.
+/// The values of the flag: there is nothing to wait for; the next piece waits; the sink is inside;
+/// it may continue; it has waited too long.
 const IDLE: u64 = 0;
 
 const ARMED: u64 = 1;
@@ -51,7 +52,8 @@ impl<'f, R: Clock> Sink for Waiting<'f, R> {
     }
 }
 
-/// Waits until the flag has a value; whether it has it after 10,000 turns of a millisecond.
+/// Waits until the flag has a value. Returns false if it hasn't after 10,000 turns of a
+/// millisecond.
 fn wait_for(rt: &impl Clock, flag: &AtomicU64, value: u64) -> bool {
     for _turn in 0..10_000 {
         if flag.load(Ordering::SeqCst) == value {
@@ -75,7 +77,7 @@ fn a_query_is_answered_while_the_sink_waits(rt: HostRuntime) -> Result<(), Fail>
     Ok(())
 }
 
-/// The first session's lock waits in the sink until the second one was answered.
+/// Has the first session's lock wait in the sink until the second session has its answers.
 pub(crate) fn ask_meanwhile<
     J: Naming + Send + Sync,
     K: Sink + Send,
@@ -96,7 +98,7 @@ pub(crate) fn ask_meanwhile<
     );
 }
 
-/// The first session's lock, which is the second change.
+/// Makes the first session's lock, which is the second change.
 fn change<J: Naming, K: Sink, R: Wait + Abort + Alloc<A = Global>>(
     rt: &R,
     shared: &Shared<J, K>,
@@ -106,8 +108,8 @@ fn change<J: Naming, K: Sink, R: Wait + Abort + Alloc<A = Global>>(
     assert!(rt; locked.ok() == Some(2));
 }
 
-/// The second session's query and its read of a copy, which are answered while the sink waits; then it lets that go on. A read sees the
-/// change, and so does the next query.
+/// Checks that the second session's query and its read of a snapshot are answered while the sink
+/// waits, and then lets the sink continue. A read sees the change, and so does the next query.
 fn answer<J: Naming, K: Sink, R: Wait + Clock + Abort + Alloc<A = Global>>(
     rt: &R,
     shared: &Shared<J, K>,

@@ -1,4 +1,4 @@
-//! Workers of a shared table, over connections on the loopback.
+//! Workers of a shared table, over connections on the loopback interface.
 
 use crate::connections::{asking, is_answered, listener_of};
 use crate::shared::{Scene, played, table_of};
@@ -23,7 +23,7 @@ const REPLY: &str =
     "HTTP/1.1 200 OK\r\nConnection: close\r\nContent-Type: application/json\r\nContent-Length: 51\r\n\r\n\
     {\"instances\":[\"t.b\",\"t.c\"],\"position\":1,\"serial\":2}";
 
-/// A gate that admits one connection, and holds its request until a request has come to two gates.
+/// A gate that admits one connection, and holds its request until two gates have a request.
 #[derive(Drop)]
 struct Meeting<'m, R: Clock> {
     rt: &'m R,
@@ -33,7 +33,7 @@ struct Meeting<'m, R: Clock> {
 }
 
 impl<'m, R: Clock> Meeting<'m, R> {
-    /// A gate that nobody has come to.
+    /// Returns a gate without a request.
     fn new(rt: &'m R, come: &'m AtomicU64) -> Meeting<'m, R> {
         Meeting {
             rt,
@@ -81,7 +81,7 @@ fn two_workers_hold_their_requests_at_once(rt: HostRuntime) -> Result<(), Fail> 
     Ok(())
 }
 
-/// Each session works over one connection, and holds its request until the other one has come.
+/// Has each session work over one connection, and hold its request until the other session has one.
 pub(crate) fn meet<
     J: Naming + Send + Sync,
     K: Sink + Send,
@@ -101,7 +101,7 @@ pub(crate) fn meet<
     rested(rt, workers)
 }
 
-/// A worker for each session, with a gate.
+/// Returns a worker for each session, with a gate.
 fn workers_of<'m, J: Naming, R: Clock + Abort + Alloc<A = Global>>(
     rt: &'m R,
     come: &'m AtomicU64,
@@ -119,7 +119,7 @@ fn workers_of<'m, J: Naming, R: Clock + Abort + Alloc<A = Global>>(
     workers
 }
 
-/// The sessions of workers whose listener gave connections.
+/// Returns the sessions of workers whose listener gave connections.
 pub(crate) fn rested<J: Naming, G: Gate + Drop>(
     rt: &(impl Alloc<A = Global> + Abort),
     workers: Vec<Worker<J, G>>,

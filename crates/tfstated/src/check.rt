@@ -1,4 +1,4 @@
-//! The command `check`: the records of the journal in a file, and its end.
+//! The command `check`: lists the records of a journal file, and reports how it ends.
 
 use crate::fault::{end_with, end_without_file};
 use std::process::ExitCode;
@@ -6,7 +6,7 @@ use std::{fs, io};
 use tfs_conversation::{Watched, run_check};
 use tfs_ends::Fault;
 
-/// Prints what the journal in a file lists, and how it ends. Gives the program's status.
+/// Prints what the journal in a file lists, and how it ends. Returns the program's exit status.
 pub(crate) fn run(rt: &HostRuntime, file: &str) -> ExitCode {
     let bytes = match fs::read(rt, file) {
         Ok(bytes) => bytes,

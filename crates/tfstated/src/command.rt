@@ -8,23 +8,24 @@ use std::rt::Env;
 const USAGE: &str =
     "usage: tfstated stdio | check FILE | rebase OLD NEW | serve ADDR WORKERS NEW [OLD]";
 
-/// The most workers of `serve`.
+/// The maximum number of workers of `serve`.
 const MAX_WORKERS: usize = 16;
 
-/// What the arguments ask for.
+/// A command with its arguments.
 #[derive(Drop)]
 pub(crate) enum Command {
     /// A conversation over standard input and output.
     Stdio,
     /// The records of the journal in a file, and its end.
     Check(String),
-    /// A journal that goes on where that of the first file ends, in the second.
+    /// A journal in the second file that continues the one in the first.
     Rebase(String, String),
     /// Workers that answer connections.
     Serve(Serving),
 }
 
-/// What `serve` is asked for: the address to listen at, the number of workers, from 1 to 16, the new journal's file, and the old one's.
+/// The arguments of `serve`: the address to listen on, the number of workers, from 1 to 16, the
+/// file of the new journal, and that of the old one, if any.
 #[derive(Drop)]
 pub(crate) struct Serving {
     pub(crate) address: String,
@@ -35,7 +36,7 @@ pub(crate) struct Serving {
     ghost few: { workers ≤ 16 },
 }
 
-/// The command of the arguments; none where they are no command's, aren't UTF-8, or can't be had.
+/// Returns the command of the arguments; none if they are invalid, aren't UTF-8, or can't be read.
 pub(crate) fn read(rt: &(impl AllocGlobal + Env)) -> Option<Command> {
     let Ok(mut words) = env::args(rt) else {
         return None;
@@ -59,7 +60,7 @@ pub(crate) fn read(rt: &(impl AllocGlobal + Env)) -> Option<Command> {
     }
 }
 
-/// The command `serve` with these arguments; none where the number is none of workers.
+/// Returns the command `serve` with these arguments; none if the number of workers is invalid.
 fn serve_with(address: String, number: &str, new: String, old: Option<String>) -> Option<Command> {
     let workers = workers_in(number)?;
     Some(Command::Serve(Serving {
@@ -70,7 +71,7 @@ fn serve_with(address: String, number: &str, new: String, old: Option<String>) -
     }))
 }
 
-/// The number of workers that a text tells: decimal, without leading zeros or a sign, from 1 to 16.
+/// Returns the number of workers in a text: decimal, without leading zeros or a sign, from 1 to 16.
 fn workers_in(text: &str) -> Option<usize>
     ensures { IfSome result (λ workers. (1 ≤ workers) × (workers ≤ 16)) }
 {
@@ -89,7 +90,8 @@ fn workers_in(text: &str) -> Option<usize>
     }
 }
 
-/// Tells the commands on standard error. Where that can't be written, nothing else can be told.
+/// Prints the commands on standard error. A failure to write is ignored, because there is nowhere
+/// left to report it.
 pub(crate) fn print_usage(rt: &impl Eprint) {
     let _ = rt.eprintln(USAGE);
 }

@@ -1,17 +1,18 @@
-//! How a fault ends the program: what is told of it on standard error, and the status.
+//! The end of the program by a fault: the report on standard error, and the exit status.
 
 use std::io;
 use std::process::ExitCode;
 use tfs_conversation::RunFault;
 use tfs_ends::{Fault, fault_status};
 
-/// Ends by a fault, whose name is told on standard error. Where that can't be written, nothing else can be told.
+/// Reports a fault by its name on standard error, and returns the status of a failure. A failure to
+/// write is ignored, because there is nowhere left to report it.
 pub(crate) fn end_by(rt: &impl Eprint, fault: Fault) -> ExitCode {
     let _ = eprintln!(rt; "tfstated: {fault}");
     ExitCode::FAILURE
 }
 
-/// Ends because a file can't be had, by this fault, or because there is no memory for it.
+/// Ends because a file can't be read or created: by this fault, or by NoMemory if memory ran out.
 pub(crate) fn end_without_file(rt: &impl Eprint, fault: Fault, error: &io::Error) -> ExitCode {
     match error.kind() {
         io::ErrorKind::OutOfMemory => end_by(rt, Fault::NoMemory),

@@ -1,5 +1,6 @@
-//! The program `tfstated`: a server for the state of Terraform. Its commands are `serve`, workers over a listener, `stdio`, a
-//! conversation over standard input and output, and `check` and `rebase`, which read a journal's file.
+//! The program `tfstated`: a server for Terraform's state. Its commands are `serve`, workers over a
+//! listener, `stdio`, a conversation over standard input and output, and `check` and `rebase`,
+//! which read a journal file.
 #![tactic(auto)]
 
 use crate::command::Command;

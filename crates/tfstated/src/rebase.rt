@@ -1,4 +1,4 @@
-//! The command `rebase`: a journal that goes on where that of a file ends, in a new file.
+//! The command `rebase`: writes a journal to a new file that continues the one in an old file.
 
 use crate::fault::{end_with, end_without_file};
 use std::process::ExitCode;
@@ -7,7 +7,8 @@ use tfs_conversation::{Watched, run_rebase};
 use tfs_ends::Fault;
 use tfs_records::FileSink;
 
-/// Reads the old file, makes the new one, and writes the journal that goes on from the old one's. Gives the program's status.
+/// Reads the old file, creates the new one, and writes the journal that continues the old one.
+/// Returns the program's exit status.
 pub(crate) fn run(rt: &HostRuntime, old: &str, new: &str) -> ExitCode {
     let bytes = match fs::read(rt, old) {
         Ok(bytes) => bytes,

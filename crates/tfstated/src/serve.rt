@@ -1,4 +1,4 @@
-//! The command `serve`: workers that answer connections, and the file of a journal.
+//! The command `serve`: workers that answer connections, over a journal file.
 
 ghost use Rattle.std.specs.Prelude.{◌≡◌, ◌≤◌, false, length, IfOk};
 
@@ -18,8 +18,8 @@ use tfs_records::FileSink;
 use tfs_serve::{Obstacle, Open, let_wait, serve};
 use tfs_table::{OpenFault, Table};
 
-/// Reads the old journal, if there is one, makes the new file, goes on from the old journal in it, and has workers answer connections.
-/// It ends by its first fault. Gives the program's status.
+/// Reads the old journal, if there is one, creates the new file, continues the old journal in it,
+/// and has workers answer connections. Ends by the first fault. Returns the program's exit status.
 pub(crate) fn run<
     R: AllocGlobal
         + Files<File = File>
@@ -46,7 +46,7 @@ pub(crate) fn run<
     end_by(rt, fault)
 }
 
-/// The table over the new file.
+/// Returns the table over the new file.
 fn table_of<R: AllocGlobal + Files<File = File> + Eprint>(
     rt: &R,
     asked: &Serving,
@@ -62,7 +62,7 @@ fn table_of<R: AllocGlobal + Files<File = File> + Eprint>(
     }
 }
 
-/// The bytes of the old journal, where one is named.
+/// Returns the bytes of the old journal, if one is named.
 fn old_journal<R: AllocGlobal + Files<File = File> + Eprint>(
     rt: &R,
     asked: &Serving,
@@ -76,7 +76,7 @@ fn old_journal<R: AllocGlobal + Files<File = File> + Eprint>(
     }
 }
 
-/// The table that goes on from the old journal, or a new one, over a sink.
+/// Returns the table that continues the old journal over a sink, or a new table.
 fn opened(
     rt: &impl AllocGlobal,
     old: Option<Vec<u8>>,
@@ -93,7 +93,7 @@ fn opened(
     }
 }
 
-/// A gate for each worker, which admits every connection.
+/// Returns a gate for each worker, which admits every connection.
 fn gates_of(rt: &impl AllocGlobal, number: usize) -> Result<Vec<Open>, AllocError>
     ensures as_many { IfOk result (λ gates. length gates.items ≡ number) }
 {
@@ -104,7 +104,7 @@ fn gates_of(rt: &impl AllocGlobal, number: usize) -> Result<Vec<Open>, AllocErro
     Ok(gates)
 }
 
-/// Listens, and says so.
+/// Listens on an address, and reports it on standard output.
 fn listen<R: Net<Stream = TcpStream, Listener = TcpListener> + Print>(
     rt: &R,
     address: &str,
@@ -119,14 +119,15 @@ fn listen<R: Net<Stream = TcpStream, Listener = TcpListener> + Print>(
     }
 }
 
-/// Tells where it listens.
+/// Prints the address that the program listens on.
 fn tell(rt: &impl Print, address: &str) -> io::Result<()> {
     let mut writer = io::writer(rt);
     write!(writer, "listening {address}\n")?;
     writer.flush()
 }
 
-/// What ends a run, as the program tells it. A run that may lack what a worker had seen has ended with its workers.
+/// Returns the fault that the program reports for the end of a run. NoCopy, after which the journal
+/// may lack what a worker had seen, is reported as AcceptFault: the workers have ended.
 fn fault_of(why: Obstacle<Fault>) -> Fault {
     match why {
         Obstacle::NoMemory => Fault::NoMemory,

@@ -8,12 +8,13 @@ use tfs_ends::{Fault, status_of};
 use tfs_records::Discard;
 use tfs_table::Table;
 
-/// Answers standard input on standard output from a new table, whose journal is discarded. Gives the program's status.
+/// Answers standard input on standard output over a new table, whose journal is discarded. Returns
+/// the program's exit status.
 pub(crate) fn run(rt: &(impl AllocGlobal + Input + Print + Eprint)) -> ExitCode {
     let alloc = rt.alloc();
     let mut reader = Watched::new(rt.reader());
     let mut writer = Watched::new(io::writer(rt));
-    // A discarded journal has no fault of its sink.
+    // A sink that discards the journal never fails.
     let Ok(mut table) = Table::new(alloc, Discard) else {
         return end_by(rt, Fault::NoMemory);
     };
