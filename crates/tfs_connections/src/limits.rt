@@ -71,8 +71,8 @@ pub(crate) fn reply_limit(bytes: u64) -> Duration
     Duration::from_secs(MAX_REPLY_SECONDS + bytes / REPLY_BYTES_A_SECOND)
 }
 
-/// Returns how long a request or a reply of which `bytes` bytes were transferred may take before it
-/// is slow.
+/// Returns how long a request or a reply may take before it is slow, if `bytes` bytes of it were
+/// transferred.
 pub(crate) fn slow_limit(bytes: u64) -> Duration
     ensures value { as_nanos result ≡ (2 + bytes / 50_000) * 1_000_000_000 }
 {
