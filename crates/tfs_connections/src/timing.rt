@@ -16,13 +16,14 @@ enum Stage {
     Fresh,
     /// A request is being read: when its first byte came, and how many bytes have come.
     Request(Duration, u64),
-    /// Replies are being written: when the first byte was written, and how many bytes were. After
-    /// them the connection waits for the next request.
+    /// Replies are being written: when the first one was begun, and how many bytes were written.
+    /// After them the connection waits for the next request.
     Replies(Duration, u64),
 }
 
 /// The times of one connection, shared by its reading and its writing end.
-/// It records the stage; since when replies have waited for the client, and how many bytes were
+///
+/// They are: the stage; since when replies have waited for the client, and how many bytes were
 /// written by then, which the system's buffers took; whether the client counts as slow; whether
 /// conversations are to end, and when that was first seen; and whether nothing more is to be
 /// written. If the clock fails, no time passes.
@@ -66,8 +67,8 @@ impl<'r, 'e, R: Clock> Timing<'r, 'e, R> {
         }
     }
 
-    /// Returns true if nothing more is to be read: a request takes too long, or conversations are
-    /// to end and there would be a next request.
+    /// Returns true if nothing more is to be read: a request takes too long, its slow client is
+    /// dropped in favour of others, or conversations are to end and the next request would be read.
     pub(crate) fn ends_reading(&self) -> bool {
         match self.stage.get() {
             Stage::Fresh => false,
@@ -93,8 +94,9 @@ impl<'r, 'e, R: Clock> Timing<'r, 'e, R> {
         }
     }
 
-    /// Returns true if nothing more is to be written: to any client, or because replies with `rest`
-    /// bytes still to come take too long.
+    /// Returns true if nothing more is to be written: to any client, or of replies with `rest`
+    /// bytes left to write, because they take too long or their slow client is dropped in favour of
+    /// others.
     pub(crate) fn ends_writing(&self, rest: usize) -> bool {
         if self.muted.load(Ordering::SeqCst) {
             return true;

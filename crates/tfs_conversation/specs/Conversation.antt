@@ -116,9 +116,9 @@ IsLastReply c text =
     ((refusal : Refusal) × (c.refusal ≡ Some refusal) × (text ≡ refusal_text (Some refusal)))
     ⊎ ((before : List Exchange) × (x : Exchange) × (c.exchanges ≡ before ++ x ∷ []) × (c.refusal ≡ None) × (text ≡ exchange_text x))
 
--- Where an error occurs, and which text is lost. While reading: before the end of a message, and no
--- text. While writing: in the last reply, and the rest of it. Without memory: between messages and
--- no text, or before the last reply and all of it.
+-- When an error occurs, and which text is lost. While reading: before the end of a message, and no
+-- text. While writing: in the last reply, and the rest of it. For lack of memory: between messages
+-- and no text, or before the last reply and all of it.
 abbrev pub ComesAt : ServeFault → Course → List ℕ → ℕ → ℕ → Type 0
 ComesAt Read c lost before after = IsBetween c lost × IsUnfinished c.rest × (before < after)
 ComesAt TooManyReads c lost before after = IsBetween c lost × IsUnfinished c.rest × (after ≡ 1048576)

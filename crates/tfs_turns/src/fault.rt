@@ -44,7 +44,9 @@ pub(crate) fn fault_of_opening(fault: OpenFault) -> TurnFault {
 
 /// Returns why the runs ended. `has_stopped` is true if the journal of the last run's table has
 /// stopped.
-/// A run whose table may lack something that a worker had seen has ended as its workers did.
+///
+/// `NoCopy`, after which the table may lack something that a worker had seen, counts as an error of
+/// accept.
 pub(crate) fn end_of(finish: Finish<TurnFault>, has_stopped: bool) -> Fault {
     match finish {
         Finish::Ended | Finish::Unturned(Unturned::Stopped) => {

@@ -11,12 +11,15 @@ use tfs_serve::Gate;
 use tfs_table::{Call, Refusal, Reply};
 
 /// A gate that admits every connection until conversations are to end.
+///
 /// Before a reply is written, everything written to the journal so far is synced; once a sync has
-/// failed, nothing more is written to any client. Before an accepted change is acknowledged, the
-/// folder, its journal and its lock file are compared with the opened ones; one comparison may
-/// serve all changes of a sync.
-/// A read of a state reports about one name, and waits only while a worker changes that name: the
-/// change before is durable once its worker is done.
+/// failed, nothing more is written to any client. The exception is a read of a state: it reports
+/// about one name, and waits only while a worker changes that name, because the change before is
+/// durable once its worker is done.
+///
+/// Before an accepted change is acknowledged, the folder, its journal and its lock file are
+/// compared with the opened ones; one comparison may serve all changes of a sync.
+///
 /// The gate raises the least position with each accepted change, after the change is durable and
 /// without a sync. If the file can't be written, its position lags.
 #[derive(Drop)]
