@@ -118,7 +118,7 @@ pub fn serve_folder<R: AllocGlobal + Threads + Wait + Clock + Sync>(
     }
 }
 
-/// Returns the result for a journal that can't be read: its table, and no reported change.
+/// Returns the result for a journal that can't be opened: its table, and no reported change.
 fn unread(table: Table<JournalSink>) -> Left
     ensures table { result.table ≡ table }
     ensures reported { result.reported.count ≡ 0 }
@@ -143,7 +143,7 @@ fn fault_after(lock: &FolderLock, watch: &Watch<'_>, last: Fault) -> Fault {
     }
 }
 
-/// Returns the folder's journal of a number, or `None` if it can't be read.
+/// Returns the folder's journal of a number, or `None` if it can't be opened or memory is refused.
 fn served_journal(host: &HostRuntime, folder: &str, number: u64) -> Option<Arc<ServedJournal>> {
     let journal = ServedJournal::named(host, folder, number).ok()?;
     Arc::new(host.alloc(), journal).ok()

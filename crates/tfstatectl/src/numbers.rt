@@ -18,7 +18,7 @@ pub(crate) fn written_out(alloc: Global, words: Vec<String>) -> Result<Vec<Strin
 }
 
 /// Returns a word with its number written out, if it is the value of one of these options: the word
-/// after the option (`is_number`), or the part after `=`.
+/// after the option (`is_number`), or the part after the option and `=`.
 fn word_of(alloc: Global, word: String, is_number: bool) -> Result<String, AllocError> {
     if is_number {
         return match value_of(word.as_str()) {
@@ -36,8 +36,8 @@ fn word_of(alloc: Global, word: String, is_number: bool) -> Result<String, Alloc
     Ok(written.unwrap_or(word))
 }
 
-/// Returns the value of a number with the suffix K, M or G: 1,024 times, or its square or cube
-/// times. Returns `None` if the text isn't such a number or its value exceeds 64 bits.
+/// Returns the value of a number with the suffix K, M or G, which stand for 1,024, its square and
+/// its cube. Returns `None` if the text isn't such a number or its value exceeds 64 bits.
 fn value_of(text: &str) -> Option<u64> {
     let (digits, unit) = parts_of(text)?;
     digits.parse::<u64>().ok()?.checked_mul(unit)

@@ -53,7 +53,7 @@ fn begun(
     Ok((least, made))
 }
 
-/// Makes the folder's next journal. It continues a journal whose position is at least this one.
+/// Makes the folder's next journal, which starts at this position or a higher one.
 fn started_from(rt: &HostRuntime, asked: &Serving<'_>, least: u64) -> Result<Made, End> {
     let start = Start {
         least,
