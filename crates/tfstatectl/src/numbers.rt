@@ -36,8 +36,8 @@ fn word_of(alloc: Global, word: String, is_number: bool) -> Result<String, Alloc
     Ok(written.unwrap_or(word))
 }
 
-/// Returns the value of a number with the suffix K, M or G, which stand for 1,024, its square and
-/// its cube. Returns `None` if the text isn't such a number or its value exceeds 64 bits.
+/// Returns the value of a number with the suffix K (1,024), M (1,048,576) or G (1,073,741,824).
+/// Returns `None` if the text isn't such a number or its value exceeds 64 bits.
 fn value_of(text: &str) -> Option<u64> {
     let (digits, unit) = parts_of(text)?;
     digits.parse::<u64>().ok()?.checked_mul(unit)
