@@ -1,9 +1,10 @@
--- Errors of reads and writes that pass.
+-- Transient errors of reads and writes.
 use Rattle.std.specs.Prelude.{Bool, true, false}
 use Rattle.std.specs.declared.io.ErrorKind.{ErrorKind}
 use Rattle.std.specs.declared.io.ErrorKind.TheVariants as kind
 
--- Whether a read or a write is tried again after an error of this kind: it has waited, or a signal came.
+-- Whether a read or a write is retried after an error of this kind: its wait timed out, or a signal
+-- interrupted it.
 abbrev pub is_passing : ErrorKind → Bool
 is_passing kind.WouldBlock = true
 is_passing kind.Interrupted = true

@@ -1,4 +1,4 @@
-//! Taking a connection from a listener, and what its errors ask for.
+//! Accepting connections from a listener, and handling its errors.
 
 ghost use Rattle.std.specs.Prelude.{◌≡◌, Some, None, IfOk, IfErr};
 ghost use Rattle.tfs_connections.specs.Accepting.{HasPassed, IsFinal, error_of, remedy_for, remedy_by_number};
@@ -15,10 +15,11 @@ use std::time::{Clock, Duration};
 use std::{fmt, io, thread};
 use thiserror::Error;
 
-/// A worker waits so long before it asks again for a connection where the system lacks descriptors or memory.
+/// The pause of a worker, in milliseconds, before it accepts again if the system lacks descriptors
+/// or memory.
 pub const PAUSE_MILLISECONDS: u64 = 50;
 
-/// The kind of an error of accepting, and the system's number for it.
+/// The kind of an error of accept, and the system's number for it.
 #[derive(Clone, Copy, Debug, PartialEq, Eq)]
 pub struct AcceptError {
     pub kind: ErrorKind,
@@ -34,7 +35,7 @@ impl fmt::Display for AcceptError {
     }
 }
 
-/// The listener gives no connection any more: it has told an error after which it is of no use.
+/// The error of a listener that can't accept connections any more.
 #[derive(Clone, Copy, Debug, PartialEq, Eq, Error)]
 #[error("no connection could be taken: {error}")]
 pub struct AcceptFault {
@@ -42,7 +43,7 @@ pub struct AcceptFault {
 }
 
 impl AcceptFault {
-    /// The error.
+    /// Returns the error that the listener reported.
     pub fn error(&self) -> AcceptError
         ensures value { result ≡ error_of self.now }
     {
@@ -50,24 +51,26 @@ impl AcceptFault {
     }
 }
 
-/// What an error of accepting asks for.
+/// What to do after an error of accept.
 #[derive(Clone, Copy, Debug, PartialEq, Eq)]
 pub enum Remedy {
-    /// The error was of one connection, or passes: accept again.
+    /// Accept again: the error concerned one connection, or is transient.
     Again,
-    /// Descriptors or memory lack: accept again after a pause.
+    /// Accept again after a pause: descriptors or memory are lacking.
     Pause,
-    /// The listener is of no use.
+    /// Give up: the listener is unusable.
     End,
 }
 
-/// Numbers of errors that the network told of one connection (errno(3) of Linux): ENONET, EPROTO, ENOPROTOOPT, EOPNOTSUPP, EHOSTDOWN.
+/// Numbers of errors that the network reported for one connection (errno(3) of Linux): ENONET,
+/// EPROTO, ENOPROTOOPT, EOPNOTSUPP, EHOSTDOWN.
 const NUMBERS_OF_A_CONNECTION: [i32; 5] = [64, 71, 92, 95, 112];
 
-/// Numbers of errors where descriptors or memory lack: ENFILE, EMFILE, ENOBUFS.
+/// Numbers of errors for lack of descriptors or memory: ENFILE, EMFILE, ENOBUFS.
 const NUMBERS_OF_LACK: [i32; 3] = [23, 24, 105];
 
-/// What an error of accepting asks for (accept(2) of Linux), by its kind or, where that says nothing, by the system's number for it.
+/// Returns what to do after an error of accept (accept(2) of Linux), by its kind or, if the kind
+/// doesn't decide it, by the system's number.
 pub fn remedy_of(kind: ErrorKind, number: Option<i32>) -> Remedy
     ensures remedy { result ≡ remedy_for kind number }
 {
@@ -84,7 +87,7 @@ pub fn remedy_of(kind: ErrorKind, number: Option<i32>) -> Remedy
     }
 }
 
-/// What an error asks for whose kind says nothing.
+/// Returns what to do after an error whose kind doesn't decide it.
 fn remedy_by_number(number: Option<i32>) -> Remedy
     ensures remedy { result ≡ remedy_by_number number }
 {
@@ -100,22 +103,22 @@ fn remedy_by_number(number: Option<i32>) -> Remedy
     Remedy::End
 }
 
-/// Gives connections.
+/// A source of connections.
 pub trait Listener {
     ghost use Rattle.std.specs.Prelude.{Option};
     ghost use Rattle.tfs_connections.specs.declared.accepting.AcceptError.{AcceptError};
 
     type Stream: Drop;
 
-    // The last error that it has told.
+    // The last error that the listener reported.
     ghost told: { Self → Option AcceptError };
 
-    /// Waits for the next connection.
+    /// Waits for the next connection. May also return with an error after a while without one.
     fn accept(&mut self) -> Result<Self::Stream, AcceptError>
         ensures told { IfErr result (λ error. told self.new ≡ Some error) };
 }
 
-/// A listener of the system, which is lent, and the last error that it has told.
+/// A borrowed listener of the system, and the last error that it reported.
 #[derive(Drop)]
 pub struct Listening<'l, L: OpenListener> {
     listener: &'l L,
@@ -123,7 +126,7 @@ pub struct Listening<'l, L: OpenListener> {
 }
 
 impl<'l, L: OpenListener> Listening<'l, L> {
-    /// No error has been told.
+    /// Wraps a listener that has reported no error yet.
     pub fn new(listener: &'l L) -> Listening<'l, L> {
         Listening {
             listener,
@@ -152,24 +155,26 @@ impl<'l, L: OpenListener> Listener for Listening<'l, L> {
     }
 }
 
-/// A listener whose waits look up now and then, so that a worker which waits sees that conversations are to end. With another one it sees
-/// that at the next connection.
+/// Sets a timeout of `LOOK_MILLISECONDS` on the waits of a listener, so that a waiting worker
+/// notices when conversations are to end. Without the timeout it notices at the next connection.
 pub fn limit_waits(listener: TcpListener) -> io::Result<TcpListener> {
     let_wait(&listener);
-    // The option is the socket's; the type of a listener can't set it.
+    // The option belongs to the socket, but the listener's type can't set it.
     let socket = TcpStream::from(OwnedFd::from(listener));
     socket.set_read_timeout(Some(Duration::from_millis(LOOK_MILLISECONDS)))?;
     Ok(TcpListener::from(OwnedFd::from(socket)))
 }
 
-/// Lets `MAX_WAITING` connections wait at a listener until they are taken. Where the system refuses that, as many wait as before.
+/// Sets the backlog of a listener to `MAX_WAITING` connections. If the system refuses, the backlog
+/// stays as it is.
 pub fn let_wait(listener: &TcpListener) {
-    // To listen once more changes the number alone.
+    // Listening again changes only the backlog.
     let _ = libc::net::listen(listener.as_raw_fd(), MAX_WAITING);
 }
 
-/// The next connection, for which a worker is free until it has come. It waits until there is one, the listener has told an error after
-/// which it is of no use, or conversations are to end: then there is none.
+/// Waits for the next connection, and counts the worker as free meanwhile. Returns `None` if
+/// conversations are to end, and an error if the listener has reported one after which it is
+/// unusable.
 pub fn taken<L: Listener, R: Wait + Clock>(
     rt: &R,
     listener: &mut L,
@@ -186,7 +191,7 @@ pub fn taken<L: Listener, R: Wait + Clock>(
     next
 }
 
-/// The next connection, if there is one before conversations are to end.
+/// Waits for the next connection. Returns `None` if conversations are to end before there is one.
 fn accepted<L: Listener, R: Wait + Clock>(
     rt: &R,
     listener: &mut L,
@@ -208,7 +213,7 @@ fn accepted<L: Listener, R: Wait + Clock>(
     unreachable!()
 }
 
-/// Waits until a listener can be asked again after an error that passes.
+/// Waits until accept can be retried after a transient error. Returns an error after any other one.
 fn wait_past<R: Wait + Clock>(rt: &R, error: AcceptError) -> Result<(), AcceptFault>
     ensures ok { IfOk result (λ _. HasPassed (Some error)) }
     ensures told { IfErr result (λ fault. error ≡ error_of fault) }

@@ -1,4 +1,4 @@
-//! A listener at an address of the network or at a unix socket.
+//! Listeners on a TCP address or a unix socket.
 
 use crate::limits::{LOOK_MILLISECONDS, MAX_WAITING};
 use crate::transport::Connection;
@@ -10,17 +10,17 @@ use std::os::unix::fs::PermissionsExt;
 use std::os::unix::net::{self, UnixListener, UnixStream};
 use std::time::Duration;
 
-/// The mode of a socket: its user and its group may connect.
+/// The mode of a socket: its user and group may connect.
 const SOCKET_MODE: u32 = 0o660;
 
-/// A listener at an address of the network, or at a unix socket.
+/// A listener on a TCP address or a unix socket.
 #[derive(Drop)]
 pub enum AnyListener {
     Tcp(TcpListener),
     Local(UnixListener),
 }
 
-/// A connection over TCP, or over a unix socket.
+/// A connection over TCP or a unix socket.
 #[derive(Drop)]
 pub enum AnyStream {
     Tcp(TcpStream),
@@ -30,7 +30,8 @@ pub enum AnyStream {
 impl OpenListener for AnyListener {
     type Stream = AnyStream;
 
-    /// Accepts the next connection. A client of a unix socket has no address in the network: it gets the unspecified one.
+    /// Accepts the next connection. A client of a unix socket has no network address; it gets the
+    /// unspecified one, 0.0.0.0:0.
     fn accept(&self) -> io::Result<(AnyStream, SocketAddr)> {
         match self {
             AnyListener::Tcp(listener) => {
@@ -73,14 +74,14 @@ impl Connection for AnyStream {
     }
 }
 
-/// A listener that is lent, which gives each connection as an `AnyStream`.
+/// A borrowed listener that returns each connection as an `AnyStream`.
 #[derive(Drop)]
 pub struct LentListener<'l, L: OpenListener> {
     listener: &'l L,
 }
 
 impl<'l, L: OpenListener> LentListener<'l, L> {
-    /// The listener that is lent.
+    /// Wraps a borrowed listener.
     pub fn of(listener: &'l L) -> LentListener<'l, L> {
         LentListener { listener }
     }
@@ -98,22 +99,23 @@ where
     }
 }
 
-/// Makes a unix socket at a path, for its user and its group, and listens at it. A wait for a connection ends after `LOOK_MILLISECONDS`, so that
-/// a worker sees that conversations are to end.
+/// Makes a unix socket at a path that its user and group may connect to, and listens on it. A wait
+/// for a connection ends after `LOOK_MILLISECONDS`, so that a worker notices when conversations are
+/// to end.
 pub fn bind_local<R: Files + Net>(rt: &R, path: &str) -> io::Result<UnixListener> {
     let socket = rt.unix_socket()?;
     rt.bind_unix(socket.as_fd(), &net::SocketAddr::from_pathname(path)?)?;
-    // Nobody can connect before the socket listens, so nobody does before it has its mode.
+    // Nobody can connect before the socket listens, and by then it has its mode.
     fs::set_permissions(rt, path, Permissions::from_mode(SOCKET_MODE))?;
     listen_at(socket)
 }
 
-/// Listens at a socket.
+/// Listens on a socket.
 fn listen_at(socket: OwnedFd) -> io::Result<UnixListener> {
     if libc::net::listen(socket.as_raw_fd(), MAX_WAITING) != 0 {
         return Err(io::Error::from(io::ErrorKind::Other));
     }
-    // The option is the socket's; the type of a listener can't set it.
+    // The option belongs to the socket, but the listener's type can't set it.
     let socket = UnixStream::from(socket);
     socket.set_read_timeout(Some(Duration::from_millis(LOOK_MILLISECONDS)))?;
     Ok(UnixListener::from(OwnedFd::from(socket)))

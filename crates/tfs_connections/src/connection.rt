@@ -1,4 +1,4 @@
-//! The two ends of a connection, with limits of time.
+//! The two ends of a connection, with time limits.
 
 ghost use Rattle.std.specs.Prelude.{◌≡◌, ◌<◌, IfOk};
 ghost use Rattle.std.specs.Io.{ReadsAtMost, WritesAtMost};
@@ -13,8 +13,8 @@ use std::io::{ErrorKind, Read, Write};
 use std::time::Clock;
 use tfs_conversation::{LentFault, Outlet, Source};
 
-/// The reading end of a connection, which tells what its stream tells. It fails where that fails, where the client takes too long, and
-/// where the conversation is to end.
+/// The reading end of a connection. It fails if its stream fails, if the client takes too long, or
+/// if the conversation is to end. After a failure each read fails.
 #[derive(Drop)]
 pub struct Incoming<'t, 'r, 'e, R: Clock, S: Read> {
     timing: &'t Timing<'r, 'e, R>,
@@ -23,7 +23,7 @@ pub struct Incoming<'t, 'r, 'e, R: Clock, S: Read> {
 }
 
 impl<'t, 'r, 'e, R: Clock, S: Read> Incoming<'t, 'r, 'e, R, S> {
-    /// It hasn't failed.
+    /// Wraps a stream that hasn't failed.
     pub fn new(timing: &'t Timing<'r, 'e, R>, stream: S) -> Incoming<'t, 'r, 'e, R, S> {
         Incoming {
             timing,
@@ -49,7 +49,7 @@ impl<'t, 'r, 'e, R: Clock, S: Read> Source for Incoming<'t, 'r, 'e, R, S> {
     }
 }
 
-/// Reads once something has come.
+/// Waits until bytes have come, and reads once.
 #[tactic(auto, using(crate::proofs::Keeping::keeps_then, crate::proofs::Keeping::kept_read))]
 fn read_in_time<R: Clock, S: Read>(
     timing: &Timing<'_, '_, R>,
@@ -76,8 +76,8 @@ fn read_in_time<R: Clock, S: Read>(
     Err(LentFault)
 }
 
-/// The writing end of a connection, which tells what its stream tells. It fails where that fails or takes nothing, where the client
-/// takes too long, and where the conversation is to end.
+/// The writing end of a connection. It fails if its stream fails or takes no byte, if the client
+/// takes too long, or if the conversation is to end. After a failure each write fails.
 #[derive(Drop)]
 pub struct Outgoing<'t, 'r, 'e, R: Clock, S: Write> {
     timing: &'t Timing<'r, 'e, R>,
@@ -86,7 +86,7 @@ pub struct Outgoing<'t, 'r, 'e, R: Clock, S: Write> {
 }
 
 impl<'t, 'r, 'e, R: Clock, S: Write> Outgoing<'t, 'r, 'e, R, S> {
-    /// It hasn't failed.
+    /// Wraps a stream that hasn't failed.
     pub fn new(timing: &'t Timing<'r, 'e, R>, stream: S) -> Outgoing<'t, 'r, 'e, R, S> {
         Outgoing {
             timing,
@@ -113,7 +113,7 @@ impl<'t, 'r, 'e, R: Clock, S: Write> Outlet for Outgoing<'t, 'r, 'e, R, S> {
     }
 }
 
-/// Writes once something is taken.
+/// Waits until the stream takes bytes, and writes once.
 #[tactic(auto, using(crate::proofs::Keeping::keeps_then, crate::proofs::Keeping::kept_write))]
 fn write_in_time<R: Clock, S: Write>(
     timing: &Timing<'_, '_, R>,
@@ -142,7 +142,8 @@ fn write_in_time<R: Clock, S: Write>(
     Err(LentFault)
 }
 
-/// Whether a read or a write is tried again after this error: it has waited, or a signal came.
+/// Returns true if a read or a write is retried after this error: its wait timed out, or a signal
+/// interrupted it.
 fn passes(error: &io::Error) -> bool
     ensures value { result ≡ is_passing (error_kind error.now) }
 {

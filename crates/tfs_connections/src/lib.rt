@@ -1,4 +1,4 @@
-//! Connections: how one is taken from a listener, and how long it may take.
+//! Connections: accepting them from a listener, and limiting their time.
 #![tactic(auto)]
 
 mod accepting;

@@ -3,7 +3,7 @@
 use crate::limits::most_slow;
 use std::sync::atomic::{AtomicU64, Ordering};
 
-/// How many workers there are, how many of them wait for a connection, and how many have a slow client.
+/// The number of workers, of workers that wait for a connection, and of workers with a slow client.
 #[derive(Drop)]
 pub struct Load {
     workers: u64,
@@ -12,7 +12,7 @@ pub struct Load {
 }
 
 impl Load {
-    /// So many workers, none of which has begun.
+    /// Makes the load of a number of workers that haven't started.
     pub fn new(workers: usize) -> Load {
         Load {
             workers: workers as u64,
@@ -21,37 +21,38 @@ impl Load {
         }
     }
 
-    /// A worker begins to wait for a connection.
+    /// Records that a worker starts to wait for a connection.
     pub(crate) fn begin_wait(&self) {
         self.waiting.fetch_add(1, Ordering::SeqCst);
     }
 
-    /// A worker waits for a connection no more.
+    /// Records that a worker has stopped waiting for a connection.
     pub(crate) fn end_wait(&self) {
         self.waiting.fetch_sub(1, Ordering::SeqCst);
     }
 
-    /// Whether no worker is free, so that others may wait for one.
+    /// Returns true if no worker is free, so that clients may be waiting for one.
     pub(crate) fn is_crowded(&self) -> bool {
         self.waiting.load(Ordering::SeqCst) == 0
     }
 
-    /// A worker has a slow client.
+    /// Records that a worker has a slow client.
     pub(crate) fn begin_slow(&self) {
         self.slow.fetch_add(1, Ordering::SeqCst);
     }
 
-    /// A worker has its slow client no more.
+    /// Records that a worker no longer has a slow client.
     pub(crate) fn end_slow(&self) {
         self.slow.fetch_sub(1, Ordering::SeqCst);
     }
 
-    /// Whether a worker is to leave its slow client, which it has no more then.
+    /// Returns true if a worker is to drop its slow client, which then isn't counted any more.
     pub(crate) fn leaves_slow(&self) -> bool {
         if !self.is_crowded() {
             return false;
         }
-        // Each that leaves counts itself off first, so that no more leave than have to.
+        // A worker uncounts its client before it compares, so that workers that do so concurrently
+        // don't drop more clients than they have to.
         if self.slow.fetch_sub(1, Ordering::SeqCst) > most_slow(self.workers) {
             return true;
         }

@@ -1,4 +1,4 @@
-//! How long a connection has taken.
+//! The times of a connection.
 
 use crate::limits::{
     MAX_ENDING_SECONDS, MAX_REQUEST_SECONDS, MAX_WAIT_SECONDS, idle_limit, is_late, reply_limit,
@@ -9,20 +9,24 @@ use std::cell::Cell;
 use std::sync::atomic::{AtomicBool, Ordering};
 use std::time::{Clock, Duration};
 
-/// What a connection is at.
+/// The stage of a connection.
 #[derive(Clone, Copy)]
 enum Stage {
-    /// Nothing has come.
+    /// Nothing has come yet.
     Fresh,
-    /// A request, of which so many bytes have come, the first of them then.
+    /// A request is being read: when its first byte came, and how many bytes have come.
     Request(Duration, u64),
-    /// Replies, of which so many bytes were written, the first of them then. Behind them the next request is waited for.
+    /// Replies are being written: when the first one was begun, and how many bytes were written.
+    /// After them the connection waits for the next request.
     Replies(Duration, u64),
 }
 
-/// The time of one connection, for its reading and its writing end: what it is at; of replies, since when they have waited for the client,
-/// and how many bytes were written by then, which the system's buffers took; whether the client counts as slow; whether conversations are
-/// to end, and when that was seen first; whether nothing more is to be written. Where no clock tells, no time goes by.
+/// The times of one connection, shared by its reading and its writing end.
+///
+/// They are: the stage; since when replies have waited for the client, and how many bytes were
+/// written by then, which the system's buffers took; whether the client counts as slow; whether
+/// conversations are to end, and when that was first seen; and whether nothing more is to be
+/// written. If the clock fails, no time passes.
 #[derive(Drop)]
 pub struct Timing<'r, 'e, R: Clock> {
     rt: &'r R,
@@ -36,7 +40,7 @@ pub struct Timing<'r, 'e, R: Clock> {
 }
 
 impl<'r, 'e, R: Clock> Timing<'r, 'e, R> {
-    /// Nothing has come.
+    /// Makes the times of a connection on which nothing has come.
     pub fn new(
         rt: &'r R,
         ended: &'e AtomicBool,
@@ -55,7 +59,7 @@ impl<'r, 'e, R: Clock> Timing<'r, 'e, R> {
         }
     }
 
-    /// The time.
+    /// Returns the current time, or zero if the clock fails.
     pub(crate) fn now(&self) -> Duration {
         match self.rt.monotonic() {
             Ok(now) => now,
@@ -63,7 +67,8 @@ impl<'r, 'e, R: Clock> Timing<'r, 'e, R> {
         }
     }
 
-    /// Whether nothing more is to be read: of a request that takes too long, or of the next one where conversations are to end.
+    /// Returns true if nothing more is to be read: a request takes too long, its slow client is
+    /// dropped in favour of others, or conversations are to end and the next request would be read.
     pub(crate) fn ends_reading(&self) -> bool {
         match self.stage.get() {
             Stage::Fresh => false,
@@ -79,7 +84,7 @@ impl<'r, 'e, R: Clock> Timing<'r, 'e, R> {
         }
     }
 
-    /// Whether a read that has waited since then is to wait no more.
+    /// Returns true if a read that has waited since `since` is to stop waiting.
     pub(crate) fn ends_waiting(&self, since: Duration) -> bool {
         match self.stage.get() {
             Stage::Request(_, _) => self.is_past(since, MAX_WAIT_SECONDS) || self.ends_reading(),
@@ -89,7 +94,9 @@ impl<'r, 'e, R: Clock> Timing<'r, 'e, R> {
         }
     }
 
-    /// Whether nothing more is to be written to anybody, or of replies that take too long, with so many bytes to come.
+    /// Returns true if nothing more is to be written: to any client, or of replies with `rest`
+    /// bytes left to write, because they take too long or their slow client is dropped in favour of
+    /// others.
     pub(crate) fn ends_writing(&self, rest: usize) -> bool {
         if self.muted.load(Ordering::SeqCst) {
             return true;
@@ -105,13 +112,13 @@ impl<'r, 'e, R: Clock> Timing<'r, 'e, R> {
         }
     }
 
-    /// Whether a write that has waited since then is to wait no more.
+    /// Returns true if a write that has waited since `since` is to stop waiting.
     pub(crate) fn ends_waiting_to_write(&self, since: Duration, rest: usize) -> bool {
         self.hold(since);
         self.is_past(since, MAX_WAIT_SECONDS) || self.ends_writing(rest)
     }
 
-    /// So many bytes of a request have come.
+    /// Records that `count` bytes of a request have come.
     pub(crate) fn has_read(&self, count: usize) {
         let (began, read) = match self.stage.get() {
             Stage::Request(began, read) => (began, read),
@@ -121,7 +128,7 @@ impl<'r, 'e, R: Clock> Timing<'r, 'e, R> {
         self.stage.set(Stage::Request(began, read));
     }
 
-    /// So many bytes of a reply are written, or none yet where it begins.
+    /// Records that `count` bytes of a reply were written; 0 when a reply starts.
     pub(crate) fn has_written(&self, count: usize) {
         let (began, written) = match self.stage.get() {
             Stage::Replies(began, written) => (began, written),
@@ -134,21 +141,22 @@ impl<'r, 'e, R: Clock> Timing<'r, 'e, R> {
         self.stage.set(Stage::Replies(began, written));
     }
 
-    /// The client isn't slow any more, or it is gone.
+    /// Stops counting the client as slow, because it is no longer slow or is gone.
     pub fn end_slow(&self) {
         if self.is_slow.replace(false) {
             self.load.end_slow();
         }
     }
 
-    /// Replies wait for the client, since then if they haven't before.
+    /// Records that replies wait for the client since `since`, unless they have waited before.
     fn hold(&self, since: Duration) {
         if let (None, Stage::Replies(_, written)) = (self.held.get(), self.stage.get()) {
             self.held.set(Some((since, written)));
         }
     }
 
-    /// Whether a client takes replies too slowly, of which so many bytes are written, and is to be left for others.
+    /// Returns true if a client reads replies too slowly and is to be dropped in favour of others.
+    /// `written` bytes of them were written.
     fn is_read_too_slowly(&self, written: u64) -> bool {
         match self.held.get() {
             Some((since, before)) => {
@@ -158,7 +166,8 @@ impl<'r, 'e, R: Clock> Timing<'r, 'e, R> {
         }
     }
 
-    /// Whether a client is slow at what began then, of which so many bytes have passed, and is to be left for others.
+    /// Returns true if a client is slow and is to be dropped in favour of others. `bytes` bytes
+    /// were transferred since `began`.
     fn is_left_for_others(&self, began: Duration, bytes: u64) -> bool {
         if !is_late(began, self.now(), slow_limit(bytes)) {
             self.end_slow();
@@ -172,17 +181,18 @@ impl<'r, 'e, R: Clock> Timing<'r, 'e, R> {
         is_left
     }
 
-    /// Whether more than so many seconds have gone by since then.
+    /// Returns true if more than `seconds` seconds have passed since `since`.
     fn is_past(&self, since: Duration, seconds: u64) -> bool {
         is_late(since, self.now(), Duration::from_secs(seconds))
     }
 
-    /// Whether conversations are to end.
+    /// Returns true if conversations are to end.
     fn is_to_end(&self) -> bool {
         self.ended.load(Ordering::SeqCst)
     }
 
-    /// Whether conversations are to end, and what is underway has had its time since that was seen.
+    /// Returns true if conversations are to end, and the time left to what is in progress has
+    /// passed since that was first seen.
     fn is_given_up(&self) -> bool {
         if !self.is_to_end() {
             return false;

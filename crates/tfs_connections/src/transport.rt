@@ -1,4 +1,4 @@
-//! Connections over TCP and over unix sockets.
+//! Connections over TCP and unix sockets.
 
 use crate::any_listener::AnyStream;
 use crate::limits::LOOK_MILLISECONDS;
@@ -11,7 +11,7 @@ use std::time::Duration;
 pub trait Connection {
     ghost use Rattle.std.specs.Io.{ReadsAtMost, WritesAtMost};
 
-    /// Ends waits of reads and writes after `LOOK_MILLISECONDS`, and has each write go out at once.
+    /// Sets a timeout of `LOOK_MILLISECONDS` on reads and writes, and has each write sent at once.
     fn limit(&self) -> io::Result<()>;
 
     /// Reads once.
@@ -22,7 +22,7 @@ pub trait Connection {
     fn send(&self, text: &[u8]) -> io::Result<usize>
         ensures bound { WritesAtMost result text.now };
 
-    /// The same connection, of the type that the workers of a run take.
+    /// Converts the connection to the type that workers take.
     fn into_any(self) -> AnyStream;
 }
 
@@ -71,14 +71,14 @@ impl Connection for UnixStream {
     }
 }
 
-/// A reader and a writer over a connection that is lent.
+/// A reader and a writer over a borrowed connection.
 #[derive(Drop)]
 pub struct LentConnection<'c, C: Connection> {
     connection: &'c C,
 }
 
 impl<'c, C: Connection> LentConnection<'c, C> {
-    /// A reader and a writer over this connection.
+    /// Wraps a borrowed connection.
     pub fn of(connection: &'c C) -> LentConnection<'c, C> {
         LentConnection { connection }
     }

@@ -10,27 +10,27 @@ use Rattle.tfs_conversation.specs.declared.ended.Ended.TheVariants.{Clean, Cut}
 use Rattle.tfs_http.specs.declared.fault.ServeFault.{ServeFault}
 use Rattle.tfs_http.specs.declared.fault.ServeFault.TheVariants.{NoMemory}
 
--- The input ended between messages or inside one.
+-- How the input ended: between messages, or inside one.
 abbrev pub EndsSo : List ℕ → Ended → Type 0
 EndsSo bytes ended = ((ended ≡ Clean) × (bytes ≡ [])) ⊎ ((ended ≡ Cut) × ¬ (bytes ≡ []) × IsUnfinished bytes)
 
--- The next input of the bytes, and what is left of them.
+-- The next input of the bytes, and the bytes left after it.
 abbrev pub Arrives : List ℕ → List ℕ → Arrived → Type 0
 Arrives bytes left (Arrived.Message r) = (used : ℕ) × BeginsWith bytes r used × (left ≡ drop used bytes)
 Arrives bytes left (Arrived.Refused refusal) = framing_refusal bytes refusal
 Arrives bytes left (Arrived.Ended ended) = EndsSo bytes ended
 
--- The same, or all are left.
+-- The next input of the bytes; or none, and all bytes are left.
 abbrev pub ArrivesOrStays : List ℕ → List ℕ → Option Arrived → Type 0
 ArrivesOrStays bytes left None = left ≡ bytes
 ArrivesOrStays bytes left (Some arrived) = Arrives bytes left arrived
 
--- At the end of the input, so is the reader.
+-- If the input has ended, the reader is at its end.
 abbrev pub EndsThere : Option (List ℕ) → Arrived → Type 0
 EndsThere reader (Arrived.Message r) = Unit {0}
 EndsThere reader (Arrived.Refused refusal) = Unit {0}
 EndsThere reader (Arrived.Ended ended) = IsReadThrough ended reader
 
--- A fault while reading unfinished bytes, or for lack of memory.
+-- An error while reading unfinished bytes; or lack of memory, if the bytes aren't refused.
 abbrev pub BreaksThere : List ℕ → ServeFault → ℕ → ℕ → Type 0
 BreaksThere bytes fault before after = (IsUnfinished bytes × FailsReading fault before after) ⊎ ((fault ≡ NoMemory) × HasNoRefusal bytes)

@@ -18,16 +18,16 @@ use Rattle.tfs_conversation.specs.declared.ended.Ended.TheVariants.{Clean, Cut, 
 use Rattle.tfs_http.specs.declared.fault.ServeFault.{ServeFault}
 use Rattle.tfs_http.specs.declared.fault.ServeFault.TheVariants.{Read, Write, TooManyReads, NoMemory}
 
--- The request passes routing, which asks for memory only then.
+-- The request passes routing. Only for such a request does routing allocate memory.
 abbrev pub IsRouted : RequestValue → Type 0
 IsRouted r = (route : Route) × (part : List ℕ) × IsSound r route part
 
--- The steps of a desk: value, call, reply, next value.
+-- The steps of a desk: its value before the call, the call, the reply, its value after it.
 abbrev pub Step : Type 0 → Type 1
 Step S = S → Call → ReplyValue → S → Type 0
 
--- The reply to a request: routing refuses it or lacks memory, and the desk stays; or the desk
--- answers.
+-- The reply to a request, with the desk's value before and after it: routing refuses the request or
+-- gets no memory, and the desk doesn't change; or the desk answers the call.
 abbrev pub AnswersRequest : {S : Type 0} → Step S → S → RequestValue → ReplyValue → S → Type 0
 AnswersRequest step old r reply new =
     ((refusal : Refusal) × routing_refusal r refusal × (reply ≡ refused (refusal_value refusal)) × (new ≡ old))
@@ -43,7 +43,7 @@ pub record Exchange : Type 0 where
 abbrev pub requests_of : List Exchange → List RequestValue
 requests_of exchanges = map (λ x. x.request) exchanges
 
--- The desk gives the replies in turn.
+-- The desk, or routing, answers the requests of these exchanges one after the other.
 abbrev pub Runs : {S : Type 0} → Step S → S → List Exchange → S → Type 0
 Runs step old [] new = new ≡ old
 Runs {S} step old (x ∷ xs) new = (between : S) × AnswersRequest step old x.request x.reply between × Runs step between xs new
@@ -54,7 +54,7 @@ pub record Course : Type 0 where
   pub rest : List ℕ
   pub refusal : Option Refusal
 
--- Its messages.
+-- The messages of a course.
 abbrev pub messages_of : Course → Messages
 messages_of c = record { requests = requests_of c.exchanges; rest = c.rest; refusal = c.refusal }
 
@@ -62,7 +62,7 @@ messages_of c = record { requests = requests_of c.exchanges; rest = c.rest; refu
 abbrev pub closing_form : Form
 closing_form = record { close = true; bare = false }
 
--- The text of a reply.
+-- The text of a reply, in the form that its request asks for.
 abbrev pub exchange_text : Exchange → List ℕ
 exchange_text x = reply_text x.reply (form_of x.request)
 
@@ -75,11 +75,11 @@ refusal_text (Some refusal) = reply_text (refused (refusal_value refusal)) closi
 abbrev pub replies_text : List Exchange → List ℕ
 replies_text exchanges = flat_map exchange_text exchanges
 
--- The texts of all replies of a course.
+-- The text of all replies of a course, with the closing refusal.
 abbrev pub course_text : Course → List ℕ
 course_text c = replies_text c.exchanges ++ refusal_text c.refusal
 
--- The bytes have the course's messages, and the desk gives its replies.
+-- The bytes have the course's messages, and the course has the replies to them.
 pub record TakesCourse {S : Type 0} (step : Step S) (old new : S) (bytes : List ℕ) (c : Course) : Type 0 where
   pub has : HasMessages bytes (messages_of c)
   pub run : Runs step old c.exchanges new
@@ -91,39 +91,42 @@ IsReadThrough Cut reader = IsAtEnd reader
 IsReadThrough Asked reader = Unit {0}
 IsReadThrough Refused reader = Unit {0}
 
--- A conversation of these bytes, with this text, ended so.
+-- A conversation: the bytes read, the text written, the desk's values before and after it, and how
+-- it ended.
 pub record Converses {S : Type 0} (step : Step S) (old new : S) (bytes text : List ℕ) (ended : Ended) : Type 0 where
   pub course : Course
   pub takes : TakesCourse step old new bytes course
   pub stop : Stop (messages_of course) ended
   pub text_is : text ≡ course_text course
 
--- The bytes came in reads of at most 65,536, from one count to another.
+-- The bytes came in reads of at most 65,536 bytes each; the counts are those before and after.
 pub record ComesInReads (bytes : List ℕ) (before after : ℕ) : Type 0 where
   pub counted : before ≤ after
   pub pace : length bytes ≤ 65536 * (after - before)
 
--- Each reply was written, and the conversation continues.
+-- Nothing of the replies is missing from the output, and no request has asked to close.
 pub record IsBetween (c : Course) (lost : List ℕ) : Type 0 where
   pub refusal : c.refusal ≡ None
   pub lost_is : lost ≡ []
   pub goes_on : one_asks (requests_of c.exchanges) ≡ false
 
--- The text is that of the last reply: the closing refusal, or the last exchange.
+-- The text of the last reply: the closing refusal, or the reply to the last request.
 abbrev pub IsLastReply : Course → List ℕ → Type 0
 IsLastReply c text =
     ((refusal : Refusal) × (c.refusal ≡ Some refusal) × (text ≡ refusal_text (Some refusal)))
     ⊎ ((before : List Exchange) × (x : Exchange) × (c.exchanges ≡ before ++ x ∷ []) × (c.refusal ≡ None) × (text ≡ exchange_text x))
 
--- Where a fault comes, and what is lost: reading, before unfinished bytes; writing, inside a reply;
--- lack of memory, between messages or with a whole reply.
+-- When an error occurs, and which text is lost. While reading: before the end of a message, and no
+-- text. While writing: in the last reply, and the rest of it. For lack of memory: between messages
+-- and no text, or before the last reply and all of it.
 abbrev pub ComesAt : ServeFault → Course → List ℕ → ℕ → ℕ → Type 0
 ComesAt Read c lost before after = IsBetween c lost × IsUnfinished c.rest × (before < after)
 ComesAt TooManyReads c lost before after = IsBetween c lost × IsUnfinished c.rest × (after ≡ 1048576)
 ComesAt Write c lost before after = (part : List ℕ) × IsLastReply c (part ++ lost) × (lost ≢ [])
 ComesAt NoMemory c lost before after = (IsBetween c lost × HasNoRefusal c.rest) ⊎ IsLastReply c lost
 
--- A fault broke off the conversation of these bytes after this text, a beginning of the replies.
+-- A conversation that an error broke off: the bytes read, and the text written, which is a
+-- beginning of the text of the replies.
 pub record BreaksOff {S : Type 0} (step : Step S) (old new : S) (bytes text : List ℕ) (fault : ServeFault)
     (before after : ℕ) : Type 0 where
   pub course : Course

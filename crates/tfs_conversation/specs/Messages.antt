@@ -7,28 +7,29 @@ use Rattle.tfs_framing.specs.Framing.{ReadsMessage, IsUnfinished, framing_refusa
 use Rattle.tfs_conversation.specs.declared.ended.Ended.{Ended}
 use Rattle.tfs_conversation.specs.declared.ended.Ended.TheVariants.{Clean, Cut, Asked, Refused}
 
--- A message and the bytes after it.
+-- The bytes begin with one message, of this request; the rest follows.
 pub record IsMessage (bytes : List ℕ) (r : RequestValue) (behind : List ℕ) : Type 0 where
   pub frame : List ℕ
   pub parts : bytes ≡ frame ++ behind
   pub reads : ReadsMessage frame r
 
--- Returns whether a request asks to close (RFC 9112, section 9.6).
+-- Whether a request asks to close (RFC 9112, section 9.6).
 abbrev pub one_asks : List RequestValue → Bool
 one_asks requests = list_any (λ r. r.close) requests
 
--- The bytes are the messages of the requests, of which only the last may ask to close, and a rest.
+-- The bytes are the messages of these requests and then a rest. Only the last request may ask to
+-- close.
 abbrev pub AreMessages : List ℕ → List RequestValue → List ℕ → Type 0
 AreMessages bytes [] rest = bytes ≡ rest
 AreMessages bytes (r ∷ rs) rest = (behind : List ℕ) × IsMessage bytes r behind × (r.close ≡ true → rs ≡ []) × AreMessages behind rs rest
 
--- Requests, the bytes after their messages, and the refusal of those, if any.
+-- Requests, the bytes after their messages, and the refusal of these bytes, if any.
 pub record Messages : Type 0 where
   pub requests : List RequestValue
   pub rest : List ℕ
   pub refusal : Option Refusal
 
--- The rest is refused so, if it was looked at, after no request to close.
+-- If there is a refusal, it is framing's refusal of the rest, and no request asked to close.
 abbrev pub IsRefused : Bool → List ℕ → Option Refusal → Type 0
 IsRefused asked rest refusal = IfSome refusal (λ r. (asked ≡ false) × framing_refusal rest r)
 
@@ -37,14 +38,14 @@ pub record HasMessages (bytes : List ℕ) (m : Messages) : Type 0 where
   pub messages : AreMessages bytes m.requests m.rest
   pub refused : IsRefused (one_asks m.requests) m.rest m.refusal
 
--- How messages stop: after one that asks to close; or else at the end, inside a message, or with a
--- refusal.
+-- How messages stop: after a request that asks to close, at the end of the bytes, inside a message,
+-- or with a refusal.
 abbrev pub StopsAt : Bool → List ℕ → Option Refusal → Ended → Type 0
 StopsAt asked rest refusal Clean = (asked ≡ false) × (rest ≡ []) × (refusal ≡ None)
 StopsAt asked rest refusal Cut = (asked ≡ false) × ¬ (rest ≡ []) × IsUnfinished rest × (refusal ≡ None)
 StopsAt asked rest refusal Asked = (asked ≡ true) × (refusal ≡ None)
 StopsAt asked rest refusal Refused = (r : Refusal) × (refusal ≡ Some r)
 
--- The messages stop so.
+-- How the messages of a list of bytes stop.
 abbrev pub Stop : Messages → Ended → Type 0
 Stop m ended = StopsAt (one_asks m.requests) m.rest m.refusal ended

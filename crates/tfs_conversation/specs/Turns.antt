@@ -1,4 +1,4 @@
--- The turns of a conversation.
+-- The steps of a conversation.
 use Rattle.std.specs.Prelude.{◌≡◌, ◌<◌, ◌+◌, ◌-◌, ◌*◌, ℕ, List, ◌++◌, length, Option, None, false}
 use Rattle.std.specs.Io.KnownBytes.{Appends, Consumes}
 use Rattle.tfs_conversation.specs.Conversation.{Step, Exchange, requests_of, Course, replies_text, TakesCourse, IsReadThrough, ComesInReads, Converses, BreaksOff}
@@ -7,14 +7,15 @@ use Rattle.tfs_conversation.specs.declared.ended.Ended.{Ended}
 use Rattle.tfs_http.specs.declared.fault.ServeFault.{ServeFault}
 use Rattle.tfs_http.specs.declared.fault.ServeFault.TheVariants.{Read, Write, TooManyReads, NoMemory}
 
--- A fault while reading, between two counts of reads.
+-- An error while reading, with the counts of reads before and after.
 abbrev pub FailsReading : ServeFault → ℕ → ℕ → Type 0
 FailsReading Read before after = before < after
 FailsReading Write before after = ⊥
 FailsReading TooManyReads before after = after ≡ 1048576
 FailsReading NoMemory before after = Unit {0}
 
--- A conversation at a moment: desk, unread and written bytes, reads, and unused input.
+-- A conversation at a moment: the desk, the bytes left to read, the bytes written, the count of
+-- reads, and the input that no message has used yet.
 pub record Moment (S : Type 0) : Type 0 where
   pub desk : S
   pub reader : Option (List ℕ)
@@ -22,11 +23,11 @@ pub record Moment (S : Type 0) : Type 0 where
   pub reads : ℕ
   pub input : List ℕ
 
--- The moment of these.
+-- The moment with these parts.
 abbrev pub moment : {S : Type 0} → S → Option (List ℕ) → Option (List ℕ) → ℕ → List ℕ → Moment S
 moment desk reader writer reads input = record { desk = desk; reader = reader; writer = writer; reads = reads; input = input }
 
--- These bytes were read and this text written.
+-- Between two moments these bytes were read and this text was written.
 pub record Moved {S : Type 0} (from to : Moment S) (bytes text : List ℕ) : Type 0 where
   pub consumed : Consumes from.reader to.reader bytes
   pub appended : Appends from.writer to.writer text
@@ -36,21 +37,21 @@ pub record Moved {S : Type 0} (from to : Moment S) (bytes text : List ℕ) : Typ
 abbrev pub course_of : List Exchange → List ℕ → Course
 course_of exchanges rest = record { exchanges = exchanges; rest = rest; refusal = None }
 
--- The bytes were served up to a rest, and no request asked to close.
+-- The bytes were answered up to a rest, and no request asked to close.
 pub record HasServed {S : Type 0} (step : Step S) (old new : S) (bytes rest text : List ℕ) : Type 0 where
   pub exchanges : List Exchange
   pub takes : TakesCourse step old new bytes (course_of exchanges rest)
   pub goes_on : one_asks (requests_of exchanges) ≡ false
   pub text_is : text ≡ replies_text exchanges
 
--- The conversation continues.
+-- From one moment to the other the conversation continues.
 pub record Went {S : Type 0} (step : Step S) (from to : Moment S) : Type 0 where
   pub more : List ℕ
   pub text : List ℕ
   pub moved : Moved from to more text
   pub served : HasServed step from.desk to.desk (from.input ++ more) to.input text
 
--- The conversation has ended so.
+-- From one moment to the other the conversation ends.
 pub record HasEnded {S : Type 0} (step : Step S) (from to : Moment S) (ended : Ended) : Type 0 where
   pub more : List ℕ
   pub text : List ℕ
@@ -58,13 +59,13 @@ pub record HasEnded {S : Type 0} (step : Step S) (from to : Moment S) (ended : E
   pub converses : Converses step from.desk to.desk (from.input ++ more) text ended
   pub through : IsReadThrough ended to.reader
 
--- A fault broke it off.
+-- From one moment to the other an error breaks the conversation off.
 pub record HasBroken {S : Type 0} (step : Step S) (from to : Moment S) (fault : ServeFault) : Type 0 where
   pub more : List ℕ
   pub text : List ℕ
   pub moved : Moved from to more text
   pub breaks : BreaksOff step from.desk to.desk (from.input ++ more) text fault from.reads to.reads
 
--- A bound on the turns to come: each reads, or uses a byte.
+-- A bound on the number of steps left: each step makes a read or uses at least one byte.
 abbrev pub work_left : ℕ → List ℕ → ℕ
 work_left reads input = (1048576 - reads) * (65536 + 1) + length input

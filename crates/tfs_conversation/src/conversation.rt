@@ -1,4 +1,4 @@
-//! Conversations: requests in, replies out, and what answers the calls.
+//! Conversations: requests in, replies out, and the desk that answers the calls.
 
 ghost use Rattle.std.specs.Prelude.{◌≡◌, ◌≤◌, ◌<◌, ◌⊎◌, ◌++◌, ℕ, List, [], length, Some, None, Ok, if◌then◌else◌, IfOk, IfErr, IfSome, OnOk};
 ghost use Rattle.std.specs.Io.KnownBytes.{Appends, Consumes};
@@ -21,29 +21,29 @@ use tfs_http::{
     JOINED_BYTES, Outlet, Routes, ServeFault, Source, body_of, call_of, write_head, write_joined,
 };
 
-/// The form of a reply after which the conversation ends.
+/// The form of the reply that refuses a message and ends the conversation.
 const CLOSING: Form = Form {
     close: true,
     bare: false,
 };
 
-/// Answers calls one after the other.
+/// A service that answers calls one after the other.
 pub trait Desk {
     ghost use Rattle.tfs_calls.specs.declared.call.Call.{Call};
     ghost use Rattle.tfs_calls.specs.Draft.{CarriesFittingState};
     ghost use Rattle.tfs_calls.specs.Reply.{ReplyValue, reply_value};
 
-    // From the first value a call may get the reply and leave the second value.
+    // The steps: from the first value, the call may get the reply and leave the second value.
     ghost step: { Self → Call → ReplyValue → Self → Type 0 };
 
-    /// Answers a call, whose body has at most 16 MiB.
+    /// Answers a call. Its body has at most 16 MiB.
     fn answer(&mut self, call: Call) -> Reply
         requires fitting { CarriesFittingState call }
         ensures answered { step self.old call (reply_value result) self.new };
 }
 
-/// Answers each message as soon as it is whole, until the input ends, a request asks to close, or a message is refused whose
-/// end isn't known. Each read is counted before it is made.
+/// Answers each message as soon as it is complete, until the input ends, a request asks to close,
+/// or a message whose end isn't known is refused. Each read is counted before it is made.
 pub fn converse<R: Source, W: Outlet, D: Desk>(
     alloc: Global,
     reader: &mut R,
@@ -71,18 +71,19 @@ pub fn converse<R: Source, W: Outlet, D: Desk>(
     run(&mut connection, reader, writer, desk, reads)
 }
 
-/// What a conversation keeps of its own.
+/// The memory of a conversation.
 #[derive(Drop)]
 struct Connection {
     alloc: Global,
     routes: Routes,
     input: Input,
-    /// Where the text of a reply is put together. It has room for what is written at once, and keeps it.
+    /// The buffer for the text of a reply. It has the capacity for what one write takes, and keeps
+    /// it.
     text: Vec<u8>,
 }
 
 impl Connection {
-    /// No bytes were read yet.
+    /// Makes a connection that has read nothing yet.
     fn new(alloc: Global) -> Result<Connection, AllocError>
         ensures { IfOk result (λ connection. connection.input ≡ []) }
     {
@@ -95,7 +96,7 @@ impl Connection {
     }
 }
 
-/// Takes turns until the conversation ends.
+/// Reads and answers until the conversation ends.
 fn run<R: Source, W: Outlet, D: Desk>(
     connection: &mut Connection,
     reader: &mut R,
@@ -122,8 +123,8 @@ fn run<R: Source, W: Outlet, D: Desk>(
     }
 }
 
-/// Reads more where more is wanted, or else answers the message that comes first. Tells how the conversation ends, if it
-/// does.
+/// Reads once if no message is complete, or else answers the first message. Returns how the
+/// conversation ends, if it does.
 fn turn<R: Source, W: Outlet, D: Desk>(
     connection: &mut Connection,
     reader: &mut R,
@@ -172,7 +173,7 @@ fn turn<R: Source, W: Outlet, D: Desk>(
     }
 }
 
-/// How the conversation ends after a reply, if it does.
+/// Returns how the conversation ends after a reply, if it does.
 fn end_after(asks_to_close: bool) -> Option<Ended>
     ensures { result ≡ (if asks_to_close then Some Asked else None) }
 {
@@ -183,7 +184,7 @@ fn end_after(asks_to_close: bool) -> Option<Ended>
     }
 }
 
-/// Answers a request, and writes the text of the reply in the form that it asks for.
+/// Answers a request, and writes the reply in the form that the request asks for.
 fn reply_to<W: Outlet, D: Desk>(
     connection: &mut Connection,
     writer: &mut W,
@@ -204,7 +205,7 @@ fn reply_to<W: Outlet, D: Desk>(
     send(connection.alloc, &mut connection.text, writer, &reply, form)
 }
 
-/// The reply to a request: its refusal by routing, or the desk's.
+/// Returns the reply to a request: a refusal by routing, or the desk's answer.
 fn answer<D: Desk>(alloc: Global, routes: &Routes, desk: &mut D, request: Request) -> Reply
     requires { length request.body ≤ 16777216 }
     ensures { AnswersRequest D.step desk.old request (reply_value result) desk.new }
@@ -215,7 +216,8 @@ fn answer<D: Desk>(alloc: Global, routes: &Routes, desk: &mut D, request: Reques
     }
 }
 
-/// Writes the text of a reply, by way of a vector whose bytes go; after a fault a part of it is written.
+/// Writes the text of a reply. The buffer `text` is overwritten. After an error only a part of the
+/// text was written.
 fn send<W: Outlet>(
     alloc: Global,
     text: &mut Vec<u8>,
@@ -233,7 +235,7 @@ fn send<W: Outlet>(
     send_whole(alloc, text, writer, reply, form)
 }
 
-/// The same, with the whole body at once.
+/// Writes the text of a reply as `send` does, with its whole body in memory.
 fn send_whole<W: Outlet>(
     alloc: Global,
     text: &mut Vec<u8>,
@@ -255,7 +257,7 @@ fn send_whole<W: Outlet>(
     write_joined(writer, text, shown(form, body.as_slice()))
 }
 
-/// What of a body goes out in a form.
+/// Returns what a form sends of a body: nothing of it if the form is bare.
 fn shown(form: Form, body: &[u8]) -> &[u8]
     ensures { result.now ≡ (if form.bare then [] else body.now) }
 {

@@ -1,6 +1,6 @@
 //! How conversations end.
 
-/// How a conversation ended.
+/// How a conversation ended, if no error broke it off.
 #[derive(Clone, Copy, Debug, PartialEq, Eq)]
 pub enum Ended {
     /// The input ended between messages.
@@ -9,6 +9,6 @@ pub enum Ended {
     Cut,
     /// A request asked to close.
     Asked,
-    /// A message was refused whose end isn't known.
+    /// A message whose end isn't known was refused.
     Refused,
 }

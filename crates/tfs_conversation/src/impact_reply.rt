@@ -1,4 +1,4 @@
-//! The reply to a query for the impact of changes, whose body is told in pieces.
+//! The reply to an impact query, whose body is written in pieces.
 
 ghost use Rattle.std.specs.Prelude.{◌≡◌, [], ◌++◌, IsTrue, IfOk, IfErr, OnOk};
 ghost use Rattle.std.specs.Arc.{arc_value};
@@ -16,10 +16,11 @@ use tfs_http::{
     write_out,
 };
 
-/// Room for the head of an answer, whose length has at most 39 digits.
+/// The capacity for the head of a reply, whose Content-Length has at most 39 digits.
 const HEAD_BYTES: usize = 160;
 
-/// What is made of a reply before any of it is written: its head, and what is left of its body behind the first bytes.
+/// A reply before its first byte is written: its head, and the rest of its body after the first
+/// piece.
 #[derive(Drop)]
 struct BegunReply<'r> {
     head: Vec<u8>,
@@ -27,8 +28,8 @@ struct BegunReply<'r> {
     is_whole: bool,
 }
 
-/// Writes the reply to a query, by way of a vector whose bytes go. The memory that it takes is asked for before the first byte is written,
-/// and doesn't depend on how long the body is.
+/// Writes the reply to an impact query. The buffer `text` is overwritten. All memory is allocated
+/// before the first byte is written, and its size doesn't depend on the length of the body.
 pub(crate) fn send_impact<W: Outlet>(
     alloc: Global,
     text: &mut Vec<u8>,
@@ -51,7 +52,7 @@ pub(crate) fn send_impact<W: Outlet>(
     write_begun(writer, text, begun)
 }
 
-/// Makes the head of a reply, and puts the first bytes of its body into a vector whose bytes go.
+/// Makes the head of a reply, and overwrites `text` with the first piece of its body.
 fn begin<'r>(
     alloc: Global,
     text: &mut Vec<u8>,
@@ -77,7 +78,7 @@ fn begin<'r>(
     })
 }
 
-/// Writes a head, the first bytes of a body, and what is left of it.
+/// Writes a head, the first piece of a body, and the rest of it.
 fn write_begun<W: Outlet>(
     writer: &mut W,
     text: &mut Vec<u8>,

@@ -10,8 +10,9 @@ use tfs_calls::answers_of_the_model_are_undisturbed;
 use tfs_framing::what_bytes_begin_with_is_one_thing_and_stays;
 use tfs_http::what_becomes_of_a_request_is_one_thing;
 
-/// Each list of bytes has messages, and these are one list: the requests, the bytes behind their messages, the refusal of those if
-/// there is one, and how the messages stop. No desk has a part in it.
+/// Proves that each list of bytes has exactly one list of messages: the requests, the bytes after
+/// their messages, the refusal of these bytes if there is one, and how the messages stop. They
+/// don't depend on a desk.
 pub fn bytes_have_one_list_of_messages()
     ensures some { (bytes : List ℕ) → (m : Messages) × (ended : Ended) × HasMessages bytes m × Stop m ended }
     ensures once { (bytes : List ℕ) (m n : Messages) (ended end : Ended) → HasMessages bytes m → Stop m ended
@@ -20,8 +21,8 @@ pub fn bytes_have_one_list_of_messages()
     what_bytes_begin_with_is_one_thing_and_stays();
 }
 
-/// Over a table, bytes have an output: each list of bytes, whatever table there is, where no request for memory is refused and the
-/// sink doesn't fail.
+/// Proves that each list of bytes has an output over each table, if no request for memory is
+/// refused and the sink doesn't fail.
 pub fn bytes_have_an_output()
     ensures some { (old : TableValue) (bytes : List ℕ)
         → (new : TableValue) × (text : List ℕ) × (ended : Ended) × HasOutput old new bytes text ended }
@@ -31,9 +32,10 @@ pub fn bytes_have_an_output()
     answers_of_the_model_are_undisturbed();
 }
 
-/// Over a table, bytes have one output: the text, the journal that is left, whether the table is stopped then, and how the
-/// conversation ends are functions of the bytes, of the journal at the start and of whether the table was stopped, however the
-/// bytes came and wherever the journal goes.
+/// Proves that bytes have at most one output over a table. The text, the journal after the
+/// conversation, whether the table is then stopped, and how the conversation ends are functions of
+/// the bytes, of the journal at the start, and of whether the table was stopped. They don't depend
+/// on how the bytes were cut into reads or on the sink.
 pub fn bytes_have_one_output()
     ensures model { (old new start other : TableValue) (bytes text also : List ℕ) (ended end : Ended) → model_of old ≡ model_of start
         → HasOutput old new bytes text ended → HasOutput start other bytes also end → model_of new ≡ model_of other }

@@ -1,5 +1,5 @@
-//! Conversations over a connection: requests in, replies out, and a desk that answers the calls, such as one that asks a table. The
-//! work of the commands that read a journal is here too.
+//! Conversations over a connection: requests in, replies out, and desks that answer the calls, such
+//! as one over a table. Also the work of the commands that read a journal.
 #![tactic(auto)]
 
 mod check;

@@ -4,10 +4,10 @@ ghost use Rattle.std.specs.Prelude.{◌≡◌, ◌+◌, ◌≤◌, true, false};
 
 use std::marker::Model;
 
-/// The most reads of a conversation.
+/// The maximal number of reads of a conversation.
 pub const MAX_READS: u64 = 1_048_576;
 
-/// How many reads a conversation has made; each is counted before it is made.
+/// The number of reads of a conversation. Each read is counted before it is made.
 #[derive(Drop)]
 pub struct Reads {
     used: u64,
@@ -24,14 +24,14 @@ impl Model for Reads {
 }
 
 impl Reads {
-    /// No reads.
+    /// Makes a count of no reads.
     pub fn new() -> Reads
         ensures value { result ≡ 0 }
     {
         Reads { used: 0 }
     }
 
-    /// How many reads were made.
+    /// Returns the number of reads.
     pub fn used(&self) -> u64
         ensures value { result ≡ self.now }
         ensures limit { result ≤ 1048576 }
@@ -39,7 +39,7 @@ impl Reads {
         self.used
     }
 
-    /// Counts one more read; false where there were as many as there may be.
+    /// Counts one more read. Returns false, and counts nothing, if the maximum was reached.
     pub(crate) fn count(&mut self) -> bool
         ensures counted { result ≡ true → (self.new ≡ self.old + 1) × (self.new ≤ 1048576) }
         ensures full { result ≡ false → (self.new ≡ self.old) × (self.old ≡ 1048576) }

@@ -1,4 +1,4 @@
-//! The desk over a lent table, and conversations over it.
+//! A desk over a borrowed table, and conversations over it.
 
 ghost use Rattle.std.specs.Prelude.{◌≡◌, ℕ, List, IfOk, IfErr};
 ghost use Rattle.std.specs.Io.KnownBytes.{Appends, Consumes};
@@ -20,7 +20,7 @@ use tfs_records::Sink;
 use tfs_rules::Name;
 use tfs_table::Table;
 
-/// A desk that asks a table, which it is lent.
+/// A desk that answers from a borrowed table.
 #[derive(Drop)]
 pub struct TableDesk<'t, K: Sink> {
     pub alloc: Global,
@@ -31,7 +31,7 @@ impl<'t, K: Sink> Desk for TableDesk<'t, K> {
     ghost use Rattle.std.specs.Prelude.{◌≡◌};
     ghost use Rattle.tfs_conversation.specs.Desk.{AnswersCall};
 
-    // The desk keeps its loan, and the table answers.
+    // The desk keeps borrowing the same table, and the table answers.
     ghost step = { λ old call reply new. (new.table.ghost_name ≡ old.table.ghost_name)
         × AnswersCall old.table.now call reply new.table.now };
 
@@ -41,7 +41,8 @@ impl<'t, K: Sink> Desk for TableDesk<'t, K> {
     }
 }
 
-/// The same desk, which reads the states of all changes over room that it is lent.
+/// A desk that answers from a borrowed table, and reads the states of all changes with the same
+/// borrowed scratch memory.
 #[derive(Drop)]
 struct LentDesk<'t, K: Sink> {
     alloc: Global,
@@ -61,7 +62,7 @@ impl<'t, K: Sink> Desk for LentDesk<'t, K> {
     }
 }
 
-/// The reply to a call. A state is read over the room of a scratch.
+/// Answers a call. A pushed state is read with the scratch memory.
 fn reply_to<K: Sink>(
     alloc: Global,
     table: &mut Table<K>,
@@ -78,7 +79,7 @@ fn reply_to<K: Sink>(
     }
 }
 
-/// The state of a name.
+/// Returns the state of a name.
 #[tactic(auto, using(crate::proofs::DeskLemmas::lacks_by))]
 fn read<K: Sink>(table: &Table<K>, name: &Name) -> Reply
     ensures { AnswersCall table.now (CallRead name.now) (reply_value result) table.now }
@@ -89,7 +90,7 @@ fn read<K: Sink>(table: &Table<K>, name: &Name) -> Reply
     }
 }
 
-/// What a query chooses in the state of a name.
+/// Returns the instances that a query selects in the state of a name.
 #[tactic(auto, using(crate::proofs::DeskLemmas::lacks_by))]
 fn ask<K: Sink>(table: &Table<K>, name: &Name, query: &Query) -> Reply
     ensures { AnswersCall table.now (Impact name.now query.now) (reply_value result) table.now }
@@ -100,7 +101,7 @@ fn ask<K: Sink>(table: &Table<K>, name: &Name, query: &Query) -> Reply
     }
 }
 
-/// Changes the workspace of a name. A state is read over the room of a scratch.
+/// Changes the workspace of a name. A pushed state is read with the scratch memory.
 #[tactic(auto, using(crate::proofs::DeskLemmas::unread_lacks, crate::proofs::DeskLemmas::applied_lacks))]
 fn change<K: Sink>(
     alloc: Global,
@@ -123,7 +124,8 @@ fn change<K: Sink>(
     }
 }
 
-/// A conversation over a lent table: the table takes the steps of its transition for the calls of the messages, in order.
+/// Holds a conversation over a borrowed table. The table makes its transitions for the calls of the
+/// messages, in order.
 pub fn converse_over_table<R: Source, W: Outlet, K: Sink>(
     alloc: Global,
     reader: &mut R,
@@ -155,7 +157,7 @@ pub fn converse_over_table<R: Source, W: Outlet, K: Sink>(
     converse_over_loan(reader, writer, &mut desk, reads)
 }
 
-/// The same over the desk, which keeps its loan.
+/// Holds a conversation over the desk, which keeps borrowing the same table.
 fn converse_over_loan<R: Source, W: Outlet, K: Sink>(
     reader: &mut R,
     writer: &mut W,

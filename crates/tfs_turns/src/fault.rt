@@ -1,28 +1,28 @@
-//! Why a turn isn't made, or terms end.
+//! Errors of compactions and runs.
 
 use tfs_files::Fault;
 use tfs_serve::Obstacle;
 use tfs_table::OpenFault;
 use tfs_terms::{Finish, Unturned};
 
-/// Why a turn isn't made, or a term doesn't begin.
+/// The error of a compaction that isn't done, or of a run that doesn't start.
 #[derive(Clone, Copy)]
 pub(crate) enum TurnFault {
     /// A request for memory was refused.
     NoMemory,
-    /// Where it listens could not be told.
+    /// The address of the listener couldn't be printed.
     Write,
-    /// The next journal has a number of more than ten digits.
+    /// The next journal's number would have more than ten digits.
     TooFar,
-    /// The next journal could not be made, or not get its name.
+    /// The next journal couldn't be made, or couldn't get its name.
     CannotWrite,
-    /// The next journal has its name, but that may not be durable.
+    /// The next journal has its name, but the name may not be durable.
     Unsynced,
     /// The folder, its journal or its lock file was replaced.
     Replaced,
 }
 
-/// The fault of the program.
+/// Returns the program's error for an error of a compaction.
 pub(crate) fn fault_of(fault: TurnFault) -> Fault {
     match fault {
         TurnFault::NoMemory => Fault::OutOfMemory,
@@ -33,7 +33,7 @@ pub(crate) fn fault_of(fault: TurnFault) -> Fault {
     }
 }
 
-/// Why a journal isn't rebased.
+/// Returns the error of a journal that isn't rebased.
 pub(crate) fn fault_of_opening(fault: OpenFault) -> TurnFault {
     match fault {
         OpenFault::NoMemory => TurnFault::NoMemory,
@@ -42,8 +42,11 @@ pub(crate) fn fault_of_opening(fault: OpenFault) -> TurnFault {
     }
 }
 
-/// Why terms end that left a table with a journal that has stopped, or not. A term that may lack what a worker had seen has ended with its
-/// workers.
+/// Returns why the runs ended. `has_stopped` is true if the journal of the last run's table has
+/// stopped.
+///
+/// `NoCopy`, after which the table may lack something that a worker had seen, counts as an error of
+/// accept.
 pub(crate) fn end_of(finish: Finish<TurnFault>, has_stopped: bool) -> Fault {
     match finish {
         Finish::Ended | Finish::Unturned(Unturned::Stopped) => {

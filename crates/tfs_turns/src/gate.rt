@@ -1,5 +1,6 @@
-//! The gates of a server's workers: they have a reply wait until what it tells is durable, keep the file of the least position up, have a
-//! term end that has grown by as much as it may, and end a server that can't write or sync its journal.
+//! The gates of a server's workers. They hold a reply back until what it reports is durable, raise
+//! the position in the file of the least position, end a run whose journal has grown by its bound,
+//! and end a server that can't write or sync its journal.
 
 use crate::underway::{Underway, number_of};
 use crate::watch::Watch;
@@ -9,11 +10,18 @@ use tfs_files::{PositionFile, ServedJournal};
 use tfs_serve::Gate;
 use tfs_table::{Call, Refusal, Reply};
 
-/// A gate that takes every connection until conversations are to end. Before a reply is written, all is durable that was written to the journal
-/// by then; once that can't be had, nothing more is written to anybody. Before an accepted change is acknowledged, the folder, its journal and its
-/// lock file are compared with the opened ones; one comparison may serve all changes of a sync. A read of a state tells of its name alone, and waits
-/// only while a worker changes that name: the change before is durable once its worker is done. It raises the least position with each change that
-/// is accepted: once the change is durable, and without a sync; where the file can't be written, it lags behind.
+/// A gate that admits every connection until conversations are to end.
+///
+/// Before a reply is written, everything written to the journal so far is synced; once a sync has
+/// failed, nothing more is written to any client. The exception is a read of a state: it reports
+/// about one name, and waits only while a worker changes that name, because the change before is
+/// durable once its worker is done.
+///
+/// Before an accepted change is acknowledged, the folder, its journal and its lock file are
+/// compared with the opened ones; one comparison may serve all changes of a sync.
+///
+/// The gate raises the least position with each accepted change, after the change is durable and
+/// without a sync. If the file can't be written, its position lags.
 #[derive(Drop)]
 pub(crate) struct Watching<'g, R: AllocGlobal + Wait> {
     pub(crate) rt: &'g R,
@@ -24,12 +32,12 @@ pub(crate) struct Watching<'g, R: AllocGlobal + Wait> {
     pub(crate) serves_reads: bool,
     pub(crate) underway: Arc<Underway>,
     pub(crate) worker: usize,
-    /// The number of the name that is read.
+    /// The number of the name that the current call reads, if it reads a state.
     pub(crate) read: Option<u64>,
 }
 
 impl<'g, R: AllocGlobal + Wait> Watching<'g, R> {
-    /// Raises the position of the file, where there is one.
+    /// Raises the position in the file, if there is one.
     fn raise(&self, position: u64) {
         let mut guard = self.least.lock(self.rt);
         if let Some(file) = &mut *guard {
@@ -38,7 +46,8 @@ impl<'g, R: AllocGlobal + Wait> Watching<'g, R> {
         MutexGuard::unlock(guard);
     }
 
-    /// How many bytes have to be durable before the reply: all that are written, but for a read of a name that nobody changes.
+    /// Returns how many bytes must be durable before the reply: all written ones, or none for a
+    /// read of a name that nobody is changing.
     fn due(&self) -> u64 {
         match self.read {
             Some(number) if !self.underway.has(number) => 0,

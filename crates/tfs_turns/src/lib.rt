@@ -1,4 +1,4 @@
-//! Terms of a folder: a server that goes on in a shorter journal while it runs.
+//! Serving a folder in runs: a server that compacts its journal while it runs.
 #![tactic(auto)]
 
 mod fault;

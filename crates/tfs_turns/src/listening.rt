@@ -1,4 +1,4 @@
-//! The listener of a folder's terms.
+//! The listener of a folder's runs.
 
 use crate::watch::Watch;
 use std::io;
@@ -7,7 +7,8 @@ use std::sync::Arc;
 use tfs_files::ServedJournal;
 use tfs_serve::{AnyListener, AnyStream};
 
-/// A listener that is lent to a term. Where a wait for a connection looks up, it looks whether a turn is due.
+/// A listener that a run borrows. When a wait for a connection times out, it checks whether a
+/// compaction is due.
 #[derive(Drop)]
 pub(crate) struct Listening<'l> {
     pub(crate) listener: &'l AnyListener,

@@ -1,9 +1,10 @@
-//! Moments of the clock, in milliseconds.
+//! Moments in time, in milliseconds.
 
 use std::sync::atomic::{AtomicU64, Ordering};
 use std::time::Clock;
 
-/// The milliseconds since a start that stays the same while the program runs; 0 where no clock tells.
+/// Returns the milliseconds since a start that is fixed while the program runs, or 0 if the clock
+/// fails.
 pub(crate) fn now(rt: &impl Clock) -> u64 {
     match rt.monotonic() {
         Ok(now) => u64::try_from(now.as_millis()).unwrap_or(u64::MAX),
@@ -16,22 +17,22 @@ pub(crate) fn now(rt: &impl Clock) -> u64 {
 pub(crate) struct Moment(AtomicU64);
 
 impl Moment {
-    /// The moment of so many milliseconds.
+    /// Makes a moment at this many milliseconds.
     pub(crate) fn new(at: u64) -> Moment {
         Moment(AtomicU64::new(at))
     }
 
-    /// Moves it.
+    /// Sets the moment.
     pub(crate) fn set(&self, at: u64) {
         self.0.store(at, Ordering::SeqCst);
     }
 
-    /// Whether it has come.
+    /// Returns true if the moment has come.
     pub(crate) fn has_come(&self, now: u64) -> bool {
         self.0.load(Ordering::SeqCst) <= now
     }
 
-    /// How many milliseconds have gone by since then.
+    /// Returns how many milliseconds have passed since the moment.
     pub(crate) fn ago(&self, now: u64) -> u64 {
         now.saturating_sub(self.0.load(Ordering::SeqCst))
     }

@@ -1,10 +1,11 @@
-//! What a term tells once it begins.
+//! What a run reports when it starts.
 
 use crate::serve::Plan;
 use std::io::{self, Write};
 use tfs_files::Fault;
 
-/// A turn that was made: the number and the position of the new journal, its names, and the lengths of the old one and of the new one.
+/// A compaction that was done: the number and the position of the new journal, the number of its
+/// names, and the lengths of the old and the new journal in bytes.
 #[derive(Clone, Copy)]
 pub(crate) struct Turned {
     pub(crate) number: u64,
@@ -14,21 +15,22 @@ pub(crate) struct Turned {
     pub(crate) after: u64,
 }
 
-/// What is to be told.
+/// What to report.
 #[derive(Clone, Copy)]
 pub(crate) enum News {
-    /// The first term begins.
+    /// The first run starts.
     First,
-    /// The journal goes on in a shorter one.
+    /// The journal was compacted.
     Turned(Turned),
-    /// The journal goes on, since the one of this number couldn't be made.
+    /// The old journal is still served, because the one of this number couldn't be made.
     Stayed(u64, Fault),
-    /// Nothing.
+    /// There is nothing to report.
     Nothing,
 }
 
 impl News {
-    /// Tells it, with the milliseconds that requests waited. Only where the server listens has to be told.
+    /// Prints the report, with the milliseconds that requests waited. Only the first one, which has
+    /// the server's address, can fail.
     pub(crate) fn tell(self, host: &HostRuntime, plan: &Plan<'_>, waited: u64) -> io::Result<()> {
         let folder = plan.folder;
         match self {
@@ -49,7 +51,7 @@ impl News {
 }
 
 impl Turned {
-    /// Tells of it on standard error.
+    /// Prints the report of a compaction on standard error.
     fn tell(self, host: &HostRuntime, folder: &str, waited: u64) -> io::Result<()> {
         let Turned {
             number,
@@ -66,7 +68,7 @@ requests waited {seconds}.{millis:03} s"
     }
 }
 
-/// Tells where it listens.
+/// Prints the server's address on standard output.
 fn tell_address(host: &HostRuntime, address: &str) -> io::Result<()> {
     let mut writer = io::writer(host);
     write!(writer, "listening {address}\n")?;

@@ -1,4 +1,4 @@
-//! A folder that is served in terms.
+//! Serving a folder in runs, with a compaction between two of them.
 
 ghost use Rattle.std.specs.Prelude.{◌≡◌, ◌≤◌};
 ghost use Rattle.tfs_terms.specs.Terms.{EndsOn, HoldsAll};
@@ -19,33 +19,34 @@ use tfs_serve::{AcceptFault, AnyListener};
 use tfs_table::Table;
 use tfs_terms::{Tally, serve_terms};
 
-/// How much the journal of a term may grow, in bytes and in entries, before the server goes on in a shorter one.
+/// How much the journal of a run may grow before it is compacted, in bytes and in entries.
 #[derive(Clone, Copy)]
 pub struct Bounds {
     pub bytes: u64,
     pub entries: u64,
 }
 
-/// What a folder is served with.
+/// How to serve a folder.
 #[derive(Drop)]
 pub struct Plan<'p> {
     /// The folder.
     pub folder: &'p str,
-    /// The address that the listener has, as it is told.
+    /// The listener's address, as it is printed.
     pub address: &'p str,
-    /// Which files of `old/` stay.
+    /// Which retired journals to keep.
     pub keep: Retention,
-    /// When a term is to end.
+    /// When to end a run for a compaction.
     pub bounds: Bounds,
     /// The number of workers.
     pub workers: usize,
-    /// Whether reads are still answered once the journal can't be written.
+    /// Whether to answer reads after the journal can't be written any more.
     pub serves_reads: bool,
     ghost some: { 1 ≤ workers },
     ghost few: { workers ≤ 16 },
 }
 
-/// What a start has made: the listener, whose waits look up, the file of the least position, the folder's newest journal, and the table over it.
+/// What a start has made: the listener, whose waits time out; the file of the least position; the
+/// folder's newest journal; and the table over it.
 #[derive(Drop)]
 pub struct Begun {
     pub listener: AnyListener,
@@ -54,18 +55,18 @@ pub struct Begun {
     pub table: Table<JournalSink>,
 }
 
-/// What the terms of a folder leave: the table of the last one, the fault that has ended them, and the first error, if any, that its workers
-/// were told by the listener.
+/// What the runs of a folder leave: the last run's table, the error that ended the runs, and the
+/// first error of accept that a worker got from the listener, if any.
 #[derive(Drop)]
 pub struct Left {
     pub table: Table<JournalSink>,
     pub fault: Fault,
     pub accepting: Option<AcceptFault>,
-    /// How many changes workers reported as accepted, by which only proofs count.
+    /// The number of changes that workers reported as accepted. Only proofs use it.
     pub reported: Tally,
 }
 
-/// Serves a folder in terms, until it ends by a fault.
+/// Serves a folder in runs, with a compaction between two of them, until an error ends it.
 pub fn serve_folder<R: AllocGlobal + Threads + Wait + Clock + Sync>(
     rt: &R,
     host: &HostRuntime,
@@ -117,7 +118,7 @@ pub fn serve_folder<R: AllocGlobal + Threads + Wait + Clock + Sync>(
     }
 }
 
-/// Returns the table of a folder that can't be read, of which no change was reported.
+/// Returns the result for a journal that can't be opened: its table, and no reported change.
 fn unread(table: Table<JournalSink>) -> Left
     ensures table { result.table ≡ table }
     ensures reported { result.reported.count ≡ 0 }
@@ -130,7 +131,8 @@ fn unread(table: Table<JournalSink>) -> Left
     }
 }
 
-/// Returns the fault that has ended the terms: a lost lock or a failed sync comes before that of the last term.
+/// Returns the error that ended the runs. A lost lock, and then a failed sync, takes precedence
+/// over the error of the last run.
 fn fault_after(lock: &FolderLock, watch: &Watch<'_>, last: Fault) -> Fault {
     if lock.is_lost() {
         Fault::Replaced
@@ -141,7 +143,7 @@ fn fault_after(lock: &FolderLock, watch: &Watch<'_>, last: Fault) -> Fault {
     }
 }
 
-/// A folder's journal of a number, as it is opened.
+/// Returns the folder's journal of a number, or `None` if it can't be opened or memory is refused.
 fn served_journal(host: &HostRuntime, folder: &str, number: u64) -> Option<Arc<ServedJournal>> {
     let journal = ServedJournal::named(host, folder, number).ok()?;
     Arc::new(host.alloc(), journal).ok()

@@ -1,4 +1,4 @@
-//! What a folder's terms are served with.
+//! The files, the listener and the gates of a folder's runs.
 
 ghost use Rattle.std.specs.Prelude.{◌≡◌, ◌<◌, length, IfOk};
 
@@ -21,7 +21,8 @@ use tfs_serve::{AcceptFault, AnyListener, AnyStream, Served, first_fault};
 use tfs_table::Table;
 use tfs_terms::{Tally, Terms, Unturned};
 
-/// The terms of a folder: what they share, what is to be told once the next one begins, and the journal that is in place.
+/// The runs of a folder: what they share, what to report when the next one starts, and the journal
+/// in place.
 #[derive(Drop)]
 pub(crate) struct Turning<'t, R: AllocGlobal + Wait> {
     pub(crate) rt: &'t R,
@@ -39,7 +40,7 @@ pub(crate) struct Turning<'t, R: AllocGlobal + Wait> {
 }
 
 impl<'t, R: AllocGlobal + Wait> Turning<'t, R> {
-    /// The number of the next journal.
+    /// Returns the number of the next journal.
     fn next_number(&self) -> Result<u64, TurnFault>
         ensures after { IfOk result (λ number. self.now.in_place.number < number) }
     {
@@ -49,7 +50,8 @@ impl<'t, R: AllocGlobal + Wait> Turning<'t, R> {
         }
     }
 
-    /// The journal goes on, since the next one isn't made: what was begun of it goes, and another try is made later.
+    /// Keeps the old journal, because the next one couldn't be made: removes its unfinished file,
+    /// and has the next attempt wait.
     fn stay(&self, fault: TurnFault) {
         self.watch.rest();
         if let Ok(number) = self.next_number() {
@@ -166,7 +168,7 @@ impl<'t, R: AllocGlobal + Wait + Sync> Terms for Turning<'t, R> {
     }
 }
 
-/// A gate for each worker.
+/// Makes a gate for each worker.
 fn gates_of<'t, R: AllocGlobal + Wait>(
     turning: &Turning<'t, R>,
     durable: &Arc<Durable<FileDevice>>,
@@ -183,7 +185,7 @@ fn gates_of<'t, R: AllocGlobal + Wait>(
     Ok(gates)
 }
 
-/// The gate of a worker.
+/// Makes the gate of a worker.
 fn gate_of<'t, R: AllocGlobal + Wait>(
     turning: &Turning<'t, R>,
     durable: Arc<Durable<FileDevice>>,

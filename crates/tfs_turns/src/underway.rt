@@ -1,20 +1,20 @@
-//! The names whose changes are underway.
+//! The names that workers are changing.
 
 use std::alloc::{AllocError, Global};
 use std::sync::atomic::{AtomicU64, Ordering};
 
-/// The name that no worker has.
+/// The number of no name.
 const NOBODY: u64 = 0;
 
-/// Of each worker the name that it changes, from before it asks for the change until that is durable. Names are told apart by a number of
-/// each, which two names may have in common: then one counts as the other.
+/// The name that each worker is changing, from before it asks for the change until the change is
+/// durable. Names are compared by a hash. Two names with the same hash count as one.
 #[derive(Drop)]
 pub(crate) struct Underway {
     names: Vec<AtomicU64>,
 }
 
 impl Underway {
-    /// So many workers, none of which changes anything.
+    /// Makes a list for this many workers that are changing nothing.
     pub(crate) fn new(alloc: Global, workers: usize) -> Result<Underway, AllocError> {
         let mut names = Vec::with_capacity(alloc, workers)?;
         for _ in 0..workers {
@@ -23,17 +23,17 @@ impl Underway {
         Ok(Underway { names })
     }
 
-    /// A worker changes the name of a number from now on.
+    /// Records that a worker is changing the name of this number.
     pub(crate) fn begin(&self, worker: usize, number: u64) {
         self.note(worker, number);
     }
 
-    /// A worker's change is durable, or there was none.
+    /// Records that a worker's change is durable, or that there was none.
     pub(crate) fn end(&self, worker: usize) {
         self.note(worker, NOBODY);
     }
 
-    /// Whether a worker changes the name of a number.
+    /// Returns true if a worker is changing the name of this number.
     pub(crate) fn has(&self, number: u64) -> bool {
         for name in self.names.as_slice() {
             if name.load(Ordering::SeqCst) == number {
@@ -50,7 +50,8 @@ impl Underway {
     }
 }
 
-/// The number of a name, which isn't that of nobody.
+/// Returns the number of a name: its 64-bit FNV-1a hash with the lowest bit set, so that it differs
+/// from `NOBODY`.
 pub(crate) fn number_of(name: &str) -> u64 {
     let mut number = 0xcbf2_9ce4_8422_2325u64;
     for byte in name.as_bytes() {

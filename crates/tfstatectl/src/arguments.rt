@@ -1,10 +1,10 @@
-//! The arguments of the program's commands, and how the parser of the command line takes them.
+//! The arguments of the program's commands, and their conversion for the command line parser.
 
 use clap::builder::ValueParser;
 use clap::{Arg, ArgAction};
 use std::alloc::{AllocError, Global};
 
-/// An argument of a command: its name, what it takes, and what it is for.
+/// An argument of a command: its name, its values, and its help text.
 #[derive(Clone, Copy)]
 pub(crate) struct Argument {
     name: &'static str,
@@ -12,39 +12,39 @@ pub(crate) struct Argument {
     help: &'static str,
 }
 
-/// What an argument takes.
+/// The values of an argument.
 #[derive(Clone, Copy)]
 enum Takes {
-    /// A word at its place.
+    /// One word, by its position.
     Word,
-    /// One of these words at its place.
+    /// One of these words, by its position.
     OneOf(&'static [&'static str]),
-    /// A word or more at its place.
+    /// One or more words, by their position.
     Words,
-    /// Nothing: it is a flag.
+    /// None: the argument is a flag.
     Nothing,
-    /// The value of an option, which is called so.
+    /// The value of an option, with this name in the help.
     Value(&'static str, Value),
 }
 
-/// The value of an option.
+/// Whether the value of an option must be given.
 #[derive(Clone, Copy)]
 enum Value {
-    /// One that may be left out.
+    /// An optional value.
     Optional(ValueParser<'static>),
-    /// One that has to be given.
+    /// A required value.
     Required(ValueParser<'static>),
-    /// One that is this where it is left out.
+    /// An optional value with a default.
     Default(ValueParser<'static>, &'static str),
-    /// One that may be left out behind the option's name.
+    /// An option whose value may be omitted after its name.
     Perhaps,
-    /// One that is given where this option isn't.
+    /// An optional value that excludes this other option.
     Unless(&'static str),
-    /// One that is given where none of these options is.
+    /// An optional value that excludes these other options.
     UnlessAny(ValueParser<'static>, &'static [&'static str]),
 }
 
-/// Any number.
+/// Any number of 64 bits.
 const NUMBER: ValueParser<'static> = ValueParser::Unsigned(0, u64::MAX);
 
 /// The folder of the journals.
@@ -54,7 +54,7 @@ pub(crate) const JOURNALS: Argument = Argument {
     help: "The folder of the journals",
 };
 
-/// A new folder of journals.
+/// The new folder of `init`.
 pub(crate) const NEW: Argument = Argument {
     name: "FOLDER",
     takes: Takes::Word,
@@ -68,7 +68,7 @@ pub(crate) const SERVED: Argument = Argument {
     help: "The folder of the journals, which may be served meanwhile",
 };
 
-/// The folder that is copied.
+/// The folder to copy.
 pub(crate) const FROM: Argument = Argument {
     name: "FROM",
     takes: Takes::Word,
@@ -89,42 +89,42 @@ pub(crate) const WORKSPACE: Argument = Argument {
     help: "The name of the workspace",
 };
 
-/// Whether JSON is printed.
+/// Whether to print JSON.
 pub(crate) const JSON: Argument = Argument {
     name: "json",
     takes: Takes::Nothing,
     help: "Prints JSON for programs, in place of a table",
 };
 
-/// Whether a picture is printed.
+/// Whether to print a picture.
 pub(crate) const DOT: Argument = Argument {
     name: "dot",
     takes: Takes::Nothing,
     help: "Prints a picture for Graphviz, in which the answer is filled",
 };
 
-/// Whether a picture of the answer is printed.
+/// Whether to print a picture of the answer alone.
 pub(crate) const ANSWER_ONLY: Argument = Argument {
     name: "answer-only",
     takes: Takes::Nothing,
     help: "Prints a picture of the answer alone",
 };
 
-/// Whether reads are still answered once the journal can't be written.
+/// Whether to answer reads after the journal can't be written any more.
 pub(crate) const SERVE_READS: Argument = Argument {
     name: "serve-reads",
     takes: Takes::Nothing,
     help: "Goes on answering reads once the journal can't be written, in place of ending",
 };
 
-/// A position, if one is given.
+/// An optional position.
 pub(crate) const POSITION: Argument = Argument {
     name: "position",
     takes: Takes::Value("POSITION", Value::Optional(NUMBER)),
     help: "A position that `history` tells",
 };
 
-/// A position, which has to be given.
+/// A required position.
 pub(crate) const SOME_POSITION: Argument = Argument {
     name: "position",
     takes: Takes::Value("POSITION", Value::Required(NUMBER)),
@@ -138,7 +138,7 @@ pub(crate) const COPIES: Argument = Argument {
     help: "A folder of copies: adds the age of its newest journal, once it has one",
 };
 
-/// How many files of `old/` are kept, in place of the two limits.
+/// How many files of `old/` to keep, instead of the two limits.
 pub(crate) const KEEP: Argument = Argument {
     name: "keep",
     takes: Takes::Value(
@@ -148,21 +148,21 @@ pub(crate) const KEEP: Argument = Argument {
     help: "Keeps this number of the newest files in old/, in place of --keep-days and --keep-bytes",
 };
 
-/// How old the files of `old/` may become.
+/// How old the files of `old/` may be.
 pub(crate) const KEEP_DAYS: Argument = Argument {
     name: "keep-days",
     takes: Takes::Value("DAYS", Value::Default(NUMBER, "90")),
     help: "Removes files of old/ that are older; the newest 10 always stay",
 };
 
-/// How large the files of `old/` may become.
+/// How many bytes the files of `old/` may have together.
 pub(crate) const KEEP_BYTES: Argument = Argument {
     name: "keep-bytes",
     takes: Takes::Value("NUMBER", Value::Default(NUMBER, "10737418240")),
     help: "Removes the oldest files of old/ while all together have more bytes; the newest 10 always stay (10G; K, M and G are binary)",
 };
 
-/// Where to listen.
+/// The address or socket to listen on.
 pub(crate) const LISTEN: Argument = Argument {
     name: "listen",
     takes: Takes::Value(
@@ -179,7 +179,7 @@ pub(crate) const WORKERS: Argument = Argument {
     help: "How many connections are answered at once, 1 to 16",
 };
 
-/// How many bytes a journal may grow by.
+/// How many bytes a journal may grow by before it is compacted.
 pub(crate) const COMPACT_BYTES: Argument = Argument {
     name: "compact-bytes",
     takes: Takes::Value(
@@ -189,7 +189,8 @@ pub(crate) const COMPACT_BYTES: Argument = Argument {
     help: "Goes on in a shorter journal after so many bytes: 256M, K, M and G are powers of 1,024",
 };
 
-/// How many entries a journal may grow by. 536 more are left for what is underway when the most have come.
+/// How many entries a journal may grow by before it is compacted. With the highest value, 536 more
+/// entries are left for changes in progress.
 pub(crate) const COMPACT_ENTRIES: Argument = Argument {
     name: "compact-entries",
     takes: Takes::Value(
@@ -199,14 +200,14 @@ pub(crate) const COMPACT_ENTRIES: Argument = Argument {
     help: "Goes on in a shorter journal after so many changes: 32K, at most 65,000",
 };
 
-/// Whether a folder is begun, and with which journal.
+/// Whether to start a new folder, and the file of its first journal.
 pub(crate) const FIRST: Argument = Argument {
     name: "first",
     takes: Takes::Value("FILE", Value::Perhaps),
     help: "Begins a folder that never had a journal, with an empty one or with that of a file",
 };
 
-/// The journal that is passed over.
+/// The earlier journal to discard.
 pub(crate) const PAST: Argument = Argument {
     name: "accept-past",
     takes: Takes::Value("FILE", Value::Unless("first")),
@@ -220,28 +221,28 @@ pub(crate) const LEAST: Argument = Argument {
     help: "Refuses to start from a journal with a lower position",
 };
 
-/// The file of the least position of a server.
+/// The file of the least position of `serve`.
 pub(crate) const LEAST_FILE: Argument = Argument {
     name: "at-least-file",
     takes: Takes::Value("FILE", Value::Optional(ValueParser::String)),
     help: "The same with the position that a file has, which the server raises with each change",
 };
 
-/// The file of the least position of copies.
+/// The file of the least position of `copy`.
 pub(crate) const LEAST_OF_COPIES: Argument = Argument {
     name: "at-least-file",
     takes: Takes::Value("FILE", Value::Optional(ValueParser::String)),
     help: "A file whose position is raised to that of the copy",
 };
 
-/// What is asked of the addresses.
+/// Whether to combine the answers for the addresses by `any` or `all`.
 pub(crate) const QUERY: Argument = Argument {
     name: "QUERY",
     takes: Takes::OneOf(&["any", "all"]),
     help: "any: what a change of some of the addresses reaches; all: what each of them reaches",
 };
 
-/// The addresses that a change touches.
+/// The addresses that a change concerns.
 pub(crate) const ADDRESSES: Argument = Argument {
     name: "ADDRESS",
     takes: Takes::Words,
@@ -249,7 +250,7 @@ pub(crate) const ADDRESSES: Argument = Argument {
 };
 
 impl Argument {
-    /// The argument, as the parser takes it.
+    /// Returns the argument for the parser.
     pub(crate) fn made<'a>(&self, alloc: Global) -> Result<Arg<'a>, AllocError> {
         let arg = Arg::new(alloc, self.name).help(self.help);
         match self.takes {
@@ -263,7 +264,7 @@ impl Argument {
 }
 
 impl Value {
-    /// The option with this value.
+    /// Returns the option with this value.
     fn given<'a>(self, option: Arg<'a>) -> Result<Arg<'a>, AllocError> {
         match self {
             Value::Optional(parser) => Ok(option.value_parser(parser)),

@@ -1,4 +1,5 @@
-//! The command `check`: what the journals of a folder are, and whether each goes on from the one before it.
+//! The command `check`: lists the journals of a folder, and checks whether each continues the one
+//! before it.
 
 use std::alloc::Global;
 use std::io::{self, Write};
@@ -9,7 +10,8 @@ use tfs_journal::End as JournalEnd;
 use tfs_records::Discard;
 use tfs_table::Table;
 
-/// Prints a line for each journal of a folder, and one for the journal that a start goes on from. Gives the program's status.
+/// Prints a line for each journal of a folder, and one for the journal that a start would continue.
+/// Returns the program's exit status.
 pub(crate) fn run(rt: &HostRuntime, folder: &str) -> ExitCode {
     match checked(rt, folder) {
         Ok(()) => ExitCode::SUCCESS,
@@ -17,7 +19,7 @@ pub(crate) fn run(rt: &HostRuntime, folder: &str) -> ExitCode {
     }
 }
 
-/// Checks a folder.
+/// Checks a folder, and prints the lines.
 fn checked(rt: &HostRuntime, folder: &str) -> Result<(), End> {
     let numbers = numbers_here(rt, folder)?;
     tell_old(rt, folder)?;
@@ -34,7 +36,8 @@ fn checked(rt: &HostRuntime, folder: &str) -> Result<(), End> {
     }
 }
 
-/// Prints a line for each journal of the folder's `old/`, one read after another. One that goes away meanwhile has none.
+/// Prints a line for each journal of the folder's `old/`, which are read one after the other. A
+/// journal that is removed meanwhile has no line.
 fn tell_old(rt: &HostRuntime, folder: &str) -> Result<(), End> {
     let numbers = match old_numbers(rt, folder) {
         Ok(numbers) => numbers,
@@ -48,7 +51,7 @@ fn tell_old(rt: &HostRuntime, folder: &str) -> Result<(), End> {
     Ok(())
 }
 
-/// Prints the line of a journal of `old/`.
+/// Prints the line of a journal of `old/`, or returns the error of the output.
 fn tell_old_file(rt: &HostRuntime, file: &FolderFile) -> Result<(), End> {
     match print_old_file(rt, file) {
         Ok(()) => Ok(()),
@@ -71,7 +74,8 @@ fn tell_files(rt: &HostRuntime, files: &[FolderFile]) -> io::Result<()> {
     Ok(())
 }
 
-/// What a journal is: its base, its position, its names and its end, or its fault.
+/// Returns the line of a journal: its base, its position, the number of its names and how it ends,
+/// or its error.
 fn line_of(alloc: Global, file: &FolderFile) -> io::Result<String> {
     let name = file.name();
     match Table::open(alloc, file.bytes(), Discard) {
@@ -80,7 +84,7 @@ fn line_of(alloc: Global, file: &FolderFile) -> io::Result<String> {
     }
 }
 
-/// What a journal that opens as a table is.
+/// Returns the line of a journal that opens as a table.
 fn table_line(
     alloc: Global,
     name: &str,
@@ -92,7 +96,7 @@ fn table_line(
     Ok(format!(in alloc; "{name}: base {base}, position {position}, {names} names, {end}")?)
 }
 
-/// How a journal ends.
+/// Returns the text for how a journal ends.
 fn end_text(alloc: Global, end: JournalEnd) -> io::Result<String> {
     match end {
         JournalEnd::Whole => Ok(String::from_str(alloc, "whole")?),
@@ -101,7 +105,7 @@ fn end_text(alloc: Global, end: JournalEnd) -> io::Result<String> {
     }
 }
 
-/// Prints which journal a start goes on from.
+/// Prints which journal a start would continue.
 fn tell_choice(rt: &HostRuntime, chosen: &Chosen) -> io::Result<()> {
     let (number, position) = (chosen.number, chosen.table.position());
     if let Some(left) = chosen.left {

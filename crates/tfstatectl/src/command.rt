@@ -1,4 +1,4 @@
-//! The command line: what the arguments ask for.
+//! The command line: what the arguments request.
 
 ghost use Rattle.std.specs.Prelude.{◌≡◌, ◌≤◌};
 
@@ -12,27 +12,27 @@ use std::rt::Env;
 use tfs_files::{End, Fault, Limits, Place, Retention, Start, end_by};
 use tfs_turns::Bounds;
 
-/// What `serve` is asked for.
+/// The request of `serve`.
 #[derive(Drop)]
 pub(crate) struct Serving<'a> {
-    /// What the start is asked for.
+    /// The request for the start.
     pub(crate) start: Start<'a>,
-    /// The address to listen at.
+    /// The address to listen on.
     pub(crate) listen: &'a str,
     /// The number of workers.
     pub(crate) workers: usize,
-    /// The file that has the least position, too.
+    /// The file of the least position, which applies in addition to the argument's.
     pub(crate) least_file: Option<&'a str>,
-    /// Whether reads are still answered once the journal can't be written.
+    /// Whether to answer reads after the journal can't be written any more.
     pub(crate) serve_reads: bool,
-    /// How much a journal may grow before the server goes on in a shorter one.
+    /// How much a journal may grow before it is compacted.
     pub(crate) bounds: Bounds,
     ghost some: { 1 ≤ workers },
     ghost few: { workers ≤ 16 },
 }
 
 impl<'a> Serving<'a> {
-    /// What the arguments of `serve` ask for.
+    /// Returns the request of the arguments of `serve`.
     pub(crate) fn of(given: &ArgMatches<'a>) -> Serving<'a> {
         Serving {
             start: start_of(given),
@@ -44,7 +44,7 @@ impl<'a> Serving<'a> {
         }
     }
 
-    /// The name of what a fault is about.
+    /// Returns the path or address that an error is about.
     pub(crate) fn name_at(&self, place: Place) -> &'a str {
         match place {
             Place::Command
@@ -62,7 +62,7 @@ impl<'a> Serving<'a> {
     }
 }
 
-/// How much the arguments of `serve` have a journal grow.
+/// Returns how much a journal may grow by the arguments of `serve`.
 fn bounds_of(given: &ArgMatches<'_>) -> Bounds {
     Bounds {
         bytes: given.get_one::<u64>("compact-bytes").unwrap_or(u64::MAX),
@@ -70,7 +70,7 @@ fn bounds_of(given: &ArgMatches<'_>) -> Bounds {
     }
 }
 
-/// What the arguments of `serve` ask of the start.
+/// Returns the request for the start by the arguments of `serve`.
 fn start_of<'a>(given: &ArgMatches<'a>) -> Start<'a> {
     Start {
         folder: folder_of(given),
@@ -81,7 +81,8 @@ fn start_of<'a>(given: &ArgMatches<'a>) -> Start<'a> {
     }
 }
 
-/// Which files of `old/` stay by the arguments: the newest ones alone where their number is given, else the newest 10 and others within limits.
+/// Returns which files of `old/` to keep by the arguments: the newest ones alone if their number is
+/// given, otherwise the newest 10 and others within limits.
 fn keep_in(given: &ArgMatches<'_>) -> Retention {
     if let Some(newest) = given.get_one::<u64>("keep") {
         return Retention {
@@ -100,21 +101,21 @@ fn keep_in(given: &ArgMatches<'_>) -> Retention {
     }
 }
 
-/// What `copy` is asked for.
+/// The request of `copy`.
 #[derive(Drop)]
 pub(crate) struct Copying<'a> {
-    /// The folder that is copied.
+    /// The folder to copy.
     pub(crate) from: &'a str,
     /// The folder of the copies.
     pub(crate) to: &'a str,
-    /// Which files of `old/` stay.
+    /// Which files of `old/` to keep.
     pub(crate) keep: Retention,
-    /// The file of the least position, which is raised.
+    /// The file of the least position, which `copy` raises.
     pub(crate) least_file: Option<&'a str>,
 }
 
 impl<'a> Copying<'a> {
-    /// What the arguments of `copy` ask for.
+    /// Returns the request of the arguments of `copy`.
     pub(crate) fn of(given: &ArgMatches<'a>) -> Copying<'a> {
         Copying {
             from: given.get_str("FROM").unwrap_or("."),
@@ -124,7 +125,8 @@ impl<'a> Copying<'a> {
         }
     }
 
-    /// The name of what a fault is about: of the folder of copies, or of the file of the least position.
+    /// Returns the path that an error is about: the folder of copies, the file of the least
+    /// position, or the folder that is copied.
     pub(crate) fn name_at(&self, place: Place) -> &'a str {
         match place {
             Place::Position => self.least_file.unwrap_or(""),
@@ -134,7 +136,7 @@ impl<'a> Copying<'a> {
     }
 }
 
-/// The number of workers, from 1 to 16, as the command's own range has it.
+/// Returns the number of workers, from 1 to 16, the range of the option.
 fn workers_in(given: Option<usize>) -> usize
     ensures some { 1 ≤ result }
     ensures few { result ≤ 16 }
@@ -145,12 +147,12 @@ fn workers_in(given: Option<usize>) -> usize
     }
 }
 
-/// The folder that the arguments name.
+/// Returns the folder that the arguments name.
 pub(crate) fn folder_of<'a>(given: &ArgMatches<'a>) -> &'a str {
     given.get_str("FOLDER").unwrap_or(".")
 }
 
-/// The words of the command line.
+/// Returns the words of the command line. Their numbers with K, M or G are written out.
 pub(crate) fn words_of(rt: &(impl AllocGlobal + Env + Eprint)) -> Result<Vec<String>, ExitCode> {
     let Ok(words) = env::args(rt) else {
         return Err(end_by(rt, "", End::at(Place::Command, Fault::Arguments)));
@@ -161,12 +163,12 @@ pub(crate) fn words_of(rt: &(impl AllocGlobal + Env + Eprint)) -> Result<Vec<Str
     }
 }
 
-/// The words in a list, in which numbers are written out.
+/// Collects the words, and writes out their numbers with K, M or G.
 fn collected(alloc: Global, words: env::Args) -> Result<Vec<String>, AllocError> {
     written_out(alloc, words.collect(alloc)?)
 }
 
-/// What words ask for, or the text that tells what is wrong with them.
+/// Returns the parsed words, or the text that reports what is wrong with them.
 pub(crate) fn matches_of(alloc: Global, words: &[String]) -> Result<ArgMatches<'_>, Error> {
     program(alloc)?.try_get_matches_from(words)
 }

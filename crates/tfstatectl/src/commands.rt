@@ -1,4 +1,4 @@
-//! The program's commands, and how the parser of the command line takes them.
+//! The program's commands, and their conversion for the command line parser.
 
 use crate::arguments::{
     ADDRESSES, ANSWER_ONLY, Argument, COMPACT_BYTES, COMPACT_ENTRIES, COPIES, DOT, FIRST, FROM,
@@ -8,16 +8,16 @@ use crate::arguments::{
 use clap::{Arg, Command};
 use std::alloc::{AllocError, Global};
 
-/// The version of the file VERSION, and the kit with which the program is proved.
+/// The version in the file VERSION, and the kit that proves the program.
 const VERSION: &str = "0.2.0 (rattle-kit-13f logic dac8208d650f15bf)";
 
-/// What the statuses mean.
+/// What the exit statuses mean.
 const STATUSES: &str =
     "Status: 0 done; 20 may pass: try again; 21 invalid arguments; 22 torn base; 23 damaged; 24 unlawful; 25 no journal, or diverged \
 journals; 26 not at least; 27 no folder, or permission denied; 28 out of memory; 29 the journal can't be written: try again; 30 no such workspace; \
 31 no state; 32 no such position; 33 another lineage; 34 no next serial; 35 unknown address. From 22 to 28 a person has to look.";
 
-/// A command: its name, what it does, and what it takes.
+/// A command: its name, what it does, and its arguments.
 #[derive(Clone, Copy)]
 struct Form {
     name: &'static str,
@@ -25,7 +25,7 @@ struct Form {
     arguments: &'static [Argument],
 }
 
-/// The commands, in the order in which the help tells them.
+/// The commands, in the order of the help.
 static COMMANDS: [Form; 10] = [
     Form {
         name: "init",
@@ -93,13 +93,13 @@ static COMMANDS: [Form; 10] = [
     },
 ];
 
-/// The program's command.
+/// Returns the program's command with its subcommands.
 pub(crate) fn program<'a>(alloc: Global) -> Result<Command<'a>, AllocError> {
     let commands = commands(alloc, &COMMANDS)?;
     top(alloc).subcommands(commands)
 }
 
-/// The program's command without those below it.
+/// Returns the program's command without subcommands.
 fn top<'a>(alloc: Global) -> Command<'a> {
     Command::new(alloc, "tfstatectl")
         .about("Runs a server for Terraform's state on a folder of journals")
@@ -108,7 +108,7 @@ fn top<'a>(alloc: Global) -> Command<'a> {
         .subcommand_required(true)
 }
 
-/// The commands below it.
+/// Returns the subcommands.
 fn commands<'a>(alloc: Global, forms: &[Form]) -> Result<Vec<Command<'a>>, AllocError> {
     let mut commands = Vec::with_capacity(alloc, forms.len())?;
     for form in forms {
@@ -117,7 +117,7 @@ fn commands<'a>(alloc: Global, forms: &[Form]) -> Result<Vec<Command<'a>>, Alloc
     Ok(commands)
 }
 
-/// A command.
+/// Returns a subcommand.
 fn command<'a>(alloc: Global, form: &Form) -> Result<Command<'a>, AllocError> {
     let arguments = arguments(alloc, form.arguments)?;
     Command::new(alloc, form.name)
@@ -125,7 +125,7 @@ fn command<'a>(alloc: Global, form: &Form) -> Result<Command<'a>, AllocError> {
         .args(arguments)
 }
 
-/// The arguments of a command.
+/// Returns the arguments of a subcommand.
 fn arguments<'a>(alloc: Global, of: &[Argument]) -> Result<Vec<Arg<'a>>, AllocError> {
     let mut arguments = Vec::with_capacity(alloc, of.len())?;
     for argument in of {

@@ -1,4 +1,5 @@
-//! The command `copy`: brings a folder of copies up to the journals of another folder, which may be served meanwhile.
+//! The command `copy`: brings a folder of copies up to date with the journals of another folder,
+//! which may be served meanwhile.
 
 use crate::command::Copying;
 use std::process::ExitCode;
@@ -18,7 +19,7 @@ struct Copies {
     least: Option<PositionFile>,
 }
 
-/// The newest journal that is copied, and its position.
+/// The newest journal that was copied, and its position.
 #[derive(Clone, Copy)]
 struct Newest {
     number: u64,
@@ -26,7 +27,7 @@ struct Newest {
 }
 
 impl Newest {
-    /// The chosen journal.
+    /// Returns the number and the position of the chosen journal.
     fn of(chosen: &Chosen) -> Newest {
         Newest {
             number: chosen.number,
@@ -35,7 +36,8 @@ impl Newest {
     }
 }
 
-/// What was copied: the numbers of the parts, the newest journal, and what is missing between the copies and the parts, if a new chain begins.
+/// The result of copying: the numbers of the parts, the newest journal, and what is missing between
+/// the copies and the parts, if a new chain of copies begins.
 #[derive(Drop)]
 struct Copied {
     parts: Vec<u64>,
@@ -43,7 +45,7 @@ struct Copied {
     gap: Option<Gap>,
 }
 
-/// Copies, and prints up to where. Gives the program's status.
+/// Copies, and prints the position up to which it copied. Returns the program's exit status.
 pub(crate) fn run(rt: &HostRuntime, asked: &Copying<'_>) -> ExitCode {
     match copies_in(rt, asked) {
         Ok(copies) => copy_to(rt, asked, copies),
@@ -51,7 +53,8 @@ pub(crate) fn run(rt: &HostRuntime, asked: &Copying<'_>) -> ExitCode {
     }
 }
 
-/// Copies into a folder of copies, and prints up to where. Gives the program's status.
+/// Copies into a locked folder of copies, and prints the position up to which it copied. Returns
+/// the program's exit status.
 fn copy_to(rt: &HostRuntime, asked: &Copying<'_>, copies: Copies) -> ExitCode {
     let least = least_position(0, &copies.least);
     match copy_files(rt, asked, copies.here.as_slice(), least) {
@@ -60,7 +63,8 @@ fn copy_to(rt: &HostRuntime, asked: &Copying<'_>, copies: Copies) -> ExitCode {
     }
 }
 
-/// Writes the journals that are to be copied, and chooses up to which one. The journals of the copies have these numbers.
+/// Writes parts for the journals that are to be copied, and chooses the newest one. `here` has the
+/// numbers of the copies' journals.
 fn copy_files(
     rt: &HostRuntime,
     asked: &Copying<'_>,
@@ -87,7 +91,8 @@ fn copy_files(
     }
 }
 
-/// The newest journal of these files of a folder, which is the folder's own, and whose position is at least this one.
+/// Returns the newest journal of these files of a folder. It must be the folder's own, and its
+/// position must be at least this one.
 fn own_in(
     rt: &HostRuntime,
     folder: &str,
@@ -99,7 +104,7 @@ fn own_in(
     Ok(newest)
 }
 
-/// The newest journal of these files, whose position is at least this one.
+/// Returns the newest journal of these files. Its position must be at least this one.
 fn chosen_in(rt: &HostRuntime, files: Vec<FolderFile>, least: u64) -> Result<Newest, End> {
     match choose(rt.alloc(), files, least) {
         Ok(chosen) => Ok(Newest::of(&chosen)),
@@ -107,7 +112,8 @@ fn chosen_in(rt: &HostRuntime, files: Vec<FolderFile>, least: u64) -> Result<New
     }
 }
 
-/// Has what was copied count, and prints up to where. Gives the program's status.
+/// Gives the copied parts their names, and prints the position up to which was copied. Returns the
+/// program's exit status.
 fn name_copied(rt: &HostRuntime, asked: &Copying<'_>, copies: Copies, copied: Copied) -> ExitCode {
     let Copies {
         lock: _lock,
@@ -125,7 +131,8 @@ fn name_copied(rt: &HostRuntime, asked: &Copying<'_>, copies: Copies, copied: Co
     }
 }
 
-/// Takes the lock of the folder of copies, which is made where it isn't there. One that was served may have changes of its own.
+/// Takes the lock of the folder of copies, which is created if it doesn't exist. Refuses a folder
+/// that was served, because it may have changes of its own.
 fn copies_in(rt: &HostRuntime, asked: &Copying<'_>) -> Result<Copies, End> {
     let _ = fs::create_dir_all(rt, asked.to);
     let lock = lock_folder(rt, asked.to)?;
@@ -135,13 +142,14 @@ fn copies_in(rt: &HostRuntime, asked: &Copying<'_>) -> Result<Copies, End> {
     Ok(Copies { lock, here, least })
 }
 
-/// The numbers of the journals of a folder, which wasn't served.
+/// Returns the numbers of the journals of a folder, unless the folder was served.
 fn unserved(rt: &HostRuntime, folder: &str) -> Result<Vec<u64>, End> {
     refuse_served(rt, folder)?;
     numbers_here(rt, folder)
 }
 
-/// Gives the parts their names, up to that of the newest one, puts the journals before it away, and raises the least position.
+/// Gives the parts their names, up to the newest one, retires the journals before it, and raises
+/// the least position.
 fn keep(
     rt: &HostRuntime,
     asked: &Copying<'_>,
@@ -157,7 +165,8 @@ fn keep(
     Ok(())
 }
 
-/// Retires the journals before this one, which continues the last of them.
+/// Retires the journals before this one, which continues the last of them, and removes expired
+/// ones.
 fn tidy(rt: &HostRuntime, asked: &Copying<'_>, journal: DurableJournal) -> Result<(), End> {
     let here = numbers_here(rt, asked.to)?;
     retire(rt, asked.to, here.as_slice(), journal)?;
@@ -165,8 +174,9 @@ fn tidy(rt: &HostRuntime, asked: &Copying<'_>, journal: DurableJournal) -> Resul
     Ok(())
 }
 
-/// Reports on standard error that a new chain of copies begins, because the source no longer has what the earlier one needs. Nothing is
-/// reported if the new one begins at the position at which the earlier one ends.
+/// Reports on standard error that a new chain of copies begins, because the source no longer has
+/// what the earlier one needs. Nothing is reported if the new one begins at the position at which
+/// the earlier one ends.
 fn tell_gap(rt: &HostRuntime, asked: &Copying<'_>, gap: Gap) -> io::Result<()> {
     let (from, to) = (asked.from, asked.to);
     if gap.is_empty() {
@@ -182,7 +192,7 @@ fn tell_gap(rt: &HostRuntime, asked: &Copying<'_>, gap: Gap) -> io::Result<()> {
     }
 }
 
-/// Tells up to where it is copied.
+/// Prints the newest journal and the position up to which was copied.
 fn tell(rt: &HostRuntime, newest: Newest) -> ExitCode {
     let Newest { number, position } = newest;
     match println!(rt; "copied journal-{number:010}.tfj up to position {position}") {

@@ -4,7 +4,8 @@ use std::fs;
 use std::process::ExitCode;
 use tfs_files::{End, FIRST_NUMBER, Fault, Place, end_by, lock_folder, make_first};
 
-/// Creates a folder with its first journal, and prints the path of that. Returns the program's status.
+/// Creates a folder with its first journal, and prints the journal's path. Returns the program's
+/// exit status.
 pub(crate) fn run(rt: &HostRuntime, folder: &str) -> ExitCode {
     match create(rt, folder) {
         Ok(()) => ExitCode::SUCCESS,

@@ -1,4 +1,4 @@
-//! The listener of a server: at an address of the network, or at a unix socket.
+//! The listener of a server, on a TCP address or a unix socket.
 
 use std::net::TcpListener;
 use std::os::unix::fs::FileTypeExt;
@@ -7,10 +7,10 @@ use std::{fs, io};
 use tfs_files::{End, Fault, Place};
 use tfs_serve::{AnyListener, bind_local, limit_waits};
 
-/// The longest path of a socket, in bytes (unix(7) of Linux).
+/// The maximal length of a socket's path, in bytes (unix(7) of Linux).
 const MAX_PATH: usize = 107;
 
-/// Listens at an address, or at the socket of `unix:PATH`.
+/// Listens on an address, or on the socket of `unix:PATH`.
 pub(crate) fn listen(rt: &HostRuntime, place: &str) -> Result<AnyListener, End> {
     match place.strip_prefix("unix:") {
         Some(path) => listen_locally(rt, path),
@@ -18,7 +18,7 @@ pub(crate) fn listen(rt: &HostRuntime, place: &str) -> Result<AnyListener, End> 
     }
 }
 
-/// Listens at an address.
+/// Listens on a TCP address.
 fn listen_at(rt: &HostRuntime, address: &str) -> Result<AnyListener, End> {
     let bound = match TcpListener::bind(rt, address) {
         Ok(listener) => limit_waits(listener),
@@ -30,7 +30,7 @@ fn listen_at(rt: &HostRuntime, address: &str) -> Result<AnyListener, End> {
     }
 }
 
-/// Makes a unix socket and listens at it. Replaces a socket that a killed server has left.
+/// Makes a unix socket and listens on it. Replaces a socket that a killed server has left.
 fn listen_locally(rt: &HostRuntime, path: &str) -> Result<AnyListener, End> {
     if path.is_empty() || path.len() > MAX_PATH {
         return Err(End::at(Place::Address, Fault::SocketPath));
@@ -44,7 +44,7 @@ fn listen_locally(rt: &HostRuntime, path: &str) -> Result<AnyListener, End> {
     }
 }
 
-/// Removes the socket at a path, unless a server listens at it. Leaves a file of another kind.
+/// Removes the socket at a path, unless a server listens on it. Refuses a file of another kind.
 fn clear(rt: &HostRuntime, path: &str) -> Result<(), Fault> {
     let Ok(found) = fs::symlink_metadata(rt, path) else {
         return Ok(());
@@ -61,7 +61,7 @@ fn clear(rt: &HostRuntime, path: &str) -> Result<(), Fault> {
     }
 }
 
-/// Returns true if nobody listens at the socket of a path.
+/// Returns true if nobody listens on the socket at a path.
 fn is_left(rt: &HostRuntime, path: &str) -> bool {
     match UnixStream::connect(rt, path) {
         Ok(_) => false,

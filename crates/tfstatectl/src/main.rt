@@ -1,5 +1,6 @@
-//! The program `tfstatectl`: creates a folder of journals (`init`), runs the server on it (`serve`), reports what a folder has (`check`,
-//! `list`, `history`, `show`, `restore`, `impact`, `stats`), and copies it (`copy`).
+//! The program `tfstatectl`: creates a folder of journals (`init`), runs the server on it
+//! (`serve`), reports on a folder (`check`, `list`, `history`, `show`, `restore`, `impact`,
+//! `stats`), and copies it (`copy`).
 #![tactic(auto)]
 
 mod arguments;
@@ -29,7 +30,7 @@ fn main(rt: HostRuntime) -> ExitCode {
     }
 }
 
-/// Runs the command that the program's words ask for.
+/// Runs the command that the words of the command line request.
 fn run<R: AllocGlobal + Threads + Wait + Clock + Sync>(
     rt: &R,
     host: &HostRuntime,
@@ -44,7 +45,7 @@ fn run<R: AllocGlobal + Threads + Wait + Clock + Sync>(
     }
 }
 
-/// Runs a command.
+/// Runs a parsed command.
 fn run_command<R: AllocGlobal + Threads + Wait + Clock + Sync>(
     rt: &R,
     host: &HostRuntime,
@@ -56,7 +57,7 @@ fn run_command<R: AllocGlobal + Threads + Wait + Clock + Sync>(
     }
 }
 
-/// Runs the command of a name.
+/// Runs the command with this name.
 fn run_named<R: AllocGlobal + Threads + Wait + Clock + Sync>(
     rt: &R,
     host: &HostRuntime,
@@ -72,7 +73,7 @@ fn run_named<R: AllocGlobal + Threads + Wait + Clock + Sync>(
     }
 }
 
-/// Serves a folder, once it is ready.
+/// Prepares a folder, and serves it.
 fn run_server<R: AllocGlobal + Threads + Wait + Clock + Sync>(
     rt: &R,
     host: &HostRuntime,
@@ -84,7 +85,8 @@ fn run_server<R: AllocGlobal + Threads + Wait + Clock + Sync>(
     }
 }
 
-/// The status of the text about the arguments: that of invalid arguments for an error, 0 for help or a version.
+/// Returns the exit status after the parser's text: the one for invalid arguments after an error, 0
+/// after help or a version.
 fn end_of_words(error: &Error) -> ExitCode {
     if error.use_stderr() {
         ExitCode::from(status_of(Fault::Arguments))

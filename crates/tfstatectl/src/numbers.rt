@@ -1,11 +1,11 @@
-//! Numbers with K, M or G, which are written out before the command line is read.
+//! Numbers with K, M or G, which are written out before the command line is parsed.
 
 use std::alloc::{AllocError, Global};
 
 /// The options that take such numbers.
 const OPTIONS: [&str; 3] = ["--compact-bytes", "--compact-entries", "--keep-bytes"];
 
-/// The words of a command line, in which the numbers of these options are written out.
+/// Returns the words of a command line, with the numbers of these options written out.
 pub(crate) fn written_out(alloc: Global, words: Vec<String>) -> Result<Vec<String>, AllocError> {
     let mut all = Vec::with_capacity(alloc, words.len())?;
     let mut is_number = false;
@@ -17,7 +17,8 @@ pub(crate) fn written_out(alloc: Global, words: Vec<String>) -> Result<Vec<Strin
     Ok(all)
 }
 
-/// A word, in which a number is written out that stands in it alone, if it stands behind such an option, or behind such an option and `=`.
+/// Returns a word with its number written out, if it is the value of one of these options: the word
+/// after the option (`is_number`), or the part after the option and `=`.
 fn word_of(alloc: Global, word: String, is_number: bool) -> Result<String, AllocError> {
     if is_number {
         return match value_of(word.as_str()) {
@@ -35,14 +36,14 @@ fn word_of(alloc: Global, word: String, is_number: bool) -> Result<String, Alloc
     Ok(written.unwrap_or(word))
 }
 
-/// The value of a number with K, M or G behind it: so many times 1,024, its square or its cube. None where it has none of these, or is too
-/// great.
+/// Returns the value of a number with the suffix K (1,024), M (1,048,576) or G (1,073,741,824).
+/// Returns `None` if the text isn't such a number or its value exceeds 64 bits.
 fn value_of(text: &str) -> Option<u64> {
     let (digits, unit) = parts_of(text)?;
     digits.parse::<u64>().ok()?.checked_mul(unit)
 }
 
-/// The digits of such a number, and what its last letter stands for.
+/// Splits such a number into its digits and the value of its suffix.
 fn parts_of(text: &str) -> Option<(&str, u64)> {
     if let Some(digits) = text.strip_suffix('K') {
         return Some((digits, 1_024));

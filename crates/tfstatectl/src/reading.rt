@@ -1,11 +1,12 @@
-//! The commands that read a folder, also while it is served: what each calls.
+//! The commands that read a folder, which may be served meanwhile, and the function that each of
+//! them calls.
 
 use crate::command::folder_of;
 use clap::ArgMatches;
 use std::process::ExitCode;
 use tfs_reports::{End, Form, end_by, history, list, print_impact, query_of, restore, show, stats};
 
-/// Runs a command that reads a folder. Gives the program's status.
+/// Runs a command that reads a folder. Returns the program's exit status.
 pub(crate) fn run(rt: &HostRuntime, command: &str, given: &ArgMatches<'_>) -> ExitCode {
     let folder = folder_of(given);
     let name = given
@@ -18,7 +19,7 @@ pub(crate) fn run(rt: &HostRuntime, command: &str, given: &ArgMatches<'_>) -> Ex
     }
 }
 
-/// Tells what a command asks for.
+/// Prints what a command requests.
 fn told(
     rt: &HostRuntime,
     command: &str,
@@ -37,7 +38,7 @@ fn told(
     }
 }
 
-/// Tells what a change reaches.
+/// Prints what a change reaches.
 fn reached(rt: &HostRuntime, folder: &str, name: &str, given: &ArgMatches<'_>) -> Result<(), End> {
     let is_all = given.get_str("QUERY") == Some("all");
     let addresses = given.get_strs("ADDRESS").unwrap_or(&[]);

@@ -1,4 +1,5 @@
-//! The command `serve`: workers that answer connections on a folder's next journal, and go on in a shorter one while they run.
+//! The command `serve`: workers answer connections on a folder's next journal, which is compacted
+//! while they run.
 
 use crate::command::Serving;
 use crate::start::Ready;
@@ -10,7 +11,7 @@ use tfs_files::{End, Fault, FolderLock, Made, Place, end_by, status_of};
 use tfs_serve::AcceptFault;
 use tfs_turns::{Begun, Left, Plan, serve_folder};
 
-/// Has workers answer connections, until it ends by a fault. Gives the program's status.
+/// Serves a folder until an error ends the server. Returns the program's exit status.
 pub(crate) fn run<R: AllocGlobal + Threads + Wait + Clock + Sync>(
     rt: &R,
     host: &HostRuntime,
@@ -32,7 +33,7 @@ pub(crate) fn run<R: AllocGlobal + Threads + Wait + Clock + Sync>(
     serve_begun(rt, host, &lock, asked, begun)
 }
 
-/// Serves what a start has made, until it ends by a fault. Gives the program's status.
+/// Serves what a start has made until an error ends the server. Returns the program's exit status.
 fn serve_begun<R: AllocGlobal + Threads + Wait + Clock + Sync>(
     rt: &R,
     host: &HostRuntime,
@@ -44,7 +45,7 @@ fn serve_begun<R: AllocGlobal + Threads + Wait + Clock + Sync>(
     end_of(host, asked.start.folder, left.fault, left.accepting)
 }
 
-/// Ends a run by what has ended its terms.
+/// Reports the error that ended the server. Returns the program's exit status.
 fn end_of(
     host: &HostRuntime,
     folder: &str,
@@ -57,13 +58,14 @@ fn end_of(
     }
 }
 
-/// Ends a run whose listener gives no connections, and tells its error.
+/// Reports the error of a listener that can't accept connections any more. Returns the program's
+/// exit status.
 fn end_by_accepting(rt: &impl Eprint, folder: &str, fault: AcceptFault) -> ExitCode {
     let _ = eprintln!(rt; "tfstatectl: {folder}: AcceptFault: {fault}. Start again");
     ExitCode::from(status_of(Fault::AcceptFault))
 }
 
-/// What the folder is served with.
+/// Returns how to serve the folder.
 fn plan_of<'a>(asked: &Serving<'a>) -> Plan<'a> {
     Plan {
         folder: asked.start.folder,

@@ -9,8 +9,8 @@ use tfs_files::{
 };
 use tfs_serve::AnyListener;
 
-/// A folder that is ready to be served: its lock, the listener, the file of the least position, its
-/// next journal, and the table over that.
+/// A folder that is ready to be served: its lock, the listener, the file of the least position, and
+/// its next journal with the table over it.
 #[derive(Drop)]
 pub(crate) struct Ready {
     pub(crate) lock: FolderLock,
@@ -19,8 +19,8 @@ pub(crate) struct Ready {
     pub(crate) made: Made,
 }
 
-/// Looks at the stack of threads, takes the lock of a folder and the address, and makes the folder's next journal; or ends by the first
-/// fault.
+/// Checks the stack size of threads, takes the folder's lock, listens, and makes the folder's next
+/// journal. Returns the first error.
 pub(crate) fn start(rt: &HostRuntime, asked: &Serving<'_>) -> Result<Ready, End> {
     if let Err(fault) = refuse_small_stack() {
         return Err(End::at(Place::Command, fault));
@@ -40,7 +40,8 @@ pub(crate) fn start(rt: &HostRuntime, asked: &Serving<'_>) -> Result<Ready, End>
     })
 }
 
-/// The file of the least position, which is raised to the table's, and the folder's next journal.
+/// Returns the file of the least position, raised to the table's position, and the folder's next
+/// journal.
 fn begun(
     rt: &HostRuntime,
     asked: &Serving<'_>,
@@ -52,7 +53,7 @@ fn begun(
     Ok((least, made))
 }
 
-/// The folder's next journal, which starts from this position at least.
+/// Makes the folder's next journal, which starts at this position or a higher one.
 fn started_from(rt: &HostRuntime, asked: &Serving<'_>, least: u64) -> Result<Made, End> {
     let start = Start {
         least,
