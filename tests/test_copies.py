@@ -168,7 +168,7 @@ def test_a_new_chain_begins_where_the_source_has_lost_what_copies_need():
     expect((target / "identity").read_text(), identity_text(n2=NEWEST, n7=LATE))
     expect(copy(source, target), (0, {7: LATE}, ""), "it is said once")
     status, output, errors = run("check", target)
-    lines = [chain_line(f"old/{named(2)}", 1, 3), chain_line(named(7), 9, 9), f"a start goes on from {named(7)}.tfj at position 9"]
+    lines = [chain_line(f"old/{named(2)}", 1, 3), chain_line(named(7), 9, 9), f"a start continues {named(7)}.tfj at position 9"]
     expect((status, output.splitlines(), errors), (0, lines, ""))
     (source / f"{named(7)}.tfj").write_bytes(LATE + LOCK)
     expect(copy(source, target), (0, {7: LATE + LOCK}, ""), "it only grows")

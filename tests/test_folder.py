@@ -42,7 +42,7 @@ def test_help_and_version():
     expect(run("--version"), (0, f"tfstatectl {version[0]} ({version[1]})\n", ""))
     status, output, errors = run("--help")
     expect((status, errors), (0, ""))
-    expect(all(word in output for word in ("init", "serve", "check", "Status: 0 done; 20 may pass")), True, output)
+    expect(all(word in output for word in ("init", "serve", "check", "Status: 0 success; 20 temporary fault")), True, output)
     status, output, _ = run("serve", "--help")
     options = ("--listen", "--workers", "--keep", "--keep-days", "--keep-bytes", "--first", "--at-least", "FOLDER")
     expect((status, [word for word in options if word not in output]), (0, []))
@@ -319,7 +319,7 @@ def test_random_folders_are_served_as_the_model_says():
 def test_check_tells_of_each_journal():
     folder = fresh(n3=NEWEST, n4=REBASED[:40])
     wanted = (f"{named(3)}.tfj: base 1, position 3, 1 names, whole\n{named(4)}.tfj: the journal ends inside its base\n"
-              f"{named(4)}.tfj was left by a start that failed\na start goes on from {named(3)}.tfj at position 3\n")
+              f"{named(4)}.tfj was left by a start that failed\na start continues {named(3)}.tfj at position 3\n")
     before = all_of(folder)
     expect(run("check", folder), (0, wanted, ""))
     status, output, errors = run("check", fresh(n3=NEWEST, n4=SHORT))

@@ -64,7 +64,7 @@ def limit_stacks(size):
 def test_a_start_with_a_small_stack_is_refused():
     folder = fresh(n1=NEWEST)
     status, _, errors = ended(folder, preexec_fn=limit_stacks((1 << 19) - 4096))
-    expect((status, "SmallStack: a thread's stack has 520192 bytes" in errors), (STATUSES["SmallStack"], True), errors)
+    expect((status, "SmallStack: threads have a stack of 520192 bytes" in errors), (STATUSES["SmallStack"], True), errors)
     expect(all_of(folder), {f"{named(1)}.tfj": NEWEST}, "nothing is done")
     server = Serving(folder, preexec_fn=limit_stacks(1 << 19))
     expect_newest(server)

@@ -30,7 +30,7 @@ def position_in(path):
 def test_an_older_past_is_refused(beside):
     folder = fresh(n3=NEWEST, **beside)
     errors = refused(folder, "NotAtLeast", "--at-least", "4")
-    expect("its position is 3, and the least one is 4" in errors and named(3) in errors, True, errors)
+    expect("its position is 3, below the required 4" in errors and named(3) in errors, True, errors)
     expect(served(folder, "--at-least", "3")[0], (200, S2))
 
 
@@ -39,13 +39,13 @@ def test_a_file_has_the_least_position(text, least):
     folder, file = fresh(n3=NEWEST), fresh() / "least"
     file.write_text(text)
     errors = refused(folder, "NotAtLeast", "--at-least-file", file)
-    expect(f"its position is 3, and the least one is {least}" in errors, True, errors)
+    expect(f"its position is 3, below the required {least}" in errors, True, errors)
 
 
 def test_the_greater_of_two_least_positions_counts():
     folder, file = fresh(n3=NEWEST), fresh() / "least"
     file.write_text("2\n")
-    expect("the least one is 9" in refused(folder, "NotAtLeast", "--at-least", "9", "--at-least-file", file), True, "the greater one counts")
+    expect("below the required 9" in refused(folder, "NotAtLeast", "--at-least", "9", "--at-least-file", file), True, "the greater one counts")
 
 
 @pytest.mark.parametrize("text", ["", "x\n", "-1\n", "1 2\n", "18446744073709551616\n", "0" * 30, "1.0"])
@@ -97,7 +97,7 @@ def test_a_copy_raises_the_file():
     expect(position_in(file), 3)
     older = fresh(n3=SHORT)
     status, _, errors = run("copy", older, fresh(), "--at-least-file", file)
-    expect((status, "its position is 1, and the least one is 3" in errors, named(3) in errors), (STATUSES["NotAtLeast"], True, True), errors)
+    expect((status, "its position is 1, below the required 3" in errors, named(3) in errors), (STATUSES["NotAtLeast"], True, True), errors)
     expect(position_in(file), 3)
 
 
@@ -128,7 +128,7 @@ def test_a_journal_is_passed_over(past, newest, state, lost, changes):
     many entries are lost, and that no later start is refused because of number 3."""
     folder = fresh(n3=past, n4=newest + changes)
     answer, lines = passed_over(folder, folder / f"{named(3)}.tfj")
-    expect((answer, len(lines), f"{named(3)}.tfj is passed over: {lost}" in lines[0]), ((200, state), 2, True), lines)
+    expect((answer, len(lines), f"{named(3)}.tfj is discarded: {lost}" in lines[0]), ((200, state), 2, True), lines)
     put_away = {3: past, 4: newest + changes} if changes else {3: past}
     expect((sorted(journals(folder)), journals(folder / "old")), ([5 if changes else 4], put_away), lost)
     expect(served(folder)[0], (200, state), lost)

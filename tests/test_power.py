@@ -298,9 +298,9 @@ def expect_reported(report, failed, place, about):
     ended."""
     status, text, is_same = report
     if failed is None or place < failed:
-        expect((status, " bytes in place of " in text), (None, True), f"{about}: {text}")
+        expect((status, " bytes instead of " in text), (None, True), f"{about}: {text}")
     elif status is None:
-        continues = ": CannotWrite: " in text and " before it goes on, until a try in" in text
+        continues = ": CannotWrite: " in text and "keeps the present journal" in text
         expect((continues, is_same), (True, True), f"{about}: {text}")
     else:
         wanted = (STATUSES["CannotWrite"], True)

@@ -67,7 +67,7 @@ def test_many_terms_in_a_row_lose_nothing():
     serials, position = serials_of(folder)
     expect((position >= 8 * CHANGES, newest(folder) > 4, tries <= TRIES), (True, True, True), (position, newest(folder), tries))
     expect(len(lines), newest(folder), "a line for each term")
-    expect(" bytes in place of " in lines[1] and " 8 names, requests waited " in lines[1], True, lines[1])
+    expect(" bytes instead of " in lines[1] and " 8 names, requests waited " in lines[1], True, lines[1])
     expect(int(least.read_text()), position, "the least position was raised in each term")
     expect_all(folder, pushers, "after many terms")
     expect([serials[pusher.name][-1] for pusher in pushers], [CHANGES] * 8)

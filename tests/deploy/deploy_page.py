@@ -122,7 +122,7 @@ def check_copies_and_what_to_watch():
     before = goes_on_alone(JOURNAL)
     text = do(*MONITOR)
     goes_on_alone(JOURNAL, before)
-    expect(("\n423\n" in f"\n{text}", "a start goes on from" in text, "\tadmin\tPOST\tnetwork.prod\t200" in text), (True, True, True), text)
+    expect(("\n423\n" in f"\n{text}", "a start continues" in text, "\tadmin\tPOST\tnetwork.prod\t200" in text), (True, True, True), text)
     found = read_metrics((ROOT / "var/lib/prometheus/node-exporter/tfstated.prom").read_text())
     expect((found["tfstated_workspaces"][0], found["tfstated_locks"][0], "tfstated_newest_copy_age_seconds" in found), (2, 1, True), found)
 
@@ -277,15 +277,15 @@ def check_a_damaged_journal_is_cut_or_passed_over():
     file, past = newest / f"{named(2)}.tfj", older / f"{named(1)}.tfj"
     told = run(f"tfstatectl serve {newest} {listen} || [ $? = 23 ]")
     at = len(SHORT + PUSH2)
-    expect(f"{file}: Damaged: it goes wrong at byte {at}." in told, True, told)
+    expect(f"{file}: Damaged: invalid at byte {at}." in told, True, told)
     text = run(f"{command('tfstated check FILE', FILE=file)} || [ $? = 4 ]")
     expect(text, f"base 1 1\n1 push a\ndamaged {at}\n", "the good records before it")
     run(command("truncate -s AT FILE", AT=at, FILE=file))
-    expect("a start goes on from" in run(f"tfstatectl check {newest}"), True)
+    expect("a start continues" in run(f"tfstatectl check {newest}"), True)
     expect(f"{past}: Damaged" in run(f"tfstatectl serve {older} {listen} || [ $? = 23 ]"), True)
     starts = command("runuser -u tfstated -- tfstatectl serve /var/lib/tfstated/journal --accept-past FILE", FILE=past)
     told = run_until_it_listens(starts.replace("/var/lib/tfstated/journal", str(older)))
-    expect(f"{past} is passed over" in told, True, told)
+    expect(f"{past} is discarded" in told, True, told)
     run_until_it_listens(f"tfstatectl serve {older} {listen}")
 
 
@@ -296,7 +296,7 @@ def check_histories_of_two_servers_are_told_apart():
     expect("Parted" in told, True, told)
     for folder in (fresh(n1=SHORT + PUSH3), fresh(n2=REBASED)):
         text = run(command("tfstatectl check FOLDER", FOLDER=folder))
-        expect("a start goes on from" in text, True, text)
+        expect("a start continues" in text, True, text)
     run(command("tfstatectl show FOLDER NAME >FILE", FOLDER=folder, NAME="a", FILE="missing.json"))
     expect((ROOM / "missing.json").read_bytes(), S2, "what is pushed to the other one")
     told = run_until_it_listens(f"tfstatectl serve {both} {listen} --accept-past {both}/{named(1)}.tfj")

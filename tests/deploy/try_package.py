@@ -217,7 +217,7 @@ def check_who_holds_a_lock_is_asked():
 
 def check_what_to_watch_and_users():
     text = do(*MONITOR)
-    expect(("\n423\n" in f"\n{text}", "a start goes on from" in text), (True, True), text)
+    expect(("\n423\n" in f"\n{text}", "a start continues" in text), (True, True), text)
     waits_for("curl -fs http://127.0.0.1:9100/metrics", "\ntfstated_changes_total ")
     add, remove = take_all("Manage users")
     password = re.search("^ann (.*)$", BOX.do(add), re.M)[1]

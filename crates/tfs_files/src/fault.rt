@@ -13,73 +13,73 @@ use thiserror::Error;
 pub enum Fault {
     #[error("invalid arguments: tfstatectl --help lists them")]
     Arguments,
-    #[error("OutOfMemory: memory was refused. Give it more")]
+    #[error("OutOfMemory: a request for memory was refused. Raise the memory limit")]
     OutOfMemory,
-    #[error("SmallStack: a thread's stack has {0} bytes, and a request may need 524288. Raise the limit (ulimit -s)")]
+    #[error("SmallStack: threads have a stack of {0} bytes, and a request may need 524288. Raise the limit (ulimit -s)")]
     SmallStack(u64),
-    #[error("NoFolder: it doesn't exist. Mount it, or create a new folder with tfstatectl init")]
+    #[error("NoFolder: the folder doesn't exist. Mount it, or create a new one with tfstatectl init")]
     NoFolder,
-    #[error("NotFolder: it is a file, or its path leads through a file. Give the folder that has the journals")]
+    #[error("NotFolder: the path is a file, or leads through a file. Give the folder of the journals")]
     NotFolder,
-    #[error("NotAllowed: it may not be read or written. Give this user the right to")]
+    #[error("NotAllowed: permission denied. Give this user read and write access")]
     NotAllowed,
-    #[error("Locked: another start, server or copy holds its lock. Stop that one, or wait for it")]
+    #[error("Locked: another start, server or copy holds the lock. Stop it, or wait until it ends")]
     Locked,
-    #[error("CannotRead: it could not be read. Look at its disk, and try again")]
+    #[error("CannotRead: reading failed. Check the disk, and try again")]
     CannotRead,
-    #[error("CannotWrite: it could not be written. Make room on its disk, and try again")]
+    #[error("CannotWrite: writing failed. Make room on the disk, and try again")]
     CannotWrite,
-    #[error("NoJournal: the folder has no journal. Mount the volume, or create a new folder with tfstatectl init")]
+    #[error("NoJournal: the folder has no journal. Mount its volume, or create a new folder with tfstatectl init")]
     NoJournal,
-    #[error("NotFirst: the folder has or had a journal. Serve it without --first, or restore it from a copy")]
+    #[error("NotFirst: the folder has, or had, a journal. Serve it without --first, or restore it from a copy")]
     NotFirst,
-    #[error("Damaged: it goes wrong at byte {0}. Restore it from a copy")]
+    #[error("Damaged: invalid at byte {0}. Restore it from a copy")]
     Damaged(usize),
-    #[error("Unlawful: the rules don't accept its record {0}. Restore it from a copy")]
+    #[error("Unlawful: the rules refuse record {0}. Restore it from a copy")]
     Unlawful(u64),
-    #[error("TornBase: it ends inside its header or its base, and no start that failed has left it so. Restore it from a copy")]
+    #[error("TornBase: it ends inside its header or base, and not because a start failed. Restore it from a copy")]
     TornBase,
-    #[error("Parted: it doesn't go on from the end of the journal before it. Move away the one that isn't to count")]
+    #[error("Parted: it does not continue the journal before it. Move away the one that should not count")]
     Parted,
-    #[error("TooFar: its position or its number is too high to go on from. Push its states to a new folder")]
+    #[error("TooFar: its position or number is too high to continue. Push its states to a new folder")]
     TooFar,
-    #[error("NotAtLeast: its position is {0}, and the least one is {1}. Mount or restore the folder that has the later changes")]
+    #[error("NotAtLeast: its position is {0}, below the required {1}. Mount or restore the folder with the later changes")]
     NotAtLeast(u64, u64),
-    #[error("NoPosition: it has no position in decimal. Write the least one into it, or 0")]
+    #[error("NoPosition: the file has no decimal position. Write the least position into it, or 0")]
     NoPosition,
-    #[error("NotPast: it is no journal of the folder before the newest one. Name one that is")]
+    #[error("NotPast: not a journal of the folder before the newest one. Name one that is")]
     NotPast,
-    #[error("TwoOfName: the folder's old/ has a journal of this name, too. Move one of them away")]
+    #[error("TwoOfName: old/ has a journal of the same name. Move one of them away")]
     TwoOfName,
-    #[error("NotBeginning: it isn't the beginning of a journal of that folder. Copy into a new folder")]
+    #[error("NotBeginning: not a prefix of a journal of the folder that is copied. Copy into a new folder")]
     NotBeginning,
-    #[error("Served: a server has run on it, and it may have changes of its own. Copy into a new folder")]
+    #[error("Served: a server has run on this folder, which may have changes of its own. Copy into a new folder")]
     Served,
-    #[error("Write: the output could not be written. Look at what reads it")]
+    #[error("Write: the output could not be written. Check the program that reads it")]
     Write,
-    #[error("NoPlace: no place was there for a worker to read at. Take fewer --workers")]
+    #[error("NoPlace: no reader's slot is left for a worker. Use fewer --workers")]
     NoPlace,
-    #[error("CannotBind: it can't be listened at. Look who listens there, and whether this machine has that address, or the folder of that socket")]
+    #[error("CannotBind: cannot listen there. Check whether another program does, and whether this machine has the address, or the socket's folder")]
     CannotBind,
-    #[error("NotSocket: a file of another kind has this path. Move it away, or choose another path")]
+    #[error("NotSocket: the path is a file of another kind. Move it away, or choose another path")]
     NotSocket,
-    #[error("SocketPath: the path of a socket has 1 to 107 bytes. Choose another one")]
+    #[error("SocketPath: a socket's path must have 1 to 107 bytes. Choose another one")]
     SocketPath,
-    #[error("JournalFault: its journal can't be written any more. Look at its disk, and start again")]
+    #[error("JournalFault: the journal can no longer be written. Check its disk, and start again")]
     JournalFault,
-    #[error("SyncFault: its journal can't be synced any more. Look at its disk, and start again")]
+    #[error("SyncFault: the journal can no longer be synced. Check its disk, and start again")]
     SyncFault,
-    #[error("OldAhead: it has changes that the folder's newest journal lacks. Stop what wrote it, and move away the one that isn't to count")]
+    #[error("OldAhead: it has changes that the folder's newest journal lacks. Stop the program that wrote it, and move away the one that should not count")]
     OldAhead,
-    #[error("OtherIdentity: it is of another folder, by the file identity. Bring back the folder's own, and copy into a new folder. \
-For a journal that is meant to count, remove all lines but the first of that file")]
+    #[error("OtherIdentity: by the file identity it belongs to another folder. Bring back the folder's own journal, and copy into a new folder. \
+To accept this journal, remove all lines but the first of that file")]
     OtherIdentity,
-    #[error("BadIdentity: it isn't 32 hexadecimal digits and lines of journals. Restore it from a copy, or remove it")]
+    #[error("BadIdentity: not 32 hexadecimal digits and lines of journals. Restore it from a copy, or remove it")]
     BadIdentity,
-    #[error("Replaced: the folder, its journal or its lock file isn't the one any more that this server opened. \
-Stop what moved it, look which journal has the last position, and start again")]
+    #[error("Replaced: the folder, its journal or its lock file is no longer the one that this server opened. \
+Stop what moved it, find the journal with the highest position, and start again")]
     Replaced,
-    #[error("AcceptFault: the listener gives no connections any more. Start again")]
+    #[error("AcceptFault: the listener has failed. Start again")]
     AcceptFault,
 }
 

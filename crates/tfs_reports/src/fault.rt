@@ -16,31 +16,31 @@ pub enum Fault {
     /// A fault that all commands share.
     #[error("{0}")]
     Files(tfs_files::Fault),
-    #[error("Changing: its journals went away while they were read, ten times. Try again")]
+    #[error("Changing: the journals were replaced while they were read, ten times. Try again")]
     Changing,
-    #[error("NoName: no journal that is there has a workspace of this name. `list` tells the names")]
+    #[error("NoName: no journal of the folder has this workspace. `list` prints the names")]
     NoName,
-    #[error("NoState: the workspace has no state there. `history` tells the positions at which it has one")]
+    #[error("NoState: the workspace has no state there. `history` prints the positions of its states")]
     NoState,
-    #[error("BeforeOldest: versions before position {0} are no longer kept. Look into an older copy of the folder")]
+    #[error("BeforeOldest: versions before position {0} are no longer kept. Look in an older copy of the folder")]
     BeforeOldest(u64),
-    #[error("BehindNewest: the newest position is {0}")]
+    #[error("BehindNewest: the newest position is {0}. Give that or a lower one")]
     BehindNewest(u64),
-    #[error("NotKept: no journal that is there has this position. Look into a copy of the folder")]
+    #[error("NotKept: no journal of the folder has this position. Look in a copy of the folder")]
     NotKept,
-    #[error("LineageDiffers: the newest state is of another history. Delete that state first")]
+    #[error("LineageDiffers: the newest state has another lineage. Delete it first")]
     LineageDiffers,
-    #[error("SerialAtLimit: the newest state has the highest serial. Delete that state first")]
+    #[error("SerialAtLimit: the newest state has the highest serial. Delete it first")]
     SerialAtLimit,
-    #[error("TooLong: with the new serial the state is longer than a state may be")]
+    #[error("TooLong: with the next serial the state is too long. `show` prints it unchanged")]
     TooLong,
-    #[error("Unplaced: the place of its serial wasn't found. `show` prints the state as it was")]
+    #[error("Unplaced: its serial was not found in the text. `show` prints it unchanged")]
     Unplaced,
-    #[error("NoAddress: no address was given")]
+    #[error("NoAddress: no address was given. Give at least one")]
     NoAddress,
-    #[error("TooManyAddresses: more than 64 addresses were given")]
+    #[error("TooManyAddresses: more than 64 addresses were given. Divide them")]
     TooManyAddresses,
-    #[error("UnknownAddress: the state has no instance of address {0}, counted from 0. `terraform state list` tells them")]
+    #[error("UnknownAddress: the state has no instance of address {0}, counted from 0. `terraform state list` prints them")]
     UnknownAddress(usize),
 }
 

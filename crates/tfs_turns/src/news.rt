@@ -41,7 +41,7 @@ impl News {
             }
             News::Stayed(number, fault) => {
                 let _ = eprintln!(host;
-                    "tfstatectl: {folder}/journal-{number:010}.tfj: {fault}. The journal before it goes on, until a try in a minute"
+                    "tfstatectl: {folder}/journal-{number:010}.tfj: {fault}. The server keeps the present journal, and compacts it in a minute"
                 );
                 Ok(())
             }
@@ -62,7 +62,7 @@ impl Turned {
         } = self;
         let (seconds, millis) = (waited / 1_000, waited % 1_000);
         eprintln!(host;
-            "tfstatectl: serving {folder}/journal-{number:010}.tfj from position {position}: {after} bytes in place of {before}, {names} names, \
+            "tfstatectl: serving {folder}/journal-{number:010}.tfj from position {position}: {after} bytes instead of {before}, {names} names, \
 requests waited {seconds}.{millis:03} s"
         )
     }

@@ -58,28 +58,28 @@ pub(crate) const JOURNALS: Argument = Argument {
 pub(crate) const NEW: Argument = Argument {
     name: "FOLDER",
     takes: Takes::Word,
-    help: "The new folder, which has no journals and never had any",
+    help: "The new folder, which never had a journal",
 };
 
 /// A folder of journals that is only read.
 pub(crate) const SERVED: Argument = Argument {
     name: "FOLDER",
     takes: Takes::Word,
-    help: "The folder of the journals, which may be served meanwhile",
+    help: "The folder of the journals; a server may use it meanwhile",
 };
 
 /// The folder to copy.
 pub(crate) const FROM: Argument = Argument {
     name: "FROM",
     takes: Takes::Word,
-    help: "The folder of the journals, which may be served meanwhile",
+    help: "The folder of the journals; a server may use it meanwhile",
 };
 
 /// The folder of the copies.
 pub(crate) const TO: Argument = Argument {
     name: "TO",
     takes: Takes::Word,
-    help: "The folder of the copies, which has none, or earlier copies of the same journals",
+    help: "The folder of the copies: empty, or with earlier copies of the same journals",
 };
 
 /// The name of a workspace.
@@ -93,49 +93,49 @@ pub(crate) const WORKSPACE: Argument = Argument {
 pub(crate) const JSON: Argument = Argument {
     name: "json",
     takes: Takes::Nothing,
-    help: "Prints JSON for programs, in place of a table",
+    help: "Prints JSON instead of a table",
 };
 
 /// Whether to print a picture.
 pub(crate) const DOT: Argument = Argument {
     name: "dot",
     takes: Takes::Nothing,
-    help: "Prints a picture for Graphviz, in which the answer is filled",
+    help: "Prints a graph for Graphviz, with the answer filled",
 };
 
 /// Whether to print a picture of the answer alone.
 pub(crate) const ANSWER_ONLY: Argument = Argument {
     name: "answer-only",
     takes: Takes::Nothing,
-    help: "Prints a picture of the answer alone",
+    help: "Prints a graph of the answer alone",
 };
 
 /// Whether to answer reads after the journal can't be written any more.
 pub(crate) const SERVE_READS: Argument = Argument {
     name: "serve-reads",
     takes: Takes::Nothing,
-    help: "Goes on answering reads once the journal can't be written, in place of ending",
+    help: "Continues to answer reads if the journal can't be written, instead of ending",
 };
 
 /// An optional position.
 pub(crate) const POSITION: Argument = Argument {
     name: "position",
     takes: Takes::Value("POSITION", Value::Optional(NUMBER)),
-    help: "A position that `history` tells",
+    help: "A position from `history`",
 };
 
 /// A required position.
 pub(crate) const SOME_POSITION: Argument = Argument {
     name: "position",
     takes: Takes::Value("POSITION", Value::Required(NUMBER)),
-    help: "A position that `history` tells",
+    help: "A position from `history`",
 };
 
 /// The folder of copies.
 pub(crate) const COPIES: Argument = Argument {
     name: "copies",
     takes: Takes::Value("FOLDER", Value::Optional(ValueParser::String)),
-    help: "A folder of copies: adds the age of its newest journal, once it has one",
+    help: "A folder of copies: adds the age of its newest journal, if it has one",
 };
 
 /// How many files of `old/` to keep, instead of the two limits.
@@ -145,7 +145,7 @@ pub(crate) const KEEP: Argument = Argument {
         "NUMBER",
         Value::UnlessAny(NUMBER, &["keep-days", "keep-bytes"]),
     ),
-    help: "Keeps this number of the newest files in old/, in place of --keep-days and --keep-bytes",
+    help: "Keeps this number of the newest files in old/, instead of --keep-days and --keep-bytes",
 };
 
 /// How old the files of `old/` may be.
@@ -159,7 +159,7 @@ pub(crate) const KEEP_DAYS: Argument = Argument {
 pub(crate) const KEEP_BYTES: Argument = Argument {
     name: "keep-bytes",
     takes: Takes::Value("NUMBER", Value::Default(NUMBER, "10737418240")),
-    help: "Removes the oldest files of old/ while all together have more bytes; the newest 10 always stay (10G; K, M and G are binary)",
+    help: "Removes the oldest files of old/ while their total is larger; the newest 10 always stay (10G; K, M and G are binary)",
 };
 
 /// The address or socket to listen on.
@@ -169,14 +169,14 @@ pub(crate) const LISTEN: Argument = Argument {
         "ADDRESS",
         Value::Default(ValueParser::String, "127.0.0.1:8080"),
     ),
-    help: "Where to listen: HOST:PORT, or unix:PATH for a socket that only its user and group may use",
+    help: "Listens at HOST:PORT, or unix:PATH for a socket that only its user and group may use",
 };
 
 /// The number of workers.
 pub(crate) const WORKERS: Argument = Argument {
     name: "workers",
     takes: Takes::Value("NUMBER", Value::Default(ValueParser::Unsigned(1, 16), "16")),
-    help: "How many connections are answered at once, 1 to 16",
+    help: "Answers this number of connections at once, 1 to 16",
 };
 
 /// How many bytes a journal may grow by before it is compacted.
@@ -186,7 +186,7 @@ pub(crate) const COMPACT_BYTES: Argument = Argument {
         "NUMBER",
         Value::Default(ValueParser::Unsigned(1, u64::MAX), "268435456"),
     ),
-    help: "Goes on in a shorter journal after so many bytes: 256M, K, M and G are powers of 1,024",
+    help: "Compacts the journal once it has grown by this many bytes (256M; K, M and G are binary)",
 };
 
 /// How many entries a journal may grow by before it is compacted. With the highest value, 536 more
@@ -197,21 +197,21 @@ pub(crate) const COMPACT_ENTRIES: Argument = Argument {
         "NUMBER",
         Value::Default(ValueParser::Unsigned(1, 65_000), "32768"),
     ),
-    help: "Goes on in a shorter journal after so many changes: 32K, at most 65,000",
+    help: "Compacts the journal after this many changes (32K, at most 65,000)",
 };
 
 /// Whether to start a new folder, and the file of its first journal.
 pub(crate) const FIRST: Argument = Argument {
     name: "first",
     takes: Takes::Value("FILE", Value::Perhaps),
-    help: "Begins a folder that never had a journal, with an empty one or with that of a file",
+    help: "Creates the first journal of a folder that never had one: empty, or from a file",
 };
 
 /// The earlier journal to discard.
 pub(crate) const PAST: Argument = Argument {
     name: "accept-past",
     takes: Takes::Value("FILE", Value::Unless("first")),
-    help: "Passes over an earlier journal of the folder, whose entries beyond the newest one's base are lost",
+    help: "Discards an earlier journal of the folder; changes in it that the newest one lacks are lost",
 };
 
 /// The least position.
@@ -225,7 +225,7 @@ pub(crate) const LEAST: Argument = Argument {
 pub(crate) const LEAST_FILE: Argument = Argument {
     name: "at-least-file",
     takes: Takes::Value("FILE", Value::Optional(ValueParser::String)),
-    help: "The same with the position that a file has, which the server raises with each change",
+    help: "Does the same with the position in a file, which the server raises with each change",
 };
 
 /// The file of the least position of `copy`.
@@ -239,7 +239,7 @@ pub(crate) const LEAST_OF_COPIES: Argument = Argument {
 pub(crate) const QUERY: Argument = Argument {
     name: "QUERY",
     takes: Takes::OneOf(&["any", "all"]),
-    help: "any: what a change of some of the addresses reaches; all: what each of them reaches",
+    help: "any: what a change of at least one address reaches; all: what a change of each address reaches",
 };
 
 /// The addresses that a change concerns.

@@ -111,5 +111,5 @@ fn tell_choice(rt: &HostRuntime, chosen: &Chosen) -> io::Result<()> {
     if let Some(left) = chosen.left {
         println!(rt; "journal-{left:010}.tfj was left by a start that failed")?;
     }
-    println!(rt; "a start goes on from journal-{number:010}.tfj at position {position}")
+    println!(rt; "a start continues journal-{number:010}.tfj at position {position}")
 }

@@ -13,9 +13,9 @@ const VERSION: &str = "0.2.0 (rattle-kit-13f logic dac8208d650f15bf)";
 
 /// What the exit statuses mean.
 const STATUSES: &str =
-    "Status: 0 done; 20 may pass: try again; 21 invalid arguments; 22 torn base; 23 damaged; 24 unlawful; 25 no journal, or diverged \
-journals; 26 not at least; 27 no folder, or permission denied; 28 out of memory; 29 the journal can't be written: try again; 30 no such workspace; \
-31 no state; 32 no such position; 33 another lineage; 34 no next serial; 35 unknown address. From 22 to 28 a person has to look.";
+    "Status: 0 success; 20 temporary fault: try again; 21 invalid arguments; 22 torn base; 23 damaged; 24 unlawful; 25 no journal, or \
+diverged journals; 26 below the least position; 27 no folder, or permission denied; 28 out of memory; 29 the journal can't be written: try again; \
+30 no such workspace; 31 no state; 32 no such position; 33 another lineage; 34 no next serial; 35 unknown address. 22 to 28 need a person.";
 
 /// A command: its name, what it does, and its arguments.
 #[derive(Clone, Copy)]
@@ -34,7 +34,7 @@ static COMMANDS: [Form; 10] = [
     },
     Form {
         name: "serve",
-        about: "Makes the next journal from the newest one of a folder, and serves on it until it is stopped",
+        about: "Serves a folder until it is stopped, in a new journal that continues the newest one",
         arguments: &[
             JOURNALS,
             LISTEN,
@@ -53,17 +53,17 @@ static COMMANDS: [Form; 10] = [
     },
     Form {
         name: "check",
-        about: "Tells what the journals of a folder are, and whether each goes on from the one before it",
+        about: "Prints what each journal of a folder has, and whether it continues the one before it",
         arguments: &[JOURNALS],
     },
     Form {
         name: "copy",
-        about: "Copies the journals of a folder, so that another folder can be served from them",
+        about: "Copies the journals of a folder to another one, which can be served instead",
         arguments: &[FROM, TO, KEEP, KEEP_DAYS, KEEP_BYTES, LEAST_OF_COPIES],
     },
     Form {
         name: "list",
-        about: "Lists the workspaces: what each has, and who holds its lock",
+        about: "Lists the workspaces: the state of each, and who holds its lock",
         arguments: &[SERVED, JSON],
     },
     Form {
@@ -73,22 +73,22 @@ static COMMANDS: [Form; 10] = [
     },
     Form {
         name: "show",
-        about: "Prints a state of a workspace as it was pushed: the newest one, or that at a position",
+        about: "Prints a state of a workspace as it was pushed: the newest one, or the one at a position",
         arguments: &[SERVED, WORKSPACE, POSITION],
     },
     Form {
         name: "restore",
-        about: "Prints the state at a position with the next serial, so that `terraform state push` brings it back",
+        about: "Prints the state at a position with the next serial, for `terraform state push`",
         arguments: &[SERVED, WORKSPACE, SOME_POSITION],
     },
     Form {
         name: "impact",
-        about: "Tells which instances of the newest state depend on those that are named",
+        about: "Lists the instances of the newest state that depend on the given ones",
         arguments: &[SERVED, WORKSPACE, QUERY, ADDRESSES, JSON, DOT, ANSWER_ONLY],
     },
     Form {
         name: "stats",
-        about: "Prints numbers for a monitor, in the text format of Prometheus",
+        about: "Prints metrics in the text format of Prometheus",
         arguments: &[SERVED, COPIES],
     },
 ];
