@@ -64,7 +64,7 @@ pub struct Run<K: Sink, G: Gate, L> {
 pub enum Obstacle<E> {
     /// An allocation failed.
     NoMemory,
-    /// There was no place for a worker to read at.
+    /// There was no free reader slot for a worker.
     NoPlace,
     /// The listener couldn't be created.
     NoListener(E),

@@ -18,7 +18,7 @@ use tfs_table::Table;
 pub enum Cause {
     /// An allocation failed.
     NoMemory,
-    /// There was no place for a session to read at.
+    /// There was no free reader slot for a session.
     NoPlace,
 }
 
