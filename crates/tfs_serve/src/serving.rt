@@ -79,8 +79,8 @@ pub(crate) fn work_over<
     unreachable!()
 }
 
-/// Holds a conversation on a connection, if there is one. States are read with the memory of
-/// `scratch`.
+/// Holds a conversation on a connection, if there is one. States of at most 1 MiB are read with the
+/// memory of `scratch`.
 fn serve<S: Connection + Drop, J: Naming, K: Sink, G: Gate, R: Wait + Clock>(
     service: &Service<'_, J, K, R>,
     stream: Option<S>,

@@ -88,7 +88,7 @@ impl<'v, 's, 'm, J: Naming, K: Sink, R: Wait> Desk for LentDesk<'v, 's, 'm, J, K
     }
 }
 
-/// Answers a call. A state is read with the memory of `scratch`.
+/// Answers a call. A state of at most 1 MiB is read with the memory of `scratch`.
 fn reply_to<J: Naming, K: Sink, R: Wait>(
     service: &Service<'_, J, K, R>,
     session: &mut Session<J>,
@@ -156,7 +156,7 @@ fn ask<J: Naming, K: Sink>(
     }
 }
 
-/// Changes the workspace of a name. A state is read with the memory of `scratch`.
+/// Changes the workspace of a name. A state of at most 1 MiB is read with the memory of `scratch`.
 fn change<J: Naming, K: Sink, R: Wait>(
     service: &Service<'_, J, K, R>,
     session: &mut Session<J>,
