@@ -3,8 +3,8 @@ use Rattle.std.specs.Prelude.{ℕ}
 use Rattle.tfs_files.specs.declared.fault.Fault.{Fault}
 use Rattle.tfs_files.specs.declared.fault.Fault.TheVariants as fault
 
--- The status by the fault: 20 or 29 if another try may help, 21 for invalid arguments; from 22 to 28 a person has to look. systemd and shells give
--- lower and higher numbers meanings of their own.
+-- The exit status of a fault: 20 or 29 if a retry may help, 21 for invalid arguments, and 22 to 28
+-- if a person must look. systemd and shells give lower and higher numbers meanings of their own.
 abbrev pub status_of : Fault → ℕ
 status_of fault.Locked = 20
 status_of fault.CannotRead = 20

@@ -1,4 +1,4 @@
-//! How a command ends: what it tells on standard error, and the status.
+//! The ends of commands: the message on standard error, and the exit status.
 
 ghost use Rattle.std.specs.Prelude.{◌≡◌};
 ghost use Rattle.tfs_files.specs.Status.{status_of};
@@ -8,7 +8,7 @@ use std::process::ExitCode;
 use tfs_folder::Unchosen;
 use thiserror::Error;
 
-/// Why a command ended before its work was done.
+/// The reason why a command ended before its work was done.
 #[derive(Clone, Copy, Debug, PartialEq, Eq, Error)]
 pub enum Fault {
     #[error("invalid arguments: tfstatectl --help lists them")]
@@ -83,7 +83,7 @@ Stop what moved it, find the journal with the highest position, and start again"
     AcceptFault,
 }
 
-/// The status of a fault.
+/// Returns the exit status of a fault.
 pub fn status_of(fault: Fault) -> u8
     ensures status { result ≡ status_of fault }
 {
@@ -118,7 +118,7 @@ pub fn status_of(fault: Fault) -> u8
     }
 }
 
-/// The fault of a choice, whose least position was this one.
+/// Returns the fault if no journal was chosen with at least this position.
 fn fault_of(why: tfs_folder::Fault, least: u64) -> Fault {
     match why {
         tfs_folder::Fault::NoJournal => Fault::NoJournal,
@@ -132,7 +132,7 @@ fn fault_of(why: tfs_folder::Fault, least: u64) -> Fault {
     }
 }
 
-/// What a fault is about.
+/// The subject of a fault.
 #[derive(Clone, Copy, Debug, PartialEq, Eq)]
 pub enum Place {
     /// The command itself.
@@ -141,25 +141,25 @@ pub enum Place {
     Folder,
     /// The folder's `old/`.
     Old,
-    /// The folder's journal of a number.
+    /// The folder's journal with this number.
     Journal(u64),
-    /// The journal of a number in the folder's `old/`.
+    /// The journal with this number in the folder's `old/`.
     OldJournal(u64),
     /// The folder's file `identity`.
     Identity,
-    /// The file `identity` of the folder that is copied.
+    /// The file `identity` of the copied folder.
     OriginalIdentity,
-    /// The file that a folder is to begin with.
+    /// The file from which a new folder starts.
     First,
-    /// The journal to be passed over.
+    /// The journal to discard.
     Past,
-    /// The file of the least position.
+    /// The file with the least position.
     Position,
-    /// The address to listen at.
+    /// The address to listen on.
     Address,
 }
 
-/// The end of a command by a fault.
+/// The end of a command: a fault and its subject.
 #[derive(Clone, Copy, Debug, PartialEq, Eq)]
 pub struct End {
     place: Place,
@@ -167,17 +167,17 @@ pub struct End {
 }
 
 impl End {
-    /// The end by a fault that is about this.
+    /// Creates the end by a fault with this subject.
     pub fn at(place: Place, fault: Fault) -> End {
         End { place, fault }
     }
 
-    /// What the fault is about.
+    /// Returns the subject of the fault.
     pub fn place(&self) -> Place {
         self.place
     }
 
-    /// The end because no journal is chosen whose position is at least this one.
+    /// Creates the end if no journal was chosen with at least this position.
     pub fn unchosen(unchosen: Unchosen, least: u64) -> End {
         let place = match unchosen.number {
             Some(number) => Place::Journal(number),
@@ -186,17 +186,19 @@ impl End {
         End::at(place, fault_of(unchosen.why, least))
     }
 
-    /// The same end, about the file that a folder is to begin with.
+    /// Returns the same end, with the file from which a new folder starts as its subject.
     pub fn of_first(self) -> End {
         End::at(Place::First, self.fault)
     }
 
-    /// The same end, about the file `identity` of the folder that is copied.
+    /// Returns the same end, with the file `identity` of the copied folder as its subject.
     pub fn of_original(self) -> End {
         End::at(Place::OriginalIdentity, self.fault)
     }
 
-    /// The end because a file can't be had, by what the system told, or by this fault.
+    /// Creates the end after a failed operation on a file. The fault is `OutOfMemory` or
+    /// `NotAllowed` if the system's error says so, `NoFolder` or `NotFolder` if it says so of the
+    /// folder, and otherwise `fault`.
     pub fn by_system(place: Place, fault: Fault, error: &io::Error) -> End {
         let fault = match error.kind() {
             io::ErrorKind::OutOfMemory => Fault::OutOfMemory,
@@ -215,8 +217,8 @@ impl End {
     }
 }
 
-/// Ends by a fault, which is told on standard error with the name of what it is about: of the folder, or of what another argument names.
-/// Where that can't be written, nothing else can be told.
+/// Ends a command. Prints the fault on standard error after the name of its subject: the folder, or
+/// the value of another argument. If standard error can't be written, nothing is reported.
 pub fn end_by(rt: &impl Eprint, name: &str, end: End) -> ExitCode {
     let fault = end.fault;
     let _ = match end.place {

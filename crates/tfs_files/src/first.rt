@@ -8,7 +8,8 @@ use crate::start::{chosen_first, refuse_second};
 /// The number of a folder's first journal.
 pub const FIRST_NUMBER: u64 = 1;
 
-/// Makes the first, empty journal of a locked folder that never had one, durably.
+/// Makes the first journal, which is empty, in a locked folder that never had one. The journal is
+/// durable on return.
 pub fn make_first(rt: &HostRuntime, folder: &str) -> Result<(), End> {
     let numbers = numbers_of(rt, folder)?;
     refuse_second(rt, folder, &numbers)?;

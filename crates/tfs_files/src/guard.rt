@@ -1,4 +1,5 @@
-//! What a server or a copy has opened in its folder, which stays locked, and whether it is still there.
+//! The lock of a folder, and checks that the files that a server or a copy has opened are still in
+//! place.
 
 use crate::fault::{End, Fault, Place};
 use crate::folder::journal_path;
@@ -8,7 +9,7 @@ use std::io;
 use std::os::unix::fs::MetadataExt;
 use std::sync::atomic::{AtomicBool, Ordering};
 
-/// Which file of the system one is, and how many names it has.
+/// The identity of a file for the system, and the number of its names.
 #[derive(Clone, Copy, PartialEq, Eq)]
 struct FileId {
     device: u64,
@@ -17,7 +18,7 @@ struct FileId {
 }
 
 impl FileId {
-    /// The file of this metadata.
+    /// Returns the identity of the file with this metadata.
     fn of(metadata: &Metadata) -> FileId {
         FileId {
             device: metadata.dev(),
@@ -26,7 +27,8 @@ impl FileId {
         }
     }
 
-    /// The directory of this metadata, whose links change with the directories in it.
+    /// Returns the identity of the directory with this metadata. Its links aren't compared, since
+    /// they change with the directories in it.
     fn of_directory(metadata: &Metadata) -> FileId {
         FileId {
             links: 0,
@@ -34,7 +36,7 @@ impl FileId {
         }
     }
 
-    /// Returns true if this file is at a path.
+    /// Returns true if this file is at the path, with the same number of names.
     fn is_file_at(self, rt: &HostRuntime, path: &str) -> bool {
         match fs::metadata(rt, path) {
             Ok(metadata) => FileId::of(&metadata) == self,
@@ -42,7 +44,7 @@ impl FileId {
         }
     }
 
-    /// Returns true if this directory is at a path.
+    /// Returns true if this directory is at the path.
     fn is_directory_at(self, rt: &HostRuntime, path: &str) -> bool {
         match fs::metadata(rt, path) {
             Ok(metadata) => FileId::of_directory(&metadata) == self,
@@ -51,7 +53,8 @@ impl FileId {
     }
 }
 
-/// A locked folder: the folder itself and its file `lock`, which are locked as long as they are open.
+/// A locked folder: the folder itself and its file `lock`, which are locked as long as they are
+/// open.
 #[derive(Drop)]
 pub struct FolderLock {
     folder: String,
@@ -63,7 +66,8 @@ pub struct FolderLock {
 }
 
 impl FolderLock {
-    /// Locks a folder: first the folder itself, so that nothing is made in one that is locked.
+    /// Locks a folder. The folder itself is locked first, so that no file is created in a folder
+    /// that is already locked.
     fn take(rt: &HostRuntime, folder: &str) -> Result<FolderLock, End> {
         let directory = lock_opened(File::open(rt, folder), Place::Folder)?;
         let file = lock_opened(lock_file(rt, folder), Place::Folder)?;
@@ -73,7 +77,7 @@ impl FolderLock {
         }
     }
 
-    /// The lock of a folder by these locked files.
+    /// Creates the lock of a folder from these locked files.
     fn of(rt: &HostRuntime, folder: &str, directory: File, file: File) -> io::Result<FolderLock> {
         Ok(FolderLock {
             folder: String::from_str(rt.alloc(), folder)?,
@@ -85,7 +89,7 @@ impl FolderLock {
         })
     }
 
-    /// Returns true if the folder, its lock file and the journal that is served are still the opened ones.
+    /// Returns true if the folder, its lock file and the served journal are still the opened ones.
     pub fn holds(&self, rt: &HostRuntime, journal: &ServedJournal) -> bool {
         let holds = self.folder_id.is_directory_at(rt, self.folder.as_str())
             && self.lock_id.is_file_at(rt, self.lock.as_str())
@@ -96,13 +100,13 @@ impl FolderLock {
         holds
     }
 
-    /// Returns true if the folder, its lock file or the journal was once found to be replaced.
+    /// Returns true if a check has found the folder, its lock file or the journal replaced.
     pub fn is_lost(&self) -> bool {
         self.is_lost.load(Ordering::SeqCst)
     }
 }
 
-/// The journal that is served: its path, and which file it is.
+/// The served journal: its path, and the identity of its file.
 #[derive(Drop)]
 pub struct ServedJournal {
     path: String,
@@ -110,14 +114,14 @@ pub struct ServedJournal {
 }
 
 impl ServedJournal {
-    /// The folder's journal of a number, which has its name.
+    /// Identifies the folder's journal with this number, which has its name.
     pub fn named(rt: &HostRuntime, folder: &str, number: u64) -> io::Result<ServedJournal> {
         let path = journal_path(rt, folder, number)?;
         let id = FileId::of(&fs::metadata(rt, path.as_str())?);
         Ok(ServedJournal { path, id })
     }
 
-    /// The folder's journal of a number, which still has its other name.
+    /// Identifies the folder's journal with this number, which is still a part file.
     pub fn part(rt: &HostRuntime, folder: &str, number: u64) -> io::Result<ServedJournal> {
         let part = part_path(rt, folder, number)?;
         let id = FileId::of(&fs::metadata(rt, part.as_str())?);
@@ -126,12 +130,13 @@ impl ServedJournal {
     }
 }
 
-/// Locks a folder, which stays locked until the lock is dropped: for a start, and for the journals that it makes.
+/// Locks a folder for a start and for the journals that it makes, until the lock is dropped.
 pub fn lock_folder(rt: &HostRuntime, folder: &str) -> Result<FolderLock, End> {
     FolderLock::take(rt, folder)
 }
 
-/// Locks the folder's journal of a number, from which a start continues, so that no other server writes it.
+/// Locks the folder's journal with this number, from which a start continues, so that no other
+/// server writes it.
 pub fn lock_journal(rt: &HostRuntime, folder: &str, number: u64) -> Result<File, End> {
     let place = Place::Journal(number);
     match journal_path(rt, folder, number) {
@@ -140,7 +145,7 @@ pub fn lock_journal(rt: &HostRuntime, folder: &str, number: u64) -> Result<File,
     }
 }
 
-/// Locks what was opened.
+/// Locks an opened file. Never waits for the lock.
 fn lock_opened(opened: io::Result<File>, place: Place) -> Result<File, End> {
     let file = match opened {
         Ok(file) => file,
@@ -153,7 +158,7 @@ fn lock_opened(opened: io::Result<File>, place: Place) -> Result<File, End> {
     }
 }
 
-/// The folder's file `lock`.
+/// Opens the folder's file `lock`, which is created if it doesn't exist.
 fn lock_file(rt: &HostRuntime, folder: &str) -> io::Result<File> {
     OpenOptions::new()
         .read(true)
@@ -162,7 +167,7 @@ fn lock_file(rt: &HostRuntime, folder: &str) -> io::Result<File> {
         .open(rt, lock_path(rt, folder)?.as_str())
 }
 
-/// The path of the folder's lock file.
+/// Returns the path of the folder's file `lock`.
 fn lock_path(rt: &HostRuntime, folder: &str) -> io::Result<String> {
     Ok(format!(in rt.alloc(); "{folder}/lock")?)
 }

@@ -1,4 +1,4 @@
-//! The identity of a folder: a value of its own, and which journals it has.
+//! The identity of a folder: a random value, and marks of its journals.
 
 use crate::fault::{End, Fault, Place};
 use crate::folder::sync_names;
@@ -8,10 +8,10 @@ use std::fs::{self, File, OpenOptions};
 use std::io::{self, Read, Write};
 use std::os::unix::fs::OpenOptionsExt;
 
-/// The digits of a value: 128 bits.
+/// The number of hexadecimal digits of a value: 128 bits.
 const DIGITS: usize = 32;
 
-/// What the file `identity` of a folder says: the folder's value, and marks of its journals.
+/// The contents of a folder's file `identity`: the folder's value, and marks of its journals.
 #[derive(Drop)]
 pub struct Identity {
     value: String,
@@ -19,7 +19,7 @@ pub struct Identity {
 }
 
 impl Identity {
-    /// An identity of a new value, without marks.
+    /// Creates an identity with a new random value and no marks.
     fn make(rt: &HostRuntime) -> io::Result<Identity> {
         let mut bytes = [0; DIGITS / 2];
         File::open(rt, "/dev/urandom")?.read_exact(&mut bytes)?;
@@ -29,7 +29,7 @@ impl Identity {
         })
     }
 
-    /// An identity of the same value, without marks.
+    /// Returns an identity with the same value and no marks.
     pub(crate) fn with_no_marks(&self, alloc: Global) -> Result<Identity, AllocError> {
         Ok(Identity {
             value: String::from_str(alloc, self.value.as_str())?,
@@ -37,29 +37,30 @@ impl Identity {
         })
     }
 
-    /// The folder's value.
+    /// Returns the folder's value.
     pub(crate) fn value(&self) -> &str {
         self.value.as_str()
     }
 
-    /// The marks of its journals.
+    /// Returns the marks of its journals.
     pub(crate) fn marks(&self) -> &[Mark] {
         self.marks.as_slice()
     }
 
-    /// Marks the journal of a number by its first bytes, in place of the mark that it has.
+    /// Marks the journal with this number by its first bytes. Replaces an earlier mark.
     pub(crate) fn mark(&mut self, alloc: Global, number: u64, first: &[u8]) -> io::Result<()> {
         self.marks.retain(|mark| mark.number != number);
         self.marks.push(Mark::new(alloc, number, first)?)?;
         Ok(())
     }
 
-    /// Keeps the marks of these journals alone.
+    /// Removes all marks except the marks of these journals.
     pub(crate) fn keep(&mut self, numbers: &[u64]) {
         self.marks.retain(|mark| numbers.contains(&mark.number));
     }
 
-    /// Returns true if all marked journals, of which there is one at least, have lower numbers: a journal is marked before it gets its name.
+    /// Returns true if there are marks and all marked journals have lower numbers. Since a journal
+    /// is marked before it gets its name, a journal with this number isn't the folder's then.
     pub(crate) fn ends_before(&self, number: u64) -> bool {
         match self.marks.iter().map(|mark| mark.number).max() {
             Some(newest) => newest < number,
@@ -67,7 +68,8 @@ impl Identity {
         }
     }
 
-    /// Whether a journal of this number and these first bytes is the folder's; none if the folder has no mark of that number.
+    /// Returns whether a journal with this number and these first bytes is the folder's own.
+    /// Returns `None` if the folder has no mark with that number.
     pub(crate) fn has(&self, alloc: Global, number: u64, first: &[u8]) -> io::Result<Option<bool>> {
         for mark in self.marks.as_slice() {
             if mark.number == number {
@@ -77,7 +79,7 @@ impl Identity {
         Ok(None)
     }
 
-    /// The text of the file.
+    /// Returns the text of the file.
     fn text(&self, alloc: Global) -> io::Result<String> {
         let mut text = format!(in alloc; "{}\n", self.value)?;
         for mark in self.marks.as_slice() {
@@ -86,7 +88,7 @@ impl Identity {
         Ok(text)
     }
 
-    /// The identity of a text; none if it is none.
+    /// Parses the text of the file. Returns `None` if it isn't an identity.
     fn of_text(alloc: Global, text: &str) -> Result<Option<Identity>, AllocError> {
         let Some((value, rest)) = text.split_once('\n') else {
             return Ok(None);
@@ -117,12 +119,12 @@ pub(crate) fn is_hex(text: &str) -> bool {
             .all(|byte| matches!(byte, b'0'..=b'9' | b'a'..=b'f'))
 }
 
-/// The path of a folder's identity.
+/// Returns the path of a folder's file `identity`.
 fn identity_path(rt: &HostRuntime, folder: &str) -> Result<String, AllocError> {
     format!(in rt.alloc(); "{folder}/identity")
 }
 
-/// The identity of a folder, if it has one.
+/// Reads the identity of a folder, if it has one.
 pub(crate) fn read_identity(rt: &HostRuntime, folder: &str) -> Result<Option<Identity>, End> {
     match load_identity(rt, folder) {
         Ok(identity) => Ok(identity),
@@ -133,7 +135,8 @@ pub(crate) fn read_identity(rt: &HostRuntime, folder: &str) -> Result<Option<Ide
     }
 }
 
-/// The same. Data is invalid that is no identity; a file in place of the folder has none.
+/// Reads the identity of a folder, if it has one. Fails with `InvalidData` if the file isn't an
+/// identity. A file in place of the folder has none.
 pub(crate) fn load_identity(rt: &HostRuntime, folder: &str) -> io::Result<Option<Identity>> {
     match fs::read_to_string(rt, identity_path(rt, folder)?.as_str()) {
         Ok(text) => match Identity::of_text(rt.alloc(), text.as_str())? {
@@ -147,7 +150,7 @@ pub(crate) fn load_identity(rt: &HostRuntime, folder: &str) -> io::Result<Option
     }
 }
 
-/// The identity of a folder, or a new one if it has none.
+/// Returns the identity of a folder, or a new one if it has none.
 pub(crate) fn new_identity(rt: &HostRuntime, folder: &str) -> io::Result<Identity> {
     match load_identity(rt, folder)? {
         Some(identity) => Ok(identity),
@@ -155,7 +158,7 @@ pub(crate) fn new_identity(rt: &HostRuntime, folder: &str) -> io::Result<Identit
     }
 }
 
-/// Writes the identity of a folder, durably: a kill leaves either the earlier or the new file.
+/// Writes the identity of a folder durably. A kill leaves either the earlier or the new file.
 pub(crate) fn write_identity(
     rt: &HostRuntime,
     folder: &str,
@@ -172,7 +175,7 @@ pub(crate) fn write_identity(
     sync_names(rt, folder)
 }
 
-/// Writes a new file, durably. What was left of it goes.
+/// Writes a new file durably. A file that an earlier attempt left is removed first.
 fn write_new(rt: &HostRuntime, path: &str, bytes: &[u8]) -> io::Result<()> {
     let _ = fs::remove_file(rt, path);
     let mut file = OpenOptions::new()

@@ -1,9 +1,9 @@
-//! A file that is opened once it is read.
+//! Files that are opened when they are read.
 
 use std::fs::File;
 use std::io::{self, Read};
 
-/// A file of a path, which the first read opens: so of many files few are open at a time.
+/// A file that is opened by its first read, so that few of many files are open at the same time.
 #[derive(Drop)]
 pub(crate) struct LateFile<'r> {
     rt: &'r HostRuntime,
@@ -12,7 +12,7 @@ pub(crate) struct LateFile<'r> {
 }
 
 impl<'r> LateFile<'r> {
-    /// The file of a path, which isn't open yet.
+    /// Creates the reader of the file at a path, which isn't open yet.
     pub(crate) fn new(rt: &'r HostRuntime, path: String) -> LateFile<'r> {
         LateFile {
             rt,

@@ -1,4 +1,5 @@
-//! The files of folders of journals: the lock, the next journal of a start, copies, and how commands end by faults.
+//! The files of folders of journals: the lock, the next journal of a start, copies, retention, and
+//! the ends of commands by faults.
 #![tactic(auto)]
 
 mod ahead;

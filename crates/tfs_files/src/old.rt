@@ -1,4 +1,4 @@
-//! The files of `old/` that are removed.
+//! Removal of files from `old/`.
 
 use crate::folder::{journal_path, old_numbers, old_path};
 use crate::retention::{OldFile, Retention, expired};
@@ -7,7 +7,8 @@ use std::fs::{self, Metadata};
 use std::io;
 use std::time::SystemTime;
 
-/// Removes the files of `old/` that aren't to stay, the oldest first. One that can't be removed stays.
+/// Removes the files of `old/` beyond the retention, oldest first. A file that can't be removed
+/// stays.
 pub fn remove_expired(rt: &HostRuntime, folder: &str, retention: Retention) -> io::Result<()> {
     let old = old_path(rt, folder)?;
     let files = files_in(rt, folder, old.as_str())?;
@@ -18,7 +19,7 @@ pub fn remove_expired(rt: &HostRuntime, folder: &str, retention: Retention) -> i
     Ok(())
 }
 
-/// The files of a folder's `old/`, the newest first.
+/// Lists the files of a folder's `old/`, newest first.
 fn files_in(rt: &HostRuntime, folder: &str, old: &str) -> io::Result<Vec<OldFile>> {
     let now = SystemTime::now(rt).ok();
     let mut files = Vec::new(rt.alloc());
@@ -29,7 +30,7 @@ fn files_in(rt: &HostRuntime, folder: &str, old: &str) -> io::Result<Vec<OldFile
     Ok(files)
 }
 
-/// The file of a number, with its age and its size as far as the system has them.
+/// Returns the file with this number, with its age and size if the system reports them.
 fn file_of(
     rt: &HostRuntime,
     old: &str,
@@ -51,7 +52,7 @@ fn file_of(
     }
 }
 
-/// The seconds since a file was written; 0 for a time to come.
+/// Returns the seconds since a file was written; 0 for a time in the future.
 fn age_of(metadata: &Metadata, now: Option<SystemTime>) -> Option<u64> {
     let written = metadata.modified().ok()?;
     match now?.duration_since(written) {
@@ -60,7 +61,7 @@ fn age_of(metadata: &Metadata, now: Option<SystemTime>) -> Option<u64> {
     }
 }
 
-/// Removes the file of a number, unless it can't be removed.
+/// Removes the file with this number. A file that can't be removed stays.
 fn remove(rt: &HostRuntime, old: &str, number: u64) -> Result<(), AllocError> {
     let path = journal_path(rt, old, number)?;
     let _ = fs::remove_file(rt, path.as_str());

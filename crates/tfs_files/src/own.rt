@@ -1,4 +1,4 @@
-//! Which journals are the folder's own: what a start refuses, and what is noted of each that is made.
+//! A folder's own journals: which journals a start refuses, and which ones are marked.
 
 use crate::fault::{End, Fault, Place};
 use crate::folder::{journal_path, numbers_in, old_numbers, old_path};
@@ -9,11 +9,12 @@ use crate::start::Start;
 use std::fs::File;
 use std::io;
 
-/// The number of retired journals whose marks stay.
+/// The number of retired journals whose marks are kept.
 const OLD_JOURNALS: usize = 3;
 
-/// Refuses a journal of another folder: the one of a number that is chosen, and open. Completes the folder's identity if it is missing, or has
-/// no marks; a journal that the operator prefers to another one is marked, too.
+/// Refuses the chosen journal with this number, which is open, if it is another folder's. Creates
+/// the folder's identity if it is missing, and marks the journal if there are no marks. Also marks
+/// a journal without a mark that the operator prefers to a discarded one.
 pub(crate) fn refuse_other(
     rt: &HostRuntime,
     asked: &Start<'_>,
@@ -37,7 +38,8 @@ pub(crate) fn refuse_other(
     }
 }
 
-/// Whether the journal of a number is the folder's; none if its identity has no marks of it.
+/// Returns whether the journal with this number is the folder's own. Returns `None` if the folder's
+/// identity has no mark with that number.
 fn is_own(
     rt: &HostRuntime,
     folder: &str,
@@ -54,7 +56,8 @@ fn is_own(
     }
 }
 
-/// The first bytes of the journal of a number, in the folder or, since a server may have retired it meanwhile, in its `old/`.
+/// Reads the first bytes of the journal with this number from the folder or, since a server may
+/// have retired it meanwhile, from its `old/`.
 fn first_in(rt: &HostRuntime, folder: &str, number: u64) -> io::Result<Vec<u8>> {
     match first_of(rt, folder, number) {
         Ok(first) => Ok(first),
@@ -65,12 +68,13 @@ fn first_in(rt: &HostRuntime, folder: &str, number: u64) -> io::Result<Vec<u8>> 
     }
 }
 
-/// The first bytes of the journal of a number.
+/// Reads the first bytes of the journal with this number.
 fn first_of(rt: &HostRuntime, folder: &str, number: u64) -> io::Result<Vec<u8>> {
     first_bytes(rt, journal_path(rt, folder, number)?.as_str(), MOST_MARKED)
 }
 
-/// Gives a folder an identity if it has none, and marks the journal of a number in it, if one is open.
+/// Creates the folder's identity if it has none, and marks the journal with this number in it if
+/// the journal is open.
 fn complete(rt: &HostRuntime, folder: &str, chosen: Option<&File>, number: u64) -> Result<(), End> {
     match completed(rt, folder, chosen, number) {
         Ok(()) => Ok(()),
@@ -78,7 +82,7 @@ fn complete(rt: &HostRuntime, folder: &str, chosen: Option<&File>, number: u64) 
     }
 }
 
-/// The same. Only bytes that are durable are marked.
+/// Does the work of [`complete`]. Only durable bytes are marked.
 fn completed(rt: &HostRuntime, folder: &str, chosen: Option<&File>, number: u64) -> io::Result<()> {
     let mut identity = new_identity(rt, folder)?;
     if let Some(file) = chosen {
@@ -89,7 +93,8 @@ fn completed(rt: &HostRuntime, folder: &str, chosen: Option<&File>, number: u64)
     write_identity(rt, folder, &identity)
 }
 
-/// Marks a part before it gets the name of a journal's number, durably. The marks of the newest journals stay.
+/// Marks a part file durably, before it gets the name of the journal with this number. Only the
+/// marks of the newest journals are kept.
 pub(crate) fn mark_part(rt: &HostRuntime, folder: &str, part: u64, number: u64) -> io::Result<()> {
     let mut identity = new_identity(rt, folder)?;
     identity.keep(newest_of(rt, folder)?.as_slice());
@@ -99,8 +104,9 @@ pub(crate) fn mark_part(rt: &HostRuntime, folder: &str, part: u64, number: u64) 
     write_identity(rt, folder, &identity)
 }
 
-/// Marks the journal of a number, which has its name, by at most so many of its bytes: those that are durable. Nothing is marked of one that isn't
-/// the folder's any more.
+/// Marks the journal with this number, which has its name, by at most `durable` of its first bytes,
+/// which must all be durable. Does nothing if the folder has no identity, or if the journal doesn't
+/// match its mark.
 pub fn mark_grown(rt: &HostRuntime, folder: &str, number: u64, durable: usize) -> io::Result<()> {
     let Some(mut identity) = load_identity(rt, folder)? else {
         return Ok(());
@@ -114,7 +120,7 @@ pub fn mark_grown(rt: &HostRuntime, folder: &str, number: u64, durable: usize) -
     write_identity(rt, folder, &identity)
 }
 
-/// The numbers of a folder's own journals, and of the newest ones that were put away.
+/// Returns the numbers of a folder's own journals and of the newest retired ones.
 fn newest_of(rt: &HostRuntime, folder: &str) -> io::Result<Vec<u64>> {
     let mut numbers = numbers_in(rt, folder)?;
     let old = old_numbers(rt, folder)?;
@@ -123,7 +129,8 @@ fn newest_of(rt: &HostRuntime, folder: &str) -> io::Result<Vec<u64>> {
     Ok(numbers)
 }
 
-/// Refuses to copy a folder into one of another identity. A folder without one is of none.
+/// Refuses to copy a folder into one with another identity. A folder without an identity is never
+/// refused.
 pub fn refuse_other_copies(rt: &HostRuntime, from: &str, to: &str) -> Result<(), End> {
     let original = match read_identity(rt, from) {
         Ok(original) => original,
@@ -136,8 +143,9 @@ pub fn refuse_other_copies(rt: &HostRuntime, from: &str, to: &str) -> Result<(),
     Ok(())
 }
 
-/// Refuses to copy a journal, of this number, that isn't the copied folder's own by its identity. A folder without marks is taken as it is, and so is a
-/// journal that was retired so long ago that its mark or its file is gone.
+/// Refuses to copy the journal with this number if it isn't the copied folder's own according to
+/// its identity. Accepts every journal of a folder without marks, and a journal that was retired so
+/// long ago that its mark or its file is gone.
 pub fn refuse_other_original(rt: &HostRuntime, from: &str, number: u64) -> Result<(), End> {
     let Some(identity) = read_identity(rt, from)? else {
         return Ok(());
@@ -168,8 +176,9 @@ fn are_different(one: Option<&Identity>, other: Option<&Identity>) -> bool {
     }
 }
 
-/// Gives a folder of copies the identity of the folder that is copied, if that has one, and marks its journals, and the parts of these numbers that
-/// it lacks, before they get their names.
+/// Gives a folder of copies the identity of the copied folder if that has one, unless the folder of
+/// copies has its own. Marks its journals, and the part files with these numbers whose journals it
+/// lacks, before they get their names.
 pub fn mark_copies(rt: &HostRuntime, from: &str, to: &str, parts: &[u64]) -> Result<(), End> {
     let known = match read_identity(rt, to)? {
         Some(identity) => Some(identity),
@@ -184,7 +193,7 @@ pub fn mark_copies(rt: &HostRuntime, from: &str, to: &str, parts: &[u64]) -> Res
     }
 }
 
-/// The same, of an identity.
+/// Does the work of [`mark_copies`] for an identity.
 fn copies_marked(rt: &HostRuntime, to: &str, known: &Identity, parts: &[u64]) -> io::Result<()> {
     let mut identity = known.with_no_marks(rt.alloc())?;
     let here = numbers_in(rt, to)?;

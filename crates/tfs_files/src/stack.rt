@@ -1,4 +1,4 @@
-//! The stack of a thread.
+//! Limits of thread stacks.
 
 ghost use Rattle.std.specs.Prelude.{◌≡◌, ◌≤◌, ◌<◌, IfSome, IfErr};
 ghost use Rattle.tfs_files.specs.declared.fault.Fault.TheVariants.{SmallStack};
@@ -7,10 +7,11 @@ use crate::fault::Fault;
 use libc::types::rlimit;
 use libc::{RLIMIT_STACK, getrlimit};
 
-/// The least stack of a thread, in bytes, on which each request fits (tests/test_serve.py).
+/// The smallest thread stack, in bytes, that suffices for every request (tests/test_serve.py).
 pub const LEAST_STACK: u64 = 524_288;
 
-/// Refuses a limit of stacks below the least one. The C library gives each thread a stack of the limit that a program is started with.
+/// Refuses a stack limit below the smallest one. The C library gives each thread a stack of the
+/// limit with which the program was started.
 pub fn refuse_small_stack() -> Result<(), Fault>
     ensures small { IfErr result (λ fault. (limit : _) × (fault ≡ SmallStack limit) × (limit < 524_288)) }
 {
@@ -20,7 +21,7 @@ pub fn refuse_small_stack() -> Result<(), Fault>
     }
 }
 
-/// The limit of stacks, where the system tells it.
+/// Returns the stack limit, if the system reports it.
 fn limit_of_stacks() -> Option<u64> {
     let mut limit = rlimit {
         rlim_cur: 0,

@@ -1,4 +1,4 @@
--- What a run says in short: all replies follow one journal.
+-- The outcome of a run in short: all replies follow one journal.
 use Rattle.std.specs.Prelude.{◌≡◌, ◌⊎◌, All, List}
 use Rattle.tfs_records.specs.Journal.{Journal}
 use Rattle.tfs_calls.specs.Refusal.{no_copy}
@@ -10,7 +10,7 @@ use Rattle.tfs_serve.specs.Standing.{AcceptedStand}
 use Rattle.tfs_serve.specs.Told.{positions_told, AreToldOnce}
 use Rattle.tfs_serve.specs.Working.{Answer}
 
--- The reply is the model's answer over a lawful beginning of a journal.
+-- The reply is the model's answer over a lawful prefix of the last journal.
 pub record FollowsJournal (last : Journal) (a : Answer) : Type 0 where
   pub before : TableModel
   pub after : TableModel
@@ -18,8 +18,9 @@ pub record FollowsJournal (last : Journal) (a : Answer) : Type 0 where
   pub begins : BeginsWith last before.journal
   pub answer : Answers before a.call a.reply after
 
--- The last journal is lawful, and begins with the opening one. Each reply, other than `NoCopy`, follows it. Each accepted change stands in it at
--- the position that its reply tells, and each position beyond the opening one is told by one reply.
+-- The last journal is lawful, and begins with the opening one. Each reply, except `NoCopy`, follows
+-- it. Each accepted change is in it at the reported position, and each position beyond the opening
+-- one is reported by exactly one reply.
 pub record FollowOneJournal (opening last : Journal) (answers : List Answer) : Type 0 where
   pub lawful : IsLawful last
   pub begins : BeginsWith last opening

@@ -1,4 +1,4 @@
--- What a worker's replies are over the journal that a run leaves.
+-- The replies of a worker over the journal that a run leaves.
 use Rattle.std.specs.Prelude.{◌≡◌, ◌⊎◌, ◌+◌, ◌<◌, ℕ, Bool, List, [], ◌∷◌, ◌++◌, length, get_or, flat_map, sum_by, Option, is_some}
 use Rattle.tfs_records.specs.Journal.{Journal, position_of}
 use Rattle.tfs_calls.specs.Refusal.{no_copy, out_of_memory}
@@ -15,8 +15,9 @@ use Rattle.tfs_serve.specs.Told.{positions_told, AreToldOnce}
 use Rattle.tfs_serve.specs.Working.{Answer, heard_of_connection, end_of_work}
 use Rattle.tfs_serve.specs.declared.run.Served.{Served}
 
--- The reply is the transition of a table over a lawful beginning of the last journal, which begins with all that had been seen. What
--- it leaves, a lawful beginning too, is what has been seen then.
+-- The reply is the transition of a table over a lawful prefix of the last journal, which begins
+-- with all that had been seen. The journal after the transition, a lawful prefix too, is what has
+-- been seen then.
 pub record RepliesOver (last seen : Journal) (a : Answer) (next : Journal) : Type 0 where
   pub before : TableModel
   pub after : TableModel
@@ -29,25 +30,26 @@ pub record RepliesOver (last seen : Journal) (a : Answer) (next : Journal) : Typ
   pub was_lawful : IsLawful before.journal
   pub is_lawful : IsLawful next
 
--- One reply: over such a journal or, where there is none, `NoCopy`, and nothing more has been seen.
+-- One reply: over such a journal, or `NoCopy`, and then nothing more has been seen.
 abbrev pub Replies : Journal → Journal → Answer → Journal → Type 0
 Replies last seen a next = ((a.reply ≡ refused no_copy) × (next ≡ seen)) ⊎ RepliesOver last seen a next
 
--- Replies in turn, each after what the one before had seen.
+-- The replies of one worker in order, each after what had been seen up to the previous one.
 abbrev pub RepliesInTurn : Journal → Journal → List Answer → Journal → Type 0
 RepliesInTurn last seen [] end = end ≡ seen
 RepliesInTurn last seen (a ∷ more) end = (next : Journal) × Replies last seen a next × RepliesInTurn last next more end
 
--- How many changes replies tell of that were accepted.
+-- The number of changes that replies report as accepted.
 abbrev pub accepted_in : List Answer → ℕ
 accepted_in = sum_by (λ a. accepted_by a.reply)
 
--- The answers on connections, in order.
+-- The answers on all connections, in order.
 abbrev pub answers_on : List (List Answer) → List Answer
 answers_on = flat_map (λ answers. answers)
 
--- What a run leaves of a worker: what its gate was told, whether the listener gave it no connection and by which fault, the position of what
--- it has seen, and how many changes it told as accepted.
+-- The view of a worker's outcome: the events that its gate heard, whether the listener failed and
+-- with which fault, the position of what the worker has seen, and the number of changes that it
+-- reported as accepted.
 pub record ServedView : Type 0 where
   pub told : Option (List Event)
   pub failed : Bool
@@ -55,7 +57,7 @@ pub record ServedView : Type 0 where
   pub seen : ℕ
   pub accepted : ℕ
 
--- What is left of a worker, as contracts see it, by what gates of its type were told.
+-- The view of an outcome, given the events that gates of its type hear.
 abbrev pub served_view : {G : Type 0} → (G → Option (List Event)) → Served G → ServedView
 served_view told served = record {
   told = told served.gate;
@@ -65,9 +67,10 @@ served_view told served = record {
   accepted = served.accepted;
 }
 
--- A worker of a run from an opening journal to a last one, which answered on these connections. Its gate has heard of the connections that
--- it was asked for and of each call and reply on them, in order, and of nothing else. The replies are those in turn from the opening
--- journal, and each change that one of them tells as accepted stands in the last journal at the position that it tells.
+-- A worker of a run from an opening journal to a last one, which answered on these connections. Its
+-- gate has heard of each connection that it was asked for and of each call and reply on these, in
+-- order, and of nothing else. The replies are those of a session that starts from the opening
+-- journal, and each accepted change is in the last journal at the reported position.
 pub record IsServed (opening last : Journal) (connections : List (List Answer)) (told : Option (List Event)) (served : ServedView) : Type 0
   where
     pub heard : Hears told served.told (flat_map heard_of_connection connections ++ end_of_work served.failed)
@@ -79,9 +82,10 @@ pub record IsServed (opening last : Journal) (connections : List (List Answer)) 
     pub seen_is : served.seen ≡ position_of view
     pub accepted_is : served.accepted ≡ accepted_in (answers_on connections)
 
--- A run from an opening journal to a last one, with a worker for each gate, by what the gates were told before. The last journal is lawful
--- and begins with the opening one. Each worker has served on its connections. The entries beyond the opening ones are as many as changes
--- were told as accepted, and the position of each is told by one reply of all.
+-- A run from an opening journal to a last one, with a worker for each gate, given the events that
+-- the gates had heard before. The last journal is lawful and begins with the opening one. Each
+-- worker has served its connections. Beyond the opening entries there are as many as changes were
+-- reported as accepted, and each of their positions is reported by exactly one reply.
 pub record IsRun (opening last : Journal) (told : List (Option (List Event))) (served : List ServedView) : Type 0 where
   pub lawful : IsLawful last
   pub begins : BeginsWith last opening

@@ -1,4 +1,4 @@
--- Where accepted changes stand in the journal that a run leaves.
+-- The positions of accepted changes in the journal that a run leaves.
 use Rattle.std.specs.Prelude.{◌≡◌, ◌+◌, ℕ, All, List, ◌∷◌, ◌++◌, length, Some}
 use Rattle.tfs_rules.specs.Act.{ActValue}
 use Rattle.tfs_records.specs.Journal.{Journal, EntryValue}
@@ -9,14 +9,15 @@ use Rattle.tfs_calls.specs.declared.call.Call.TheVariants.{Change}
 use Rattle.tfs_calls.specs.declared.call.Raw.{Raw}
 use Rattle.tfs_serve.specs.Working.{Answer}
 
--- The entry stands in the journal, which has that many acts up to it, with it.
+-- The journal has the entry at this position: the base's position plus the number of entries up to
+-- and including it.
 pub record StandsAt (j : Journal) (e : EntryValue) (position : ℕ) : Type 0 where
   pub front : List EntryValue
   pub rest : List EntryValue
   pub parts : j.entries ≡ front ++ e ∷ rest
   pub position_is : position ≡ j.base.position + length front + 1
 
--- A call is a change whose act stands in the journal at a position.
+-- The call is a change whose act is in the journal at this position.
 pub record IsAcceptedAt (last : Journal) (call : Call) (position : ℕ) : Type 0 where
   pub name : List ℕ
   pub raw : Raw
@@ -25,6 +26,6 @@ pub record IsAcceptedAt (last : Journal) (call : Call) (position : ℕ) : Type 0
   pub read : act_of raw ≡ Some act
   pub stands : StandsAt last (record { name = name; act = act }) position
 
--- Each reply that tells a change as accepted tells the position at which it stands in the journal.
+-- Each accepted change is in the journal at the position that its reply reports.
 abbrev pub AcceptedStand : Journal → List Answer → Type 0
 AcceptedStand last = All (λ a. (position : ℕ) → a.reply ≡ done position → IsAcceptedAt last a.call position)

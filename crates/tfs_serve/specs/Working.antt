@@ -1,4 +1,5 @@
--- What a worker does: it asks its gate for connections, and answers the calls of those that the gate admits.
+-- The work of a worker: it asks its gate for connections, and answers the calls on each connection
+-- that the gate admits.
 use Rattle.std.specs.Prelude.{◌≡◌, Bool, true, false, List, [], ◌∷◌, ◌++◌, flat_map, Option, if◌then◌else◌}
 use Rattle.tfs_calls.specs.declared.call.Call.{Call}
 use Rattle.tfs_calls.specs.Reply.{ReplyValue}
@@ -7,43 +8,45 @@ use Rattle.tfs_shared.specs.View.{SessionView}
 use Rattle.tfs_serve.specs.Gate.{Event, asked, before, after, Hears}
 use Rattle.tfs_serve.specs.Session.{SessionStep}
 
--- A call, with its reply.
+-- A call and its reply.
 pub record Answer : Type 0 where
   pub call : Call
   pub reply : ReplyValue
 
--- What a gate hears of an answer.
+-- The events of an answer.
 abbrev pub heard_of : Answer → List Event
 heard_of a = before a.call ∷ after a.reply ∷ []
 
--- What a gate hears of a connection that it admits, from which these calls came.
+-- The events of a connection that the gate admits, with these answers.
 abbrev pub heard_of_connection : List Answer → List Event
 heard_of_connection answers = asked true ∷ flat_map heard_of answers
 
--- A session of a table with an opening journal gives answers in turn, each by a step, and nothing else becomes of it.
+-- A session of a table with an opening journal gives these answers in order, each by a step, and
+-- changes in no other way.
 abbrev pub Gives : Journal → SessionView → List Answer → SessionView → Type 0
 Gives opening old [] new = new ≡ old
 Gives opening old (a ∷ more) new = (between : SessionView) × SessionStep opening old a.call a.reply between × Gives opening between more new
 
--- The same on one connection after another.
+-- A session gives these answers on one connection after another.
 abbrev pub GivesOn : Journal → SessionView → List (List Answer) → SessionView → Type 0
 GivesOn opening old [] new = new ≡ old
 GivesOn opening old (answers ∷ connections) new =
     (between : SessionView) × Gives opening old answers between × GivesOn opening between connections new
 
--- A session has answered calls, of all of which the gate has heard, and of nothing else.
+-- A session has answered calls. The gate has heard of all of these, and of nothing else.
 pub record HasAnswered (opening : Journal) (told now : Option (List Event)) (old new : SessionView) : Type 0 where
   pub answers : List Answer
   pub heard : Hears told now (flat_map heard_of answers)
   pub gives : Gives opening old answers new
 
--- A session has worked: on each connection that the gate admitted, one after another, it has answered calls. The gate has heard of all
--- of that, then of this end, and of nothing else.
+-- A session has worked: on each connection that the gate admitted, one after another, it has
+-- answered calls. The gate has heard of all of that, then of this end, and of nothing else.
 pub record HasWorked (opening : Journal) (told now : Option (List Event)) (old new : SessionView) (end : List Event) : Type 0 where
   pub connections : List (List Answer)
   pub heard : Hears told now (flat_map heard_of_connection connections ++ end)
   pub gives : GivesOn opening old connections new
 
--- The last that a gate hears: its no, where the listener has not failed.
+-- The last event of a worker's gate: it was asked for a connection and said no, unless the listener
+-- failed.
 abbrev pub end_of_work : Bool → List Event
 end_of_work failed = if failed then [] else (asked false ∷ [])

@@ -1,4 +1,4 @@
-//! Who works in a run.
+//! The crew of a run: its workers, from their start to the gathering of the table.
 
 ghost use Rattle.std.specs.Prelude.{◌≡◌, ◌+◌, ◌≤◌, ◌<◌, ℕ, [], is_some, length, map, slice_index_or, vec_capacity, IfOk, IfErr};
 ghost use Rattle.tfs_published.specs.Beginning.{BeginsWith};
@@ -22,7 +22,7 @@ use tfs_records::Sink;
 use tfs_shared::{Naming, Session, Shared};
 use tfs_table::Table;
 
-/// Room for members, and for what becomes of them.
+/// Allocated space for members and for what is left of them.
 #[derive(Drop)]
 pub(crate) struct Room<J: Naming, G: Gate> {
     members: Vec<Member<J, G>>,
@@ -30,7 +30,8 @@ pub(crate) struct Room<J: Naming, G: Gate> {
     served: Vec<Served<G>>,
 }
 
-/// Who is to work: a gate and a session for each member, and room for the members.
+/// A crew before it starts: a gate and a session for each member, and allocated space for the
+/// members.
 #[derive(Drop)]
 pub(crate) struct Crew<J: Naming, G: Gate> {
     pub(crate) gates: Vec<G>,
@@ -39,7 +40,7 @@ pub(crate) struct Crew<J: Naming, G: Gate> {
 }
 
 impl<J: Naming, G: Gate + Drop> Room<J, G> {
-    /// Room for as many as a number tells.
+    /// Allocates space for `number` members.
     pub(crate) fn new(alloc: Global, number: usize) -> Result<Room<J, G>, AllocError>
         ensures members { IfOk result (λ room. (room.members.items ≡ []) × (number ≤ vec_capacity room.members)) }
         ensures sessions { IfOk result (λ room. (room.sessions.items ≡ []) × (number ≤ vec_capacity room.sessions)) }
@@ -53,8 +54,8 @@ impl<J: Naming, G: Gate + Drop> Room<J, G> {
     }
 }
 
-/// Has a member for each gate answer connections, and gathers the table. Where a session had seen more than the table's journal, there is
-/// the table alone.
+/// Runs a member for each gate, which answer connections, and gathers the table afterwards. If a
+/// session had seen more than the table's journal, returns the table alone, as an error.
 pub(crate) fn attend<
     J: Naming + Send + Sync,
     L: OpenListener<Stream = S> + Sync + Drop,
@@ -99,7 +100,7 @@ pub(crate) fn attend<
     }
 }
 
-/// A member for each gate, over sessions that have made no calls: the last of them first.
+/// Makes a member for each gate, over new sessions: the first gate gets the last session.
 fn filled<J: Naming, G: Gate + Drop>(
     room: Vec<Member<J, G>>,
     gates: Vec<G>,
@@ -126,7 +127,7 @@ fn filled<J: Naming, G: Gate + Drop>(
     members
 }
 
-/// The members, once each has worked.
+/// Runs the members, and returns them when each has finished its work.
 fn worked<
     J: Naming + Send + Sync,
     L: OpenListener<Stream = AnyStream> + Sync,

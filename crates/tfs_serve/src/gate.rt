@@ -1,17 +1,18 @@
-//! Gates: what watches a worker.
+//! Gates, which watch workers.
 
 use tfs_calls::{Call, Reply};
 
-/// Watches a worker: it is asked before each connection, and told of each call and its reply.
+/// A gate watches a worker: it is asked before each connection, and hears of each call and its
+/// reply.
 pub trait Gate {
     ghost use Rattle.std.specs.Prelude.{◌∷◌, [], List, Option};
     ghost use Rattle.tfs_calls.specs.Reply.{reply_value};
     ghost use Rattle.tfs_serve.specs.Gate.{Event, asked, before, after, Hears};
 
-    // What it was told, where it tells that.
+    // The events that it has heard, if they are known.
     ghost told: { Self → Option (List Event) };
 
-    /// Whether the next connection is to be taken.
+    /// Returns true if the worker is to take the next connection.
     fn admit(&mut self) -> bool
         ensures heard { Hears (told self.old) (told self.new) (asked result ∷ []) };
 
@@ -19,12 +20,12 @@ pub trait Gate {
     fn before(&mut self, call: &Call)
         ensures heard { Hears (told self.old) (told self.new) (before call.now ∷ []) };
 
-    /// Hears of a reply that was given, before it is written.
+    /// Hears of a reply after the call is answered and before the reply is written.
     fn after(&mut self, reply: &Reply)
         ensures heard { Hears (told self.old) (told self.new) (after (reply_value reply.now) ∷ []) };
 }
 
-/// A gate that takes every connection.
+/// A gate that admits every connection.
 #[derive(Clone, Copy, Debug, Drop)]
 pub struct Open;
 

@@ -1,10 +1,11 @@
-//! Desks behind gates.
+//! Desks with gates.
 
 use crate::gate::Gate;
 use tfs_calls::{Call, Reply};
 use tfs_conversation::Desk;
 
-/// A desk with a gate, which is lent, that hears of each call before the desk is asked, and of the desk's reply.
+/// A desk with a borrowed gate, which hears of each call before the desk is asked, and of the
+/// desk's reply.
 #[derive(Drop)]
 pub struct Gated<'g, D: Desk, G: Gate> {
     pub desk: D,
@@ -15,7 +16,7 @@ impl<'g, D: Desk, G: Gate> Desk for Gated<'g, D, G> {
     ghost use Rattle.std.specs.Prelude.{◌≡◌, ◌∷◌, []};
     ghost use Rattle.tfs_serve.specs.Gate.{before, after, Hears};
 
-    // The gate keeps its loan and hears of both; the desk answers.
+    // The gate stays the borrowed one and hears of the call and the reply; the desk answers.
     ghost step = { λ old call reply new. (new.gate.ghost_name ≡ old.gate.ghost_name)
         × (D.step old.desk call reply new.desk × Hears (G.told old.gate.now) (G.told new.gate.now) (before call ∷ after reply ∷ [])) };
 

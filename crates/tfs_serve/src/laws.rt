@@ -1,4 +1,4 @@
-//! Laws of replies over the journal that a run leaves.
+//! Laws about the replies and the journal that a run leaves.
 
 ghost use Rattle.std.specs.Prelude.{List, Option, flat_map};
 ghost use Rattle.tfs_records.specs.Journal.{Journal};
@@ -8,16 +8,16 @@ ghost use Rattle.tfs_serve.specs.Serving.{RepliesInTurn, ServedView, IsRun, answ
 ghost use Rattle.tfs_serve.specs.Standing.{AcceptedStand};
 ghost use Rattle.tfs_serve.specs.Working.{Answer};
 
-/// Each reply of a worker that tells a change as accepted tells the position at which that change stands in the journal that the run
-/// leaves.
+/// In the journal that a run leaves, each accepted change is at the position that its reply
+/// reports.
 #[tactic(auto, using(crate::proofs::Standing::accepted_stand))]
 pub fn accepted_changes_stand_in_the_last_journal()
     ensures stand { (last seen end : Journal) (answers : List Answer) → RepliesInTurn last seen answers end → AcceptedStand last answers }
 {}
 
-/// All replies of a run follow one lawful journal, which the run leaves: each, other than `NoCopy`, is the model's answer over a lawful
-/// beginning of it; each accepted change stands in it at the position that was told; and each position beyond the opening one was told by
-/// exactly one reply.
+/// All replies of a run follow one lawful journal, which the run leaves. Each reply, except
+/// `NoCopy`, is the model's answer over a lawful prefix of it. Each accepted change is in it at the
+/// reported position. Each position beyond the opening one was reported by exactly one reply.
 pub fn all_replies_follow_one_journal()
     ensures follow { (opening last : Journal) (told : List (Option (List Event))) (served : List ServedView)
         → (run : IsRun opening last told served) → FollowOneJournal opening last (flat_map answers_on run.connections) }

@@ -1,4 +1,4 @@
-//! What a run leaves.
+//! The end of a run: the table and the outcomes of its workers.
 
 ghost use Rattle.std.specs.Prelude.{◌≡◌, ◌+◌, ◌≤◌, All, [], is_some, length, map, sum_by, vec_capacity, IfOk, IfErr};
 ghost use Rattle.tfs_records.specs.Journal.{position_of};
@@ -16,7 +16,7 @@ use tfs_records::Sink;
 use tfs_shared::{Naming, Session, Shared, Strangers, gather};
 use tfs_table::Table;
 
-/// The table of sessions that have made no calls.
+/// Takes the table back from sessions that have made no calls.
 pub(crate) fn taken_back<J: Naming, K: Sink, R: Wait>(
     rt: &R,
     shared: Shared<J, K>,
@@ -31,8 +31,8 @@ pub(crate) fn taken_back<J: Naming, K: Sink, R: Wait>(
     }
 }
 
-/// The table of sessions that have worked, with all that they have seen; or, where a session had seen more than the table's journal, the
-/// table alone.
+/// Takes the table back from sessions that have worked: its journal begins with all that they have
+/// seen. If a session had seen more than the table's journal, returns the table alone, as an error.
 pub(crate) fn gathered<J: Naming, K: Sink, R: Wait>(
     rt: &R,
     shared: Shared<J, K>,
@@ -63,7 +63,7 @@ pub(crate) fn gathered<J: Naming, K: Sink, R: Wait>(
     }
 }
 
-/// The sessions of members, and what became of each member.
+/// Splits the members into their sessions and their outcomes.
 pub(crate) fn parted<J: Naming, G: Gate + Drop>(
     members: Vec<Member<J, G>>,
     sessions: Vec<Session<J>>,
@@ -95,7 +95,7 @@ pub(crate) fn parted<J: Naming, G: Gate + Drop>(
     (sessions, all)
 }
 
-/// What became of a member with this session.
+/// Returns the outcome of a member with this session.
 fn served_by<J: Naming, G: Gate>(
     session: &Session<J>,
     gate: G,

@@ -1,4 +1,4 @@
-//! Workers: conversations over the sessions of a shared table, on connections to one listener.
+//! Workers: conversations over the sessions of a shared table, on connections from one listener.
 #![tactic(auto)]
 
 mod crew;

@@ -17,7 +17,8 @@ use tfs_connections::{AcceptFault, AnyStream, Load};
 use tfs_records::Sink;
 use tfs_shared::{Naming, Session, Shared};
 
-/// A session that works in a run, its gate, and the fault by which its listener gave it no connection.
+/// A session that works in a run, its gate, and the fault of the listener that ended its work, if
+/// one did.
 #[derive(Drop)]
 pub(crate) struct Member<J: Naming, G: Gate> {
     pub(crate) gate: G,
@@ -26,7 +27,7 @@ pub(crate) struct Member<J: Naming, G: Gate> {
 }
 
 impl<J: Naming, G: Gate> Member<J, G> {
-    /// Works until the gate admits no more, or the listener fails.
+    /// Works until the gate admits no further connection, or the listener fails.
     fn run<L: OpenListener<Stream = AnyStream>, K: Sink, R: Wait + Clock>(
         &mut self,
         service: &Service<'_, J, K, R>,
@@ -43,8 +44,8 @@ impl<J: Naming, G: Gate> Member<J, G> {
     }
 }
 
-/// Has each member work, at the same time where the system makes the threads, until its gate has said no or its listener gives it no
-/// connection.
+/// Runs the members, concurrently if the system creates the threads, each until its gate admits no
+/// further connection or its listener fails.
 pub(crate) fn work_until<
     L: OpenListener<Stream = AnyStream> + Sync,
     J: Naming + Send + Sync,

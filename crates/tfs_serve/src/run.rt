@@ -1,4 +1,4 @@
-//! A whole run: a table is shared, served on connections, and gathered.
+//! Whole runs: a table is shared, served on connections, and gathered.
 
 ghost use Rattle.std.specs.Prelude.{◌≡◌, ◌≢◌, ◌+◌, ◌≤◌, ◌<◌, ℕ, [], length, map, slice_index_or, vec_capacity, IfOk, IfErr};
 ghost use Rattle.tfs_records.specs.Journal.{position_of};
@@ -26,8 +26,9 @@ use tfs_records::Sink;
 use tfs_shared::{Cause, Naming, Opened, Session, Shared, share};
 use tfs_table::Table;
 
-/// What became of a gate's worker: its gate, whether the listener gave it no connection and by which fault, the position of the journal
-/// that it has seen, and how many changes it told as accepted.
+/// The outcome of a gate's worker: its gate, whether the listener failed and with which fault, the
+/// position of the journal that the worker has seen, and the number of changes that it reported as
+/// accepted.
 #[derive(Drop)]
 pub struct Served<G: Gate> {
     pub gate: G,
@@ -37,7 +38,7 @@ pub struct Served<G: Gate> {
     pub accepted: u64,
 }
 
-/// The fault of the first worker that failed, if one has.
+/// Returns the fault of the first worker whose listener failed, if there is one.
 pub fn first_fault<G: Gate>(served: &[Served<G>]) -> Option<AcceptFault>
     ensures first { result ≡ first_fault_in (map (λ one. one.fault) served.now) }
 {
@@ -49,7 +50,8 @@ pub fn first_fault<G: Gate>(served: &[Served<G>]) -> Option<AcceptFault>
     None
 }
 
-/// What a run leaves: the table, what became of each worker, in the order of their gates, and the listener.
+/// What a run leaves: the table, the outcomes of the workers in the order of their gates, and the
+/// listener.
 #[derive(Drop)]
 pub struct Run<K: Sink, G: Gate, L> {
     pub table: Table<K>,
@@ -57,14 +59,14 @@ pub struct Run<K: Sink, G: Gate, L> {
     pub listener: L,
 }
 
-/// Why there was no run, or why its end isn't known to have all that its workers had seen.
+/// The reason why there was no run, or why the table may lack what a worker had seen.
 #[derive(Drop)]
 pub enum Obstacle<E> {
-    /// A request for memory was refused.
+    /// An allocation failed.
     NoMemory,
-    /// No place was there for a worker to read at.
+    /// There was no free reader slot for a worker.
     NoPlace,
-    /// There is no listener.
+    /// The listener couldn't be created.
     NoListener(E),
     /// A worker had seen more than the table's journal.
     NoCopy,
@@ -77,24 +79,32 @@ pub struct Unserved<K: Sink, E> {
     pub why: Obstacle<E>,
 }
 
-/// What a run is asked for: the gates of its workers, and a listener.
+/// The arguments of a run: the gates of its workers, and a function that creates the listener.
 #[derive(Drop)]
 struct Asked<G: Gate, F: Drop> {
     gates: Vec<G>,
     listen: F,
 }
 
-/// What the history and the ledger of a run are made of.
+/// The blank ledger and history of a run.
 struct Blanks {
     blank: Blank,
     opened: Opened,
 }
 
-/// Shares the table among one worker for each gate, then listens, and has the workers answer connections until each has ended. Then it
-/// gives the table back: its journal is lawful, begins with the one before, and has one entry more for each change that a reply told
-/// as accepted, at the position that this reply told and no other. Each worker's replies are the transition of the model, each over a
-/// beginning of that journal with all that the worker had seen before. A worker that failed has the fault of its listener; of any other
-/// the gate has said no.
+/// Shares the table among one worker for each gate, creates the listener, and lets the workers
+/// answer connections until all have finished. Then returns the table.
+///
+/// The table's journal is lawful, begins with the opening one, and has one more entry for each
+/// change that a reply reported as accepted, at the position that this reply, and no other,
+/// reported. Each reply of a worker is the transition of the model over a prefix of that journal
+/// with all that the worker had seen before, except `NoCopy`. A failed worker has the fault of its
+/// listener; the gate of every other worker is closed.
+///
+/// # Errors
+///
+/// Returns the table, whose journal begins with the opening one, and the obstacle. Unless that is
+/// `NoCopy`, the journal is unchanged.
 pub fn serve<
     L: OpenListener<Stream = TcpStream> + Sync + Drop,
     K: Sink + Send + Drop,
@@ -125,7 +135,7 @@ pub fn serve<
     serve_until(&runtime, table, gates, listen)
 }
 
-/// The same over a listener of any transport, where conversations can be asked to end.
+/// Serves as [`serve`] does, over a listener of any transport; conversations can be asked to end.
 pub fn serve_until<
     L: OpenListener<Stream = S> + Sync + Drop,
     K: Sink + Send + Drop,
@@ -153,7 +163,7 @@ pub fn serve_until<
     serve_named::<Brand, L, K, G, E, F, R, S>(runtime, table, asked, blanks)
 }
 
-/// A run over the history and the ledger that `J` names.
+/// Runs over the history and the ledger that `J` names.
 fn serve_named<
     J: Naming + Send + Sync,
     L: OpenListener<Stream = S> + Sync + Drop,
@@ -189,7 +199,7 @@ fn serve_named<
     }
 }
 
-/// A run of a table that is shared, by sessions that have made no calls.
+/// Serves a shared table with sessions that have made no calls.
 fn serve_shared<
     J: Naming + Send + Sync,
     L: OpenListener<Stream = S> + Sync + Drop,
@@ -239,7 +249,8 @@ fn serve_shared<
     }
 }
 
-/// The table of sessions that have made no calls, and why it wasn't served.
+/// Takes the table back from sessions that have made no calls, with the reason why it wasn't
+/// served.
 fn given_back<J: Naming, K: Sink, E, R: Wait>(
     rt: &R,
     shared: Shared<J, K>,
@@ -253,7 +264,7 @@ fn given_back<J: Naming, K: Sink, E, R: Wait>(
     Unserved { table, why }
 }
 
-/// Why a table wasn't shared.
+/// Converts the cause of a table that wasn't shared.
 fn obstacle_of<E>(cause: Cause) -> Obstacle<E>
     ensures shared { result ≢ NoCopy }
 {

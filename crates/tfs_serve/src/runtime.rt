@@ -1,12 +1,18 @@
-//! What workers run on.
+//! The environment of workers.
 
 use std::alloc::Global;
 use std::sync::atomic::AtomicBool;
 
-/// The runtime, the allocator, what asks conversations to end, and what forbids all writes. Once `ended` is set, a conversation ends between two requests: at once
-/// behind a reply, else where nothing of a request has come. A request or a reply that is underway has 5 seconds left. A worker that
-/// waits for a connection asks its gate again, once the listener has told an error that passes (`limit_waits`). Once `muted` is set, each
-/// write to a connection fails that begins later, so that nothing more is told to anybody.
+/// The runtime, the allocator, and two flags: `ended` asks conversations to end, and `muted`
+/// forbids all writes.
+///
+/// Once `ended` is set, a conversation ends between two requests: immediately after a reply, or
+/// when no byte of a request has come. A request or a reply in progress has 5 seconds left. A
+/// worker that waits for a connection asks its gate again when the listener has reported a
+/// temporary error (`limit_waits`).
+///
+/// Once `muted` is set, each write to a connection that begins later fails, so that no client gets
+/// any more bytes.
 #[derive(Drop)]
 pub struct Runtime<'r, R> {
     pub rt: &'r R,

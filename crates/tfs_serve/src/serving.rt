@@ -1,4 +1,4 @@
-//! The work of one session: connections one after another.
+//! The work of one session: one connection after another.
 
 ghost use Rattle.std.specs.Prelude.{◌≡◌, OnOk, OnErr, IfErr, [], ◌∷◌, false};
 ghost use Rattle.tfs_connections.specs.Accepting.{IsFinal, error_of};
@@ -20,11 +20,13 @@ use tfs_conversation::{Outlet, Reads, Source, converse};
 use tfs_records::Sink;
 use tfs_shared::{Naming, Session};
 
-/// Takes connections one after the other while the gate admits, and has a conversation over the session on each. A fault of a
-/// connection ends that connection alone; one that was gone before it was taken is passed over, and the gate isn't asked again for it.
-/// Where conversations are to end, a wait for a connection ends too, and the gate is asked again.
-/// Afterwards the session has seen all that it had seen before; what became of it came of the calls that it answered, and the gate has
-/// heard of all of these.
+/// Takes one connection after another while the gate admits them, and holds a conversation over the
+/// session on each. A fault of a connection ends only that connection. A connection that was gone
+/// before it was taken is skipped, without asking the gate again. When conversations are to end,
+/// the wait for a connection ends too, and the gate is asked again.
+///
+/// Afterwards the session has seen all that it had seen before. It has changed only by the calls
+/// that it answered, and the gate has heard of all of these.
 pub fn work<L: OpenListener<Stream = TcpStream>, J: Naming, K: Sink, G: Gate, R: Wait + Clock>(
     service: &Service<'_, J, K, R>,
     listener: &L,
@@ -41,7 +43,7 @@ pub fn work<L: OpenListener<Stream = TcpStream>, J: Naming, K: Sink, G: Gate, R:
     work_over(service, listener, gate, session)
 }
 
-/// The same over a listener of any transport.
+/// Works as [`work`] does, over a listener of any transport.
 #[tactic(auto, using(crate::proofs::Later::later_itself, crate::proofs::Later::later_then))]
 pub(crate) fn work_over<
     L: OpenListener<Stream = S>,
@@ -77,7 +79,8 @@ pub(crate) fn work_over<
     unreachable!()
 }
 
-/// Has a conversation on a connection, if there is one, with states read over the room of a scratch.
+/// Holds a conversation on a connection, if there is one. States of at most 1 MiB are read with the
+/// memory of `scratch`.
 fn serve<S: Connection + Drop, J: Naming, K: Sink, G: Gate, R: Wait + Clock>(
     service: &Service<'_, J, K, R>,
     stream: Option<S>,
@@ -104,7 +107,7 @@ fn serve<S: Connection + Drop, J: Naming, K: Sink, G: Gate, R: Wait + Clock>(
     timing.end_slow();
 }
 
-/// Has a conversation over the desk on a connection, whose time begins.
+/// Holds a conversation over the desk on a connection, whose time limits begin now.
 fn serve_in_time<S: Connection, J: Naming, K: Sink, G: Gate, R: Wait, C: Clock>(
     timing: &Timing<'_, '_, C>,
     stream: &S,
@@ -120,7 +123,7 @@ fn serve_in_time<S: Connection, J: Naming, K: Sink, G: Gate, R: Wait, C: Clock>(
     converse_once(&mut reader, &mut writer, desk);
 }
 
-/// Has a conversation over the desk, which keeps its loan.
+/// Holds a conversation over the desk, whose session and gate stay the borrowed ones.
 fn converse_once<I: Source, O: Outlet, J: Naming, K: Sink, G: Gate, R: Wait>(
     reader: &mut I,
     writer: &mut O,

@@ -1,4 +1,4 @@
-//! The desk over a session, and conversations over it.
+//! The desk over a session.
 
 ghost use Rattle.std.specs.Prelude.{◌≡◌, ◌≢◌, ◌⊎◌, [], Some, None, IfOk, IfErr, MatchResult};
 ghost use Rattle.std.specs.Arc.{arc_value};
@@ -25,12 +25,15 @@ use tfs_rules::Name;
 use tfs_shared::{Naming, Session, Shared};
 use tfs_state::Doc;
 
-/// A state of more bytes is read in turn: reading some texts of this length takes many times their bytes.
+/// The largest state, in bytes, that is read without waiting. Longer states are read one after
+/// another, since reading some of them takes many times their length in memory.
 pub const MAX_BYTES_AT_ONCE: usize = 4_194_304;
 
-/// What the sessions of a shared table are served with: the handle to wait, the allocator, the table, a lock of its own, and how busy the
-/// workers are. A push of more than 4 MiB is read while that lock is taken, and it is free again before the table's is taken. Once `ended`
-/// is set, conversations are to end between two requests; once `muted` is, nothing more is written to anybody.
+/// What sessions of a shared table are served with: the handle for waiting, the allocator, the
+/// table, a lock for large pushes, the two flags, and the load of the workers. A push of more than
+/// 4 MiB is read while the lock `turn` is held; it is released before the table's lock is taken.
+/// Once `ended` is set, conversations are to end between two requests; once `muted` is set, nothing
+/// more is written to any client.
 #[derive(Drop)]
 pub struct Service<'s, J: Naming, K: Sink, R: Wait> {
     pub rt: &'s R,
@@ -42,8 +45,8 @@ pub struct Service<'s, J: Naming, K: Sink, R: Wait> {
     pub load: &'s Load,
 }
 
-/// A desk that asks a shared table through a session, which it is lent. Changes wait for the table's lock, and reads where no
-/// published copy has the state; impact queries wait for nobody.
+/// A desk that answers from a shared table through a borrowed session. Changes wait for the table's
+/// lock, and so do reads if no snapshot has the state; impact queries never wait.
 #[derive(Drop)]
 pub struct SessionDesk<'v, 's, 'm, J: Naming, K: Sink, R: Wait> {
     pub service: &'v Service<'s, J, K, R>,
@@ -54,7 +57,7 @@ impl<'v, 's, 'm, J: Naming, K: Sink, R: Wait> Desk for SessionDesk<'v, 's, 'm, J
     ghost use Rattle.std.specs.Prelude.{◌≡◌};
     ghost use Rattle.tfs_serve.specs.Session.{SessionStep};
 
-    // The desk keeps its loan, and the session answers.
+    // The session stays the borrowed one, and answers.
     ghost step = { λ old call reply new. (new.session.ghost_name ≡ old.session.ghost_name)
         × SessionStep J.opening old.session.now call reply new.session.now };
 
@@ -64,7 +67,7 @@ impl<'v, 's, 'm, J: Naming, K: Sink, R: Wait> Desk for SessionDesk<'v, 's, 'm, J
     }
 }
 
-/// The same desk, which reads the states of all changes over room that it is lent.
+/// The same desk with borrowed memory for reading states, which is reused by all changes.
 #[derive(Drop)]
 pub(crate) struct LentDesk<'v, 's, 'm, J: Naming, K: Sink, R: Wait> {
     pub(crate) service: &'v Service<'s, J, K, R>,
@@ -76,7 +79,7 @@ impl<'v, 's, 'm, J: Naming, K: Sink, R: Wait> Desk for LentDesk<'v, 's, 'm, J, K
     ghost use Rattle.std.specs.Prelude.{◌≡◌};
     ghost use Rattle.tfs_serve.specs.Session.{SessionStep};
 
-    // The desk keeps its loan, and the session answers.
+    // The session stays the borrowed one, and answers.
     ghost step = { λ old call reply new. (new.session.ghost_name ≡ old.session.ghost_name)
         × SessionStep J.opening old.session.now call reply new.session.now };
 
@@ -85,7 +88,7 @@ impl<'v, 's, 'm, J: Naming, K: Sink, R: Wait> Desk for LentDesk<'v, 's, 'm, J, K
     }
 }
 
-/// The reply to a call. A state is read over the room of a scratch.
+/// Answers a call. A state of at most 1 MiB is read with the memory of `scratch`.
 fn reply_to<J: Naming, K: Sink, R: Wait>(
     service: &Service<'_, J, K, R>,
     session: &mut Session<J>,
@@ -102,7 +105,7 @@ fn reply_to<J: Naming, K: Sink, R: Wait>(
     }
 }
 
-/// The state of a name.
+/// Replies with the state of a name.
 fn read<J: Naming, K: Sink, R: Wait>(
     service: &Service<'_, J, K, R>,
     session: &mut Session<J>,
@@ -116,7 +119,7 @@ fn read<J: Naming, K: Sink, R: Wait>(
     }
 }
 
-/// The state of a name, by a published copy or, where none gives an answer, under the lock.
+/// Returns the state of a name from a snapshot or, if no snapshot gives an answer, under the lock.
 fn state_of<J: Naming, K: Sink, R: Wait>(
     service: &Service<'_, J, K, R>,
     session: &mut Session<J>,
@@ -136,7 +139,7 @@ fn state_of<J: Naming, K: Sink, R: Wait>(
     }
 }
 
-/// What a query chooses in the state of a name.
+/// Replies to an impact query for a name.
 fn ask<J: Naming, K: Sink>(
     shared: &Shared<J, K>,
     session: &mut Session<J>,
@@ -145,7 +148,7 @@ fn ask<J: Naming, K: Sink>(
 ) -> Reply
     ensures { SessionStep J.opening session.old (Impact name.now query.now) (reply_value result) session.new }
 {
-    // No answer of the model tells of want of memory.
+    // No answer of the model is `OutOfMemory`.
     answers_of_the_model_are_undisturbed();
     match session.impact(shared, name, query) {
         Ok(answer) => Reply::Impact(answer),
@@ -153,7 +156,7 @@ fn ask<J: Naming, K: Sink>(
     }
 }
 
-/// Changes the workspace of a name. A state is read over the room of a scratch.
+/// Changes the workspace of a name. A state of at most 1 MiB is read with the memory of `scratch`.
 fn change<J: Naming, K: Sink, R: Wait>(
     service: &Service<'_, J, K, R>,
     session: &mut Session<J>,
@@ -165,7 +168,8 @@ fn change<J: Naming, K: Sink, R: Wait>(
     ensures { SessionStep J.opening session.old (Change name raw) (reply_value result) session.new }
 {
     a_change_is_answered_as_its_act_is();
-    // What the session has seen is lawful: a change that can't be read is answered over it.
+    // What the session has seen is lawful: a change that can't be read is refused over that
+    // journal.
     session.is_kept();
     let draft = match read_in_turn(service, raw, scratch) {
         Ok(draft) => draft,
@@ -177,7 +181,7 @@ fn change<J: Naming, K: Sink, R: Wait>(
     }
 }
 
-/// Reads the texts of a change; a long state when it has its turn.
+/// Reads the bodies of a change. Waits for the lock `turn` if the state is long.
 fn read_in_turn<J: Naming, K: Sink, R: Wait>(
     service: &Service<'_, J, K, R>,
     raw: Raw,
@@ -198,7 +202,7 @@ fn read_in_turn<J: Naming, K: Sink, R: Wait>(
     draft
 }
 
-/// Whether a change has a state of more than 4 MiB.
+/// Returns true if the change has a state of more than 4 MiB.
 fn is_long(raw: &Raw) -> bool {
     match raw {
         Raw::Push(_, body) => body.as_slice().len() > MAX_BYTES_AT_ONCE,

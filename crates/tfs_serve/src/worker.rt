@@ -1,4 +1,4 @@
-//! Workers: sessions that work at the same time.
+//! Workers: sessions that work concurrently.
 
 ghost use Rattle.std.specs.Prelude.{ℕ, ◌≡◌, ◌<◌, true, false, length, slice_index_or};
 ghost use Rattle.tfs_serve.specs.Gate.{IsAdmitted, IsClosed};
@@ -19,7 +19,7 @@ use tfs_connections::Load;
 use tfs_records::Sink;
 use tfs_shared::{Naming, Session, Shared};
 
-/// A session that works, its gate, and whether its listener gave it no connection.
+/// A session that works, its gate, and whether its listener failed.
 #[derive(Drop)]
 pub struct Worker<J: Naming, G: Gate> {
     pub gate: G,
@@ -28,7 +28,7 @@ pub struct Worker<J: Naming, G: Gate> {
 }
 
 impl<J: Naming, G: Gate> Worker<J, G> {
-    /// Works until the gate admits no more, or the listener fails.
+    /// Works until the gate admits no further connection, or the listener fails.
     fn run<L: OpenListener<Stream = TcpStream>, K: Sink, R: Wait + Clock>(
         &mut self,
         service: &Service<'_, J, K, R>,
@@ -44,9 +44,10 @@ impl<J: Naming, G: Gate> Worker<J, G> {
     }
 }
 
-/// Has each worker work, at the same time where the system makes the threads. Afterwards each session has seen all that it had seen
-/// before, and `failed` tells whose listener gave no connection; the gate of any other has said no. What became of a session came of
-/// the calls that it answered, and its gate has heard of all of these. At most two pushes of more than 4 MiB are read at a time.
+/// Runs the workers, concurrently if the system creates the threads. Afterwards each session has
+/// seen all that it had seen before. `failed` is set if the worker's listener failed; the gates of
+/// all others are closed. A session has changed only by the calls that it answered, and its gate
+/// has heard of all of these. At most two pushes of more than 4 MiB are read at the same time.
 pub fn work_all<
     L: OpenListener<Stream = TcpStream> + Sync,
     J: Naming + Send + Sync,

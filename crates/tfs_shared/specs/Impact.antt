@@ -1,4 +1,4 @@
--- The answers to impact queries over published copies.
+-- The answers to impact queries over snapshots.
 use Rattle.std.specs.Prelude.{◌≡◌, ◌⊎◌, ◌<◌, ◌≤◌, ℕ, List, length, IsSome}
 use Rattle.std.specs.Option.{option_map_or}
 use Rattle.tfs_state.specs.Document.{Document}
@@ -16,12 +16,14 @@ use Rattle.tfs_calls.specs.declared.query.Query.{Query}
 abbrev pub HasFewTexts : Query → Type 0
 HasFewTexts query = (0 < length query.texts) × (length query.texts ≤ 64)
 
--- The reply over a lawful journal: the model's answer or, where the name has a state and the query 1 to 64 texts, want of memory.
+-- The reply over a lawful journal: the model's answer or, if the name has a state and the query 1
+-- to 64 texts, `OutOfMemory`.
 abbrev pub AnswersImpact : Journal → List ℕ → Query → ReplyValue → Type 0
 AnswersImpact j name query reply = IsLawful j × ((reply ≡ answer_of (open_model j) (CallImpact name query))
     ⊎ ((reply ≡ refused out_of_memory) × IsSome (state_of (acts_of name j)) × HasFewTexts query))
 
--- The same over a state, at a position.
+-- The reply over a state, at a position: the model's answer or, if the query has 1 to 64 texts,
+-- `OutOfMemory`.
 abbrev pub AnswersQuery : Document → Query → ℕ → ReplyValue → Type 0
 AnswersQuery d query position reply = (reply ≡ option_map_or refused (query_refusal d query) (impact d (chosen_by d query) position))
     ⊎ ((reply ≡ refused out_of_memory) × HasFewTexts query)

@@ -11,21 +11,22 @@ use Rattle.tfs_table.specs.Lawful.{IsLawful}
 use Rattle.tfs_published.specs.Beginning.{BeginsWith}
 use Rattle.tfs_shared.specs.View.{SessionView}
 
--- A session has seen more than a lawful journal has, which begins with the opening one.
+-- The session has seen more than a lawful journal that begins with the opening one.
 pub record IsAhead (opening : Journal) (session : SessionView) : Type 0 where
   pub journal : Journal
   pub lawful : IsLawful journal
   pub begins : BeginsWith journal opening
   pub lower : position_of journal < position_of session.journal
 
--- There is no journal to answer over. The session is ahead of one that the table may have, and nothing changes.
+-- The refusal `NoCopy`: the session is ahead of a journal that the table may have, and nothing
+-- changes.
 pub record HasNoCopy (opening : Journal) (old new : SessionView) (reply : ReplyValue) : Type 0 where
   pub answer : reply ≡ refused no_copy
   pub ahead : IsAhead opening old
   pub same : new ≡ old
 
--- The reply to a change: the transition of a table whose lawful journal begins with all that the session had seen, and whose
--- journal afterwards the session has then seen.
+-- The reply to a change: the transition of a table whose lawful journal begins with all that the
+-- session had seen. The session then has seen the journal after the transition.
 pub record AnswersChange (name : List ℕ) (act : ActValue) (old new : SessionView) (reply : ReplyValue) : Type 0 where
   pub before : TableModel
   pub after : TableModel
@@ -34,8 +35,8 @@ pub record AnswersChange (name : List ℕ) (act : ActValue) (old new : SessionVi
   pub answer : AnswersAct before name act reply after
   pub seen : new.journal ≡ after.journal
 
--- The reply to a read: the model's answer over a lawful journal that begins with all that the session had seen, and that it has
--- then seen; or, where the name has a state, want of memory.
+-- The reply to a read: the model's answer over a lawful journal that begins with all that the
+-- session had seen, and that the session then has seen; or, if the name has a state, `OutOfMemory`.
 pub record AnswersRead (name : List ℕ) (old new : SessionView) (reply : ReplyValue) : Type 0 where
   pub journal : Journal
   pub lawful : IsLawful journal

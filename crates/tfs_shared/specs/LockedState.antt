@@ -1,4 +1,4 @@
--- What lies under the lock of a shared table.
+-- The data under the lock of a shared table.
 use Rattle.std.specs.Prelude.{◌≡◌, ℕ, ◌+◌, length, false, None}
 use Rattle.tfs_records.specs.Journal.{Journal, EntryValue}
 use Rattle.tfs_calls.specs.Refusal.{out_of_memory, journal_fault}
@@ -7,25 +7,27 @@ use Rattle.tfs_calls.specs.Transition.{MayLackMemory}
 use Rattle.tfs_table.specs.Table.{TableValue, IsFaultAt, model_of}
 use Rattle.tfs_published.specs.Publisher.{PublisherView}
 
--- What callers see: the table, what is published of it, and how many changes were accepted since it was shared.
+-- The view of callers: the table, its publisher, and the number of changes accepted since the table
+-- was shared.
 pub record LockedStateView : Type 0 where
   pub table : TableValue
   pub publisher : PublisherView
   pub accepted : ℕ
 
--- The journal that is published is the table's and, unless the table is stopped, nothing else is queued.
+-- The published journal is the table's and, unless the table is stopped, no other change is staged.
 pub record ArePublished (table : TableValue) (publisher : PublisherView) : Type 0 where
   pub journal : publisher.journal ≡ table.journal
   pub idle : table.stopped ≡ false → publisher.next ≡ None
 
--- What is kept whenever the lock is free: the table's journal is published, and it has as many entries beyond the opening ones as
--- changes were accepted.
+-- The invariant whenever the lock is free: the table's journal is published, and beyond the opening
+-- entries it has as many entries as accepted changes.
 pub record IsLockedState (opening : Journal) (locked_state : LockedStateView) : Type 0 where
   pub published : ArePublished locked_state.table locked_state.publisher
   pub counted : length locked_state.table.journal.entries ≡ length opening.entries + locked_state.accepted
 
--- A change that isn't answered as its journal asks has a cause. `JournalFault`: the sink failed at the record of this change, of which it was
--- told a part. Want of memory: the change may ask for some, over a table that isn't stopped.
+-- The causes of the refusals that the journal doesn't determine. `JournalFault`: the sink failed at
+-- the record of this change, after some first bytes of it were written, perhaps none or all.
+-- `OutOfMemory`: the change may allocate, and the table isn't stopped.
 pub record HasCause (old new : TableValue) (e : EntryValue) (reply : ReplyValue) : Type 0 where
   pub fault : reply ≡ refused journal_fault → IsFaultAt old new e
   pub memory : reply ≡ refused out_of_memory → MayLackMemory (model_of old) e.name e.act

@@ -1,4 +1,4 @@
-//! The end of sharing.
+//! The end of sharing: the table is taken back from its sessions.
 
 ghost use Rattle.std.specs.Prelude.{◌≡◌, ◌+◌, ◌<◌, ◌≤◌, ◌↔◌, All, Any, length, sum_by, IfOk, IfErr};
 ghost use Rattle.tfs_published.specs.Beginning.{BeginsWith};
@@ -13,23 +13,25 @@ use tfs_published::Naming;
 use tfs_records::Sink;
 use tfs_table::Table;
 
-/// Why a table isn't gathered.
+/// Why a table wasn't gathered.
 #[derive(Clone, Copy, Debug, PartialEq, Eq)]
 pub enum Lack {
-    /// Not all sessions are there.
+    /// Fewer sessions were given than the table has.
     Missing,
     /// A session has seen more than the table's journal.
     NoCopy,
 }
 
-/// A shared table and sessions that weren't gathered, as they were.
+/// A shared table and sessions that weren't gathered, unchanged.
 pub struct Strangers<J: Naming, K: Sink> {
     pub shared: Shared<J, K>,
     pub sessions: Vec<Session<J>>,
     pub why: Lack,
 }
 
-/// The table that was shared, from all of its sessions. It waits for readers.
+/// Takes back a shared table from all of its sessions. Waits for readers.
+/// If sessions are missing or one of them has seen more than the table's journal, returns the
+/// shared table and the sessions unchanged.
 pub fn gather<J: Naming, K: Sink, R: Wait>(
     rt: &R,
     shared: Shared<J, K>,

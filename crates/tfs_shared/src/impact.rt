@@ -1,4 +1,4 @@
-//! Impact queries, which wait for nobody.
+//! Impact queries, which never wait.
 
 ghost use Rattle.std.specs.Prelude.{◌≡◌, ◌⊎◌, ℕ, [], Some};
 ghost use Rattle.std.specs.Arc.{arc_value};
@@ -21,9 +21,15 @@ use tfs_records::Sink;
 use tfs_rules::Name;
 
 impl<J: Naming> Session<J> {
-    /// What a query chooses in the state of a name, by a published copy that begins with all that the session has seen. The
-    /// answer, also a refusal, is over the journal that the session has seen afterwards. `NoCopy` where no such copy is handed
-    /// out, and then nothing changes; `OutOfMemory` also where the copy has lost the version of the name, and the query 1 to 64 texts.
+    /// Answers an impact query for a name from a snapshot that begins with all that the session has
+    /// seen. The answer, also a refusal, is over the journal that the session has seen afterwards.
+    /// Never waits.
+    ///
+    /// # Errors
+    ///
+    /// Returns `NoCopy` if no such snapshot is handed out; nothing changes then. Returns
+    /// `OutOfMemory` also if the snapshot has lost the version of the name and the query has 1 to
+    /// 64 texts.
     pub fn impact<K: Sink>(
         &mut self,
         shared: &Shared<J, K>,
@@ -45,7 +51,7 @@ impl<J: Naming> Session<J> {
     }
 }
 
-/// What a version answers to a query.
+/// Answers a query from a version.
 fn ask(
     alloc: Global,
     version: Arc<Version>,
@@ -62,7 +68,8 @@ fn ask(
     })
 }
 
-/// The answer to a query where the version of a state is lost. The number of its texts is refused over each.
+/// Returns the refusal of a query if the version of the state is lost. Refusals for the number of
+/// its texts depend on the query alone.
 fn refusal_of_lost(query: &Query) -> Refusal
     ensures { (d : Document) (position : ℕ) → AnswersQuery d query.now position (refused (refusal_value result)) }
 {

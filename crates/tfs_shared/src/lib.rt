@@ -1,4 +1,5 @@
-//! The shared table: sessions over one lock, and impact queries and reads over published copies, which never wait for the lock.
+//! The shared table: sessions over one lock, and impact queries and reads over snapshots, which
+//! never wait for the lock.
 #![tactic(auto)]
 
 mod gathering;

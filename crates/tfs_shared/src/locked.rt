@@ -1,4 +1,4 @@
-//! A change of a table under its lock.
+//! Changes of a table under its lock.
 
 ghost use Rattle.std.specs.Prelude.{◌≡◌, ◌+◌, ◌<◌, ◌∷◌, ◌++◌, [], length, IfOk, OnOk, OnErr};
 ghost use Rattle.tfs_records.specs.Journal.{position_of};
@@ -12,8 +12,10 @@ use tfs_published::{Naming, Publisher};
 use tfs_records::Sink;
 use tfs_table::{Prepared, Table};
 
-/// Makes a change of the session of a number and publishes it, or says why not. Whatever takes memory comes before the sink, so that what is written is
-/// published too; what is staged when the sink fails is never published, since the table is stopped then.
+/// Makes a change by the session with the number `maker` and publishes it, or returns a refusal.
+/// All allocations come before the append to the sink, so a change whose record was appended is
+/// always published. If the sink fails, the staged change is never published, since the table is
+/// stopped.
 #[tactic(auto, using(crate::proofs::Refusing::unstaged_caused, crate::proofs::Refusing::fault_caused, crate::proofs::Refusing::made_caused))]
 pub(crate) fn change<J: Naming, K: Sink, R: Wait>(
     rt: &R,

@@ -1,4 +1,4 @@
-//! What lies under the lock.
+//! The data under the lock.
 
 ghost use Rattle.std.specs.Prelude.{◌≡◌, ◌≢◌, ◌⊎◌, ◌+◌, ◌≤◌, ◌<◌, ℕ, List, [], true, false, All, Any, None, length, sum_by, IfOk, OnOk, OnErr, MatchResult};
 ghost use Rattle.tfs_rules.specs.Act.{ActValue};
@@ -31,7 +31,7 @@ use tfs_rules::Name;
 use tfs_state::Doc;
 use tfs_table::{Prepared, Table};
 
-/// The table, what is published of it, and the book of the accepted changes.
+/// The table, its publisher, and the book of accepted changes.
 pub struct LockedState<J: Naming, K: Sink> {
     table: Table<K>,
     publisher: Publisher<J>,
@@ -49,7 +49,7 @@ impl<J: Naming, K: Sink> Model for LockedState<J, K> {
 }
 
 impl<J: Naming, K: Sink> LockedState<J, K> {
-    /// A table that nothing was changed of, with what is published of it.
+    /// Creates the state of a table that has not changed since it was opened, with its publisher.
     pub(crate) fn new(table: Table<K>, publisher: Publisher<J>, book: Book<J>) -> LockedState<J, K>
         requires opening { table.journal ≡ J.opening }
         requires published { publisher.journal ≡ J.opening }
@@ -64,8 +64,9 @@ impl<J: Naming, K: Sink> LockedState<J, K> {
         }
     }
 
-    /// What is kept whenever the lock is free: the table's invariant, with a lawful journal; what readers are shown stands for that
-    /// journal; and it has as many entries beyond the opening ones as changes were accepted, each with its maker. The call computes nothing: it is a law.
+    /// States what holds whenever the lock is free: the table's invariant, with a lawful journal;
+    /// readers' snapshots represent that journal; beyond the opening entries it has as many entries
+    /// as accepted changes, each with its maker. The call computes nothing: it is a law.
     pub fn is_kept(&self)
         ensures table { IsTable self.now.table }
         ensures shown { Shows self.now.publisher }
@@ -73,13 +74,13 @@ impl<J: Naming, K: Sink> LockedState<J, K> {
         ensures begins { BeginsWith self.now.table.journal J.opening }
         ensures made { length self.now.table.journal.entries ≡ length J.opening.entries + length self.now.publisher.makers }
     {
-        // The two parts' own laws.
+        // The laws of the two parts.
         self.table.is_kept();
         self.publisher.shows();
     }
 
-    /// A change by a session. Whatever is answered, the session has then seen the table's journal as it is afterwards, or, at `NoCopy`,
-    /// what it had seen.
+    /// Makes a change by a session. Afterwards the session has seen the table's journal, whatever
+    /// the reply; only `NoCopy` leaves the session unchanged.
     pub(crate) fn submit<R: Wait>(
         &mut self,
         rt: &R,
@@ -97,7 +98,8 @@ impl<J: Naming, K: Sink> LockedState<J, K> {
         ensures accepted { OnOk result (session.new.accepted ≡ session.old.accepted + 1) }
         ensures refused { OnErr result (session.new.accepted ≡ session.old.accepted) }
     {
-        // What is published is the table's journal, which is lawful, and each change beyond the opening one has a maker.
+        // The published journal is the table's, which is lawful, and each change beyond the opening
+        // journal has a maker.
         self.is_kept();
         session.is_kept();
         if !session.is_covered(&self.publisher) {
@@ -109,22 +111,24 @@ impl<J: Naming, K: Sink> LockedState<J, K> {
         session.see(&self.publisher);
         session.is_kept();
         if answer.is_ok() {
-            // There are at most 65,536 entries, so the count has room.
+            // There are at most 65,536 entries, so the count doesn't overflow.
             self.table.is_kept();
             session.count(&mut self.book);
         }
         answer
     }
 
-    /// A version that was replaced and that nothing under the lock has any more.
+    /// Takes a version that was replaced and that nothing under the lock refers to any more.
     pub(crate) fn take_replaced(&mut self) -> Option<Arc<Version>>
         ensures kept { self.new ≡ self.old }
     {
         self.publisher.take_replaced()
     }
 
-    /// The answer to a change of a session that couldn't be prepared for want of memory: a stopped table is told as such. The session sees
-    /// what is published.
+    /// Returns the refusal for a change that couldn't be prepared for lack of memory:
+    /// `JournalStopped` if the table is stopped, otherwise `OutOfMemory`. The session then has seen
+    /// the published journal. Returns `NoCopy` if the session had seen more, and then nothing
+    /// changes.
     #[tactic(auto, using(crate::proofs::Signing::signs_none, crate::proofs::Signing::signs_nothing))]
     pub(crate) fn lack_memory(&self, session: &mut Session<J>) -> Refusal
         ensures answered { (name : List ℕ) (act : ActValue) → HasNoCopy J.opening session.old session.new (refused (refusal_value result))
@@ -135,7 +139,8 @@ impl<J: Naming, K: Sink> LockedState<J, K> {
         ensures signed { IsSigned J.opening session.old session.new [] }
         ensures accepted { session.new.accepted ≡ session.old.accepted }
     {
-        // What is published is the table's journal, which is lawful, and each change beyond the opening one has a maker.
+        // The published journal is the table's, which is lawful, and each change beyond the opening
+        // journal has a maker.
         self.is_kept();
         session.is_kept();
         if !session.is_covered(&self.publisher) {
@@ -149,7 +154,8 @@ impl<J: Naming, K: Sink> LockedState<J, K> {
         Refusal::OutOfMemory
     }
 
-    /// The state of a name, for a session.
+    /// Returns the state of a name to a session, which then has seen the published journal. Returns
+    /// `NoCopy` if the session had seen more, and then nothing changes.
     #[tactic(auto, using(crate::proofs::Signing::signs_none, crate::proofs::Signing::signs_nothing))]
     pub(crate) fn state(&self, session: &mut Session<J>, name: &Name) -> Result<Arc<Doc>, Refusal>
         ensures answered { MatchResult result
@@ -164,7 +170,8 @@ impl<J: Naming, K: Sink> LockedState<J, K> {
         ensures signed { IsSigned J.opening session.old session.new [] }
         ensures accepted { session.new.accepted ≡ session.old.accepted }
     {
-        // What is published is the table's journal, which is lawful, and each change beyond the opening one has a maker.
+        // The published journal is the table's, which is lawful, and each change beyond the opening
+        // journal has a maker.
         self.is_kept();
         session.is_kept();
         if !session.is_covered(&self.publisher) {
@@ -175,7 +182,7 @@ impl<J: Naming, K: Sink> LockedState<J, K> {
         self.table.state(name)
     }
 
-    /// The table. The writer ends, which waits for readers.
+    /// Returns the table and closes the publisher, which waits for readers.
     pub(crate) fn close<R: Wait>(self, rt: &R) -> Table<K>
         ensures table { result ≡ self.table }
     {
@@ -188,7 +195,8 @@ impl<J: Naming, K: Sink> LockedState<J, K> {
         table
     }
 
-    /// Whether the table's journal begins with what each session has seen. If not, some session has seen more.
+    /// Returns true if the table's journal begins with what each session has seen. Otherwise some
+    /// session has seen more.
     pub(crate) fn covers_all(&self, sessions: &[Session<J>]) -> bool
         ensures yes { result ≡ true → All (λ session. BeginsWith self.now.table.journal session.journal) sessions.now }
         ensures signed { result ≡ true → AreSigned J.opening self.now.table.journal sessions.now }
@@ -204,19 +212,21 @@ impl<J: Naming, K: Sink> LockedState<J, K> {
         true
     }
 
-    /// Whether the table's journal begins with what a session has seen. If not, the session has seen more.
+    /// Returns true if the table's journal begins with what the session has seen. Otherwise the
+    /// session has seen more.
     fn covers(&self, session: &Session<J>) -> bool
         ensures yes { result ≡ true → BeginsWith self.now.table.journal session.now.journal
             × IsPrefix session.now.makers self.now.publisher.makers }
         ensures no { result ≡ false → IsAhead J.opening session.now }
         ensures lower { result ≡ false → position_of self.now.table.journal < position_of session.now.journal }
     {
-        // What is published is the table's journal.
+        // The published journal is the table's.
         self.is_kept();
         session.is_covered(&self.publisher)
     }
 
-    /// The table. At least as many sessions as there are in all end their readers, and then the writer ends.
+    /// Returns the table. Ends the readers of the sessions, which are all sessions of the table,
+    /// and then closes the publisher.
     pub(crate) fn end<R: Wait>(self, rt: &R, sessions: Vec<Session<J>>) -> Table<K>
         requires some { 1 ≤ J.parts }
         requires all { J.parts ≤ length sessions.items }

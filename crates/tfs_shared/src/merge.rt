@@ -1,4 +1,4 @@
-//! The shares of all sessions.
+//! Merging the ledger shares of all sessions.
 
 ghost use Rattle.std.specs.Prelude.{◌≡◌, ◌≤◌, [], length, sum_by, IfSome, IfNone};
 
@@ -6,7 +6,7 @@ use crate::session::Session;
 use std::sync::ledger::Share;
 use tfs_published::Naming;
 
-/// The shares of sessions, as one.
+/// Merges the shares of the sessions into one. Returns `None` if there are no sessions.
 #[tactic(auto, using(crate::proofs::Shares::accepted_more))]
 pub(crate) fn merged<J: Naming>(sessions: Vec<Session<J>>) -> Option<Share<J>>
     requires some { 1 ≤ J.parts }

@@ -1,4 +1,4 @@
-//! Reads of published copies, which wait for nobody.
+//! Reads of states from snapshots, which never wait.
 
 ghost use Rattle.std.specs.Prelude.{◌≡◌, [], IfSome, IfNone, IfOk, IfErr, MatchResult};
 ghost use Rattle.std.specs.Arc.{arc_value};
@@ -16,9 +16,10 @@ use tfs_rules::Name;
 use tfs_state::Doc;
 
 impl<J: Naming> Session<J> {
-    /// The state of a name, by a published copy that begins with all that the session has seen. The answer, also a refusal, is over the
-    /// journal that the session has seen afterwards; `OutOfMemory` also where the copy has lost the version of the name. There is no
-    /// answer, and nothing changes, where no such copy is handed out.
+    /// Returns the state of a name from a snapshot that begins with all that the session has seen.
+    /// The answer, also a refusal, is over the journal that the session has seen afterwards. The
+    /// refusal is `OutOfMemory` also if the snapshot has lost the version of the name. Never waits.
+    /// Returns `None`, and nothing changes, if no such snapshot is handed out.
     pub fn published_state(&mut self, name: &Name) -> Option<Result<Arc<Doc>, Refusal>>
         ensures answered { IfSome result (λ answer. MatchResult answer
             (λ doc. AnswersRead name.now self.old self.new (state (arc_value doc)))
@@ -35,7 +36,7 @@ impl<J: Naming> Session<J> {
     }
 }
 
-/// The document of a version.
+/// Returns the document of a version.
 fn state_of(version: &Version) -> Result<Arc<Doc>, Refusal>
     ensures doc { IfOk result (λ doc. arc_value doc ≡ version.now) }
     ensures memory { IfErr result (λ refusal. refusal_value refusal ≡ out_of_memory) }

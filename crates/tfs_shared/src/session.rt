@@ -26,8 +26,8 @@ use tfs_rules::Name;
 use tfs_state::Doc;
 use tfs_table::{DeferredDrop, Prepared};
 
-/// A caller's own side of a shared table. Contracts see its number, the journal that it has seen and who made its changes, and how many
-/// of its own changes were accepted.
+/// A caller's handle to a shared table. Contracts see its number, the journal that it has seen, the
+/// makers of that journal's changes, and the number of its own accepted changes.
 #[derive(Drop)]
 pub struct Session<J: Naming> {
     number: u64,
@@ -48,7 +48,8 @@ impl<J: Naming> Model for Session<J> {
 }
 
 impl<J: Naming> Session<J> {
-    /// The session of a number, which has seen what its reader has, and has made no changes.
+    /// Creates the session with this number. It has seen what its reader has, and has made no
+    /// changes.
     pub(crate) fn new(number: u64, reader: Reader<J>, share: Share<J>) -> Session<J>
         requires parts { share.parts ≡ 1 }
         requires amount { share.amount ≡ 0 }
@@ -62,7 +63,8 @@ impl<J: Naming> Session<J> {
         }
     }
 
-    /// What it has seen is lawful, and begins with the opening journal. The call computes nothing: it is a law.
+    /// States that the journal it has seen is lawful and begins with the opening one. The call
+    /// computes nothing: it is a law.
     pub fn is_kept(&self)
         ensures lawful { IsLawful self.now.journal }
         ensures begins { BeginsWith self.now.journal J.opening }
@@ -71,31 +73,38 @@ impl<J: Naming> Session<J> {
         self.reader.is_kept();
     }
 
-    /// Its number among the sessions of its table, from 0.
+    /// Returns its number among the sessions of its table, from 0.
     pub(crate) fn number(&self) -> u64
         ensures value { result ≡ self.now.number }
     {
         self.number
     }
 
-    /// How many of its changes were accepted.
+    /// Returns the number of its accepted changes.
     pub fn accepted(&self) -> u64
         ensures value { result ≡ self.now.accepted }
     {
         self.accepted
     }
 
-    /// The position of the journal that it has seen.
+    /// Returns the position of the journal that it has seen.
     pub fn seen(&self) -> u64
         ensures value { result ≡ position_of self.now.journal }
     {
         self.reader.position()
     }
 
-    /// Makes a change, or says why not, over a journal that begins with all that the session had seen. Afterwards it has seen the
-    /// journal that was answered over, with its own change where that was accepted, at the position that is told. `NoCopy` where the session has seen more than
-    /// the table's journal, and then nothing changes. The change's record is made before it waits for the lock. What is long is
-    /// freed once the lock is free.
+    /// Makes a change, or refuses it, over a journal that begins with all that the session had
+    /// seen. Returns the position of the accepted change. Afterwards the session has seen the
+    /// journal of the answer, including an accepted change.
+    ///
+    /// The change's record is made before the call waits for the lock. Large values are freed after
+    /// the lock is released.
+    ///
+    /// # Errors
+    ///
+    /// Returns `NoCopy` if the session has seen more than the table's journal; nothing changes
+    /// then.
     pub fn submit<K: Sink, R: Wait>(
         &mut self,
         rt: &R,
@@ -125,8 +134,13 @@ impl<J: Naming> Session<J> {
         answer
     }
 
-    /// The state of a name, over a journal that begins with all that the session had seen, and that it has seen afterwards. `NoCopy`
-    /// where the session has seen more than the table's journal, and then nothing changes. It waits for the lock.
+    /// Returns the state of a name, over a journal that begins with all that the session had seen,
+    /// and that it has seen afterwards. Waits for the lock.
+    ///
+    /// # Errors
+    ///
+    /// Returns `NoCopy` if the session has seen more than the table's journal; nothing changes
+    /// then.
     pub fn state<K: Sink, R: Wait>(
         &mut self,
         rt: &R,
@@ -146,7 +160,8 @@ impl<J: Naming> Session<J> {
         answer
     }
 
-    /// Whether what is published begins with what it has seen. If not, its position is lower.
+    /// Returns true if the published journal begins with what the session has seen. Otherwise the
+    /// published position is lower.
     pub(crate) fn is_covered(&self, publisher: &Publisher<J>) -> bool
         ensures yes { result ≡ true → BeginsWith publisher.now.journal self.now.journal × IsPrefix self.now.makers publisher.now.makers }
         ensures no { result ≡ false → position_of publisher.now.journal < position_of self.now.journal }
@@ -154,7 +169,7 @@ impl<J: Naming> Session<J> {
         publisher.covers(&self.reader)
     }
 
-    /// Has it see what is published.
+    /// Advances the session to the published journal.
     pub(crate) fn see(&mut self, publisher: &Publisher<J>)
         ensures value { self.new ≡ record {
           number = self.old.number;
@@ -166,7 +181,7 @@ impl<J: Naming> Session<J> {
         publisher.show(&mut self.reader);
     }
 
-    /// Its share of the ledger. Its reader is given back.
+    /// Returns its share of the ledger, and releases its reader.
     pub(crate) fn into_share(self) -> Share<J>
         ensures parts { result.parts ≡ 1 }
         ensures amount { result.amount ≡ self.accepted }
@@ -180,7 +195,7 @@ impl<J: Naming> Session<J> {
         share
     }
 
-    /// Counts a change of its own, here and in the book of all.
+    /// Counts an accepted change of this session, here and in the book.
     pub(crate) fn count(&mut self, book: &mut Book<J>)
         requires room { book.old.total < 65536 }
         ensures value { self.new ≡ record {
@@ -196,8 +211,9 @@ impl<J: Naming> Session<J> {
         self.accepted += 1;
     }
 
-    /// Looks a name up in a published copy that begins with all that the session has seen. Afterwards it has seen the journal
-    /// that the copy stands for. There is nothing, and nothing changes, where no such copy is handed out. It waits for nobody.
+    /// Looks up a name in a snapshot that begins with all that the session has seen. Afterwards the
+    /// session has seen the journal of the snapshot. Never waits.
+    /// Returns `None`, and nothing changes, if no such snapshot is handed out.
     #[tactic(auto, using(crate::proofs::Signing::signs_none, crate::proofs::Signing::signs_nothing))]
     pub(crate) fn look(&mut self, name: &Name) -> Option<Lookup>
         ensures found { IfSome result (λ lookup. IsLookup lookup (state_of (acts_of name.now self.new.journal))) }
@@ -214,7 +230,8 @@ impl<J: Naming> Session<J> {
     }
 }
 
-/// A change that no table has judged yet, and one more reference to each part of it that may be long.
+/// Prepares a change for the table, with an additional reference to each of its parts that may be
+/// large, so that these are freed later.
 fn with_deferred_drop(
     alloc: Global,
     name: Name,

@@ -12,7 +12,8 @@ use tfs_published::Naming;
 use tfs_records::Sink;
 use tfs_table::Table;
 
-/// A table behind one lock, and the position that it was opened at. Contracts see the number of its sessions.
+/// A table under one lock, and the position at which it was opened. Contracts see the number of its
+/// sessions.
 pub struct Shared<J: Naming, K: Sink> {
     pub(crate) alloc: Global,
     pub(crate) locked_state: Mutex<LockedState<J, K>>,
@@ -33,7 +34,7 @@ impl<J: Naming, K: Sink> Model for Shared<J, K> {
 }
 
 impl<J: Naming, K: Sink> Shared<J, K> {
-    /// A table with what is published of it, behind one lock.
+    /// Puts a table and its publisher under one lock.
     pub(crate) fn new(
         alloc: Global,
         number: usize,
@@ -54,14 +55,15 @@ impl<J: Naming, K: Sink> Shared<J, K> {
         }
     }
 
-    /// The position of the journal that it was opened with.
+    /// Returns the position of the opening journal.
     pub fn opened(&self) -> u64
         ensures value { result ≡ position_of J.opening }
     {
         self.opened
     }
 
-    /// The table, whatever its sessions are. It waits for readers; sessions that are left are handed no copies any more.
+    /// Returns the table, without its sessions. Waits for readers; the remaining sessions get no
+    /// more snapshots.
     pub fn close<R: Wait>(self, rt: &R) -> Table<K>
         ensures opening { BeginsWith result.journal J.opening }
     {
@@ -77,12 +79,12 @@ impl<J: Naming, K: Sink> Shared<J, K> {
         locked_state.close(rt)
     }
 
-    /// Where its memory comes from.
+    /// Returns the allocator.
     pub(crate) fn alloc(&self) -> Global {
         self.alloc
     }
 
-    /// Its lock, taken.
+    /// Takes the lock.
     pub(crate) fn lock<R: Wait>(&self, rt: &R) -> MutexGuard<'_, LockedState<J, K>> {
         self.locked_state.lock(rt)
     }

@@ -1,4 +1,4 @@
-//! The beginning of sharing.
+//! The start of sharing: a table is split among sessions.
 
 ghost use Rattle.std.specs.Prelude.{◌≡◌, ◌≤◌, [], IfOk, IfErr};
 ghost use Rattle.tfs_shared.specs.View.{AreNew};
@@ -13,24 +13,25 @@ use tfs_published::{Naming, Opened, Publisher};
 use tfs_records::Sink;
 use tfs_table::Table;
 
-/// Why a table isn't shared.
+/// Why a table wasn't shared.
 #[derive(Clone, Copy, Debug, PartialEq, Eq)]
 pub enum Cause {
-    /// A request for memory was refused.
+    /// An allocation failed.
     NoMemory,
-    /// No place was there for a session to read at.
+    /// There was no free reader slot for a session.
     NoPlace,
 }
 
-/// A table that wasn't shared, as it was.
+/// A table that wasn't shared, unchanged.
 #[derive(Drop)]
 pub struct Unshared<K: Sink> {
     pub table: Table<K>,
     pub why: Cause,
 }
 
-/// Shares a table among 1 to 16 sessions, which have seen the table's journal and made no changes. The history and the ledger are new
-/// and have the names of `J`. After an error the table is as it was. It waits for nobody, since nobody reads yet.
+/// Shares a table among 1 to 16 sessions, which have seen the table's journal and made no changes.
+/// The history and the ledger are new and have the names of `J`. After an error the table is
+/// unchanged. Never waits, since there are no readers yet.
 pub fn share<J: Naming, K: Sink, R: Wait>(
     rt: &R,
     alloc: Global,
@@ -66,7 +67,7 @@ pub fn share<J: Naming, K: Sink, R: Wait>(
     }
 }
 
-/// As many new sessions as a share has parts, numbered from 0.
+/// Creates a new session for each part of the share, numbered from 0.
 #[tactic(auto, using(crate::proofs::Signing::none_new, crate::proofs::Signing::one_new_more))]
 fn sessions_of<J: Naming>(
     alloc: Global,

@@ -1,4 +1,4 @@
-//! Terms of service: runs of workers one after another. Between two of them the journal is rebased into a new sink.
+//! Successive runs of workers. Between two runs the journal is rebased into a new sink.
 #![tactic(auto)]
 
 mod tally;

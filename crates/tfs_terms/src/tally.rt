@@ -7,7 +7,8 @@ ghost use Rattle.std.specs.Coded.{coded_ℕ};
 use std::marker::Model;
 use tfs_serve::{Gate, Served};
 
-/// A count without a limit, which a clause reads as `count`. It takes no memory, and its methods do nothing at run time.
+/// A count without a limit, which clauses read as `count`. It takes no memory, and its methods do
+/// nothing at run time.
 #[derive(Drop)]
 pub struct Tally {
     pub ghost count: { ℕ } by { coded_ℕ },
@@ -17,14 +18,14 @@ impl Model for Tally {
     ghost also_owns = { λ _. ftrue };
 }
 
-/// A number to be added.
+/// A number to add to a count.
 #[derive(Clone, Copy, Drop)]
 pub(crate) struct Addend {
     pub(crate) number: u64,
 }
 
 impl Tally {
-    /// The count 0.
+    /// Creates the count 0.
     #[inline(always)]
     pub fn new() -> Tally
         ensures { result.count ≡ 0 }
@@ -32,7 +33,7 @@ impl Tally {
         Tally {}
     }
 
-    /// The count with a number added.
+    /// Returns the count plus a number.
     #[inline(always)]
     pub(crate) fn plus(&self, _addend: &Addend) -> Tally
         ensures { result.count ≡ self.now.count + _addend.now.number }
@@ -40,7 +41,7 @@ impl Tally {
         Tally {}
     }
 
-    /// The count with the changes added that workers reported as accepted.
+    /// Returns the count plus the number of changes that workers reported as accepted.
     pub fn with<G: Gate>(&self, served: &[Served<G>]) -> Tally
         ensures { result.count ≡ self.now.count + sum_by (λ one. one.accepted) served.now }
     {
