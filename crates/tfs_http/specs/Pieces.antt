@@ -3,8 +3,8 @@ use Rattle.std.specs.Prelude.{◌≡◌, ◌<◌, ◌+◌, ◌*◌, ℕ, Bool, t
 use Rattle.json.specs.Print.{escape}
 use Rattle.tfs_state.specs.Document.{Document}
 use Rattle.tfs_state.specs.Dependency.{address_of}
-use Rattle.tfs_http.specs.declared.pieces.Begun.{Begun}
-use Rattle.tfs_http.specs.declared.pieces.Place.{Place}
+use Rattle.tfs_http.specs.declared.pieces.BegunText.{BegunText}
+use Rattle.tfs_http.specs.declared.pieces.BodyPlace.{BodyPlace}
 
 -- The bytes before an address: its quote, and after another address also that one's quote and a
 -- comma.
@@ -30,12 +30,12 @@ addresses_left d later (i ∷ numbers) = with_address later (address_of d i) (ad
 abbrev pub ending_text : ℕ → ℕ → List ℕ
 ending_text position serial = codes "],\"position\":" ++ (decimal position ++ (codes ",\"serial\":" ++ (decimal serial ++ codes "}")))
 
--- The text of a `Begun`.
-abbrev pub begun_text : Begun → List ℕ
+-- The text of a `BegunText`.
+abbrev pub begun_text : BegunText → List ℕ
 begun_text b = b.plain.now ++ (escape b.front.now ++ escape b.tail.now)
 
 -- The text that is left of all addresses.
-abbrev pub place_text : Document → Place → List ℕ
+abbrev pub place_text : Document → BodyPlace → List ℕ
 place_text d p = begun_text p.begun ++ addresses_left d p.later p.numbers.now
 
 -- A bound on the number of steps to the end of the addresses.

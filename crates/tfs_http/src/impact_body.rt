@@ -7,7 +7,7 @@ ghost use Rattle.tfs_escapes.specs.Room.{HasRoom};
 ghost use Rattle.tfs_http.specs.Pieces.{addresses_left, ending_text, place_text, with_address};
 ghost use Rattle.tfs_http.specs.ReplyText.{impact_body};
 
-use crate::pieces::{Begun, Place, tell_addresses};
+use crate::pieces::{BegunText, BodyPlace, tell_addresses};
 use itoa::Buffer;
 use std::alloc::{AllocError, Global};
 use std::marker::Model;
@@ -24,7 +24,7 @@ const ENDING_BYTES: usize = 80;
 #[derive(Drop)]
 pub struct ImpactBody<'r> {
     version: &'r Version,
-    place: Place<'r>,
+    place: BodyPlace<'r>,
     /// The end of the body, after the addresses, and how many bytes of it were produced.
     ending: Vec<u8>,
     told: usize,
@@ -51,8 +51,8 @@ impl<'r> ImpactBody<'r> {
         let ending = ending(alloc, answer.position, version.doc().serial())?;
         Ok(ImpactBody {
             version,
-            place: Place {
-                begun: Begun::plain(b"{\"instances\":["),
+            place: BodyPlace {
+                begun: BegunText::plain(b"{\"instances\":["),
                 later: false,
                 numbers: answer.chosen.as_slice(),
             },
@@ -93,7 +93,7 @@ impl<'r> ImpactBody<'r> {
 
 /// Returns the number of bytes of the addresses that are left.
 #[tactic(auto, using(crate::proofs::PieceLemmas::place_counted))]
-fn place_len(doc: &Doc, place: Place<'_>) -> u128
+fn place_len(doc: &Doc, place: BodyPlace<'_>) -> u128
     ensures value { result ≡ length (place_text doc.now place.entry) }
     ensures limit { result < 2 ^ 127 + 2 ^ 68 }
 {

@@ -11,7 +11,7 @@ use tfs_index::Version;
 /// The text that comes next: bytes that are written unchanged, and then the two parts of an
 /// address, which are escaped.
 #[derive(Clone, Copy)]
-pub(crate) struct Begun<'r> {
+pub(crate) struct BegunText<'r> {
     pub(crate) plain: &'r [u8],
     pub(crate) front: &'r [u8],
     pub(crate) tail: &'r [u8],
@@ -20,18 +20,18 @@ pub(crate) struct Begun<'r> {
 /// The rest of the addresses: the text that comes next, whether an address came before, and the
 /// numbers of the remaining instances.
 #[derive(Clone, Copy)]
-pub(crate) struct Place<'r> {
-    pub(crate) begun: Begun<'r>,
+pub(crate) struct BodyPlace<'r> {
+    pub(crate) begun: BegunText<'r>,
     pub(crate) later: bool,
     pub(crate) numbers: &'r [usize],
 }
 
-impl<'r> Begun<'r> {
+impl<'r> BegunText<'r> {
     /// Creates a text of bytes that are written unchanged.
-    pub(crate) fn plain(plain: &'r [u8]) -> Begun<'r>
+    pub(crate) fn plain(plain: &'r [u8]) -> BegunText<'r>
         ensures { begun_text result ≡ plain.now }
     {
-        Begun {
+        BegunText {
             plain,
             front: b"",
             tail: b"",
@@ -42,10 +42,10 @@ impl<'r> Begun<'r> {
 /// Appends the addresses until the vector has `limit` bytes, and returns the rest.
 pub(crate) fn tell_addresses<'r>(
     version: &'r Version,
-    place: Place<'r>,
+    place: BodyPlace<'r>,
     limit: usize,
     out: &mut Vec<u8>,
-) -> Place<'r>
+) -> BodyPlace<'r>
     requires { HasRoom out.old limit }
     ensures joined { out.new.items ++ place_text version.now result ≡ out.old.items ++ place_text version.now place.entry }
     ensures room { HasRoom out.new limit }
@@ -66,7 +66,7 @@ pub(crate) fn tell_addresses<'r>(
 }
 
 /// Appends the text that comes next, and returns its rest.
-fn tell_begun<'r>(begun: Begun<'r>, limit: usize, out: &mut Vec<u8>) -> Begun<'r>
+fn tell_begun<'r>(begun: BegunText<'r>, limit: usize, out: &mut Vec<u8>) -> BegunText<'r>
     requires { HasRoom out.old limit }
     ensures joined { out.new.items ++ begun_text result ≡ out.old.items ++ begun_text begun.entry }
     ensures room { HasRoom out.new limit }
@@ -77,11 +77,11 @@ fn tell_begun<'r>(begun: Begun<'r>, limit: usize, out: &mut Vec<u8>) -> Begun<'r
     if plain.is_empty() {
         return tell_parts(begun.front, begun.tail, limit, out);
     }
-    Begun { plain, ..begun }
+    BegunText { plain, ..begun }
 }
 
 /// Appends the two parts of an address, and returns the rest.
-fn tell_parts<'r>(front: &'r [u8], tail: &'r [u8], limit: usize, out: &mut Vec<u8>) -> Begun<'r>
+fn tell_parts<'r>(front: &'r [u8], tail: &'r [u8], limit: usize, out: &mut Vec<u8>) -> BegunText<'r>
     requires { HasRoom out.old limit }
     ensures joined { out.new.items ++ begun_text result ≡ out.old.items ++ (escape front.now ++ escape tail.now) }
     ensures room { HasRoom out.new limit }
@@ -90,10 +90,10 @@ fn tell_parts<'r>(front: &'r [u8], tail: &'r [u8], limit: usize, out: &mut Vec<u
 {
     let (plain, front) = tell_escaped(front, limit, out);
     if !plain.is_empty() {
-        return Begun { plain, front, tail };
+        return BegunText { plain, front, tail };
     }
     let (plain, tail) = tell_escaped(tail, limit, out);
-    Begun {
+    BegunText {
         plain,
         front: b"",
         tail,
@@ -102,7 +102,7 @@ fn tell_parts<'r>(front: &'r [u8], tail: &'r [u8], limit: usize, out: &mut Vec<u
 
 /// Returns the place after the current text: the next address, or the quote that closes the last
 /// one, or `None` if nothing is left.
-fn next_place<'r>(version: &'r Version, later: bool, numbers: &'r [usize]) -> Option<Place<'r>>
+fn next_place<'r>(version: &'r Version, later: bool, numbers: &'r [usize]) -> Option<BodyPlace<'r>>
     ensures some { IfSome result (λ p. place_text version.now p ≡ addresses_left version.now later numbers.now) }
     ensures smaller { IfSome result (λ p. steps_left p.later p.numbers.now < steps_left later numbers.now) }
     ensures none { IfNone result (addresses_left version.now later numbers.now ≡ []) }
@@ -114,8 +114,8 @@ fn next_place<'r>(version: &'r Version, later: bool, numbers: &'r [usize]) -> Op
         return Some(place_at(version, later, *number, behind));
     }
     if later {
-        return Some(Place {
-            begun: Begun::plain(b"\""),
+        return Some(BodyPlace {
+            begun: BegunText::plain(b"\""),
             later: false,
             numbers,
         });
@@ -124,7 +124,11 @@ fn next_place<'r>(version: &'r Version, later: bool, numbers: &'r [usize]) -> Op
 }
 
 /// Returns the addresses of the first consecutive numbers, if the version keeps their text.
-fn listed_place<'r>(version: &'r Version, later: bool, numbers: &'r [usize]) -> Option<Place<'r>>
+fn listed_place<'r>(
+    version: &'r Version,
+    later: bool,
+    numbers: &'r [usize],
+) -> Option<BodyPlace<'r>>
     ensures some { IfSome result (λ p. place_text version.now p ≡ addresses_left version.now later numbers.now) }
     ensures smaller { IfSome result (λ p. steps_left p.later p.numbers.now < steps_left later numbers.now) }
 {
@@ -136,8 +140,8 @@ fn listed_place<'r>(version: &'r Version, later: bool, numbers: &'r [usize]) -> 
     let text = version.address_list(*first, end)?;
     let (_, shown) = text.split_at_checked(if later { 0 } else { 2 })?;
     let (_, behind) = numbers.split_at(end - *first);
-    Some(Place {
-        begun: Begun::plain(shown),
+    Some(BodyPlace {
+        begun: BegunText::plain(shown),
         later: true,
         numbers: behind,
     })
@@ -160,21 +164,26 @@ fn run_end(numbers: &[usize], first: usize) -> usize
 }
 
 /// Returns the address of an instance, if the number has one, followed by the remaining ones.
-fn place_at<'r>(version: &'r Version, later: bool, number: usize, behind: &'r [usize]) -> Place<'r>
+fn place_at<'r>(
+    version: &'r Version,
+    later: bool,
+    number: usize,
+    behind: &'r [usize],
+) -> BodyPlace<'r>
     ensures text { place_text version.now result ≡ addresses_left version.now later (number ∷ behind.now) }
     ensures smaller { steps_left result.later result.numbers.now < steps_left later (number ∷ behind.now) }
 {
     let doc = version.doc();
     if number >= doc.len() {
-        return Place {
-            begun: Begun::plain(b""),
+        return BodyPlace {
+            begun: BegunText::plain(b""),
             later,
             numbers: behind,
         };
     }
     let (front, tail) = doc.address(number).parts();
-    Place {
-        begun: Begun {
+    BodyPlace {
+        begun: BegunText {
             plain: before_address(later),
             front: front.as_bytes(),
             tail: tail.as_bytes(),
