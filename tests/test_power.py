@@ -28,7 +28,7 @@ KILLS, SEED = int(os.environ.get("KILLS", "20")), int(os.environ.get("SEED", "1"
 # keeps some of them, and some bytes.
 DISKS = ({}, {"NAMES": 100}, {"NAMES": 40, "BYTES": 40})
 # More than a start or a compaction makes: syncs and changes of names; syncs; renames.
-CALLS, SYNCS, RENAMES = 18, 10, 5
+CALLS, SYNCS, RENAMES = 21, 12, 6
 PUSHED = NAMES[:2]
 # The steps of a program that replaces a file by a rename, moves one, and removes one.
 STEPS = """
@@ -107,6 +107,11 @@ def new():
     return disk, Told()
 
 
+def unset():
+    """Returns a disk with an empty folder, without a file of the least position."""
+    return Disk(), Told()
+
+
 def served():
     """Returns a disk with a folder whose server acknowledged some changes, and what it reported."""
     disk, told = new()
@@ -132,7 +137,7 @@ def left():
     return disk, told
 
 
-STARTS = (new, served, idle, left)
+STARTS = (new, unset, served, idle, left)
 
 
 @functools.cache
@@ -146,7 +151,8 @@ def copy_of(make):
     of what was reported about it."""
     (disk, told), copied = made(make), Disk()
     shutil.copytree(disk.root, copied.root, dirs_exist_ok=True)
-    copied.least.write_text(f"{0:020}\n")
+    if disk.least.exists():
+        copied.least.write_text(f"{0:020}\n")
     return copied, copy.deepcopy(told)
 
 
