@@ -12,7 +12,7 @@ returns-then-is_empty-clause-ok c =
     let cut = c.split_at_bracket.ensures in
     let front = HasRead-front _ _ _ _ _ c.loop-bare.invariant.1 cut.texts.0 cut.front cut.whole in
     let none = (Decides-eqb _ 0).0 (sym c.if-is_empty.ensures) in
-    IsStripped-at_end _ _ _ _ c.utf8.text front none (c.in_ok-fitted.ensures.kept ∙ c.in_ok-keep.ensures.bytes)
+    IsStripped-at_end _ _ _ _ c.utf8.text front none (c.in_ok-shrink_to_fit.ensures.kept ∙ c.in_ok-keep.ensures.bytes)
 
 pub returns-in_err-rest-clause-err : goal.returns-in_err-rest-clause-err
 returns-in_err-rest-clause-err c =
@@ -39,11 +39,11 @@ returns-in_err-keep-clause-empty c = λ e _.
     let none = nothing_read _ _ _ _ _ e c.loop-bare.invariant.1 cut.texts.0 cut.texts.1 cut.whole in
     absurd (omega (arith, c.in_err-keep.ensures.full, none.1, c.loop-bare.invariant.2 e))
 
-pub returns-in_err-fitted-clause-empty : goal.returns-in_err-fitted-clause-empty
-returns-in_err-fitted-clause-empty c = λ e _.
+pub returns-in_err-shrink_to_fit-clause-empty : goal.returns-in_err-shrink_to_fit-clause-empty
+returns-in_err-shrink_to_fit-clause-empty c = λ e _.
     let cut = c.split_at_bracket.ensures in
     let none = nothing_read _ _ _ _ _ e c.loop-bare.invariant.1 cut.texts.0 cut.texts.1 cut.whole in
-    absurd (false≢true (c.in_err-fitted.ensures.empty (omega (arith, c.in_ok-keep.ensures.len, none.1, c.loop-bare.invariant.2 e))))
+    absurd (false≢true (c.in_err-shrink_to_fit.ensures.empty (omega (arith, c.in_ok-keep.ensures.len, none.1, c.loop-bare.invariant.2 e))))
 
 pub returns-in_err-rest-clause-empty : goal.returns-in_err-rest-clause-empty
 returns-in_err-rest-clause-empty c = λ e _.

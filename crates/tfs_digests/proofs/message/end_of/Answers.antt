@@ -17,4 +17,4 @@ returns c =
       | else-used-lt56 w ↦ (omega arith, omega arith)
     ] in
     let bits = c.copy_from_slice.ensures.after ∙ c.to_le_bytes.ensures in
-    rw c.marked-end.ensures (end_is m _ _ at (at + 8 - at) left bits place.0 place.1)
+    rw c.final_blocks-end.ensures (end_is m _ _ at (at + 8 - at) left bits place.0 place.1)

@@ -16,7 +16,7 @@ loop-i-preserved c =
     let held = c.loop-i.invariant in
     let words = c.words_of-words.ensures in
     let next = c.compress-next.ensures in
-    let after = c.advanced-after.ensures in (
+    let after = c.next_states-after.ensures in (
       goes_on c.args.a.now _ _ _ _ _ c.loop-i.i held.0 c.block.ensures.bytes words.0 (next 0 (omega arith)) (rw (← c.blocks-2.ensures) (after 0 (omega arith))),
       goes_on c.args.b.now _ _ _ _ _ c.loop-i.i held.1 c.block-in-loop-i.ensures.bytes words.1 (next 1 (omega arith)) (rw (← c.blocks-3.ensures) (after 1 (omega arith))),
       goes_on c.args.c.now _ _ _ _ _ c.loop-i.i held.2 c.block-in-loop-i-2.ensures.bytes words.2 (next 2 (omega arith)) (rw (← c.blocks-4.ensures) (after 2 (omega arith))),

@@ -5,7 +5,7 @@ use Rattle.tfs_http.proofs.query.first_value.Goals as goal
 
 pub returns-then-branch : goal.returns-then-branch
 returns-then-branch c =
-    ap Some c.in_ok-decoded.ensures
+    ap Some c.in_ok-decode_value.ensures
     ∙ sym (c.loop-name.invariant.same
     ∙ found_pair c.args.called.now _ _ (c.in-Some.name.now, c.in-Some.value.now) c.in-Some.ensures.steps
     (sym c.in_ok-is_called.ensures ∙ c.if-branch.true))

@@ -9,8 +9,8 @@ returns c = record {
   value = rw (
     ← c.self.view_is,
     ← c.update.view_is,
-    map-set place_view c.self.inside.places.items c.update.inside.number c.filled.result,
-    c.filled.ensures.value,
+    map-set place_view c.self.inside.places.items c.update.inside.number c.place_for.result,
+    c.place_for.ensures.value,
     c.again.ensures.value,
   ) refl;
 }
