@@ -8,8 +8,8 @@ use crate::readers::Pieces;
 use std::alloc::{AllocError, Global};
 use std::process::Abort;
 use tfs_folder::{
-    Chosen, FolderFile, JournalReader, NoChoice, Unchosen, choose, choose_beside, name_of,
-    number_of,
+    Chosen, FolderFile, JournalReader, NoChoice, NotPast, StartPlan, Unchosen, choose,
+    choose_beside, name_of, number_of, plan,
 };
 use tfs_records::MemorySink;
 use tfs_table::{OpenFault, Table};
@@ -179,6 +179,75 @@ const FAILING: &str = "1 1:104:104 2:92:92 = 1 unread Source
 #[test]
 fn a_reader_that_fails_ends_the_choice(rt: HostRuntime) {
     expect_lines::<Failing>(&rt, FAILING);
+}
+
+/// Returns the numbers in a word; `-` is none.
+fn numbers_in(rt: &(impl Alloc<A = Global> + Abort), word: &str) -> Vec<u64> {
+    let mut numbers = Vec::new(rt.alloc());
+    for number in word.split(',') {
+        if number != "-" {
+            numbers
+                .push(number_in(rt, number))
+                .ok()
+                .expect(rt, "memory");
+        }
+    }
+    numbers
+}
+
+/// Returns a plan in words.
+fn plan_words(alloc: Global, plan: Result<StartPlan<'_>, NotPast>) -> Result<String, AllocError> {
+    let Ok(plan) = plan else {
+        return format!(in alloc; "NotPast");
+    };
+    let StartPlan {
+        before,
+        after,
+        twice,
+    } = plan;
+    match (plan.alone(), twice) {
+        (None, None) => format!(in alloc; "{before:?} {after:?}"),
+        (Some(alone), None) => format!(in alloc; "{before:?} {after:?}, {alone} alone"),
+        (_, Some(twice)) => format!(in alloc; "{before:?} {after:?}, {twice} twice"),
+    }
+}
+
+/// The journal to discard, the retired ones, and those of the folder.
+struct Plans;
+
+impl Judge for Plans {
+    fn judge(rt: &(impl Alloc<A = Global> + Abort), given: &str, wanted: &str) {
+        let (past, words) = split(given);
+        let (old, here) = split(words);
+        let (old, here) = (numbers_in(rt, old), numbers_in(rt, here));
+        let past = past.parse::<u64>().ok();
+        let plan = plan(here.as_slice(), old.as_slice(), past);
+        expect_words(rt, plan_words(rt.alloc(), plan), wanted);
+    }
+}
+
+/// Which journals a start chooses among.
+const PLANS: &str = "- - - = [] []
+- - 1 = [1] [], 1 alone
+- 1,2 3,4,5 = [3, 4, 5] []
+4 - 3,4,5 = [3] [5]
+3 2 3,4,5 = [] [4, 5]
+3 - 3,4 = [] [4], 4 alone
+0 - 0,1,2 = [] [1, 2]
+5 - 3,4,5 = NotPast
+6 - 3,4,5 = NotPast
+2 2 3,4,5 = NotPast
+3 - 3 = NotPast
+4 - - = NotPast
+- 3,4 4,5 = [4, 5] [], 4 twice
+- 4,3 3,4,5 = [3, 4, 5] [], 3 twice
+4 4 3,4,5 = [3] [5], 4 twice
+4 5 3,4,5 = [3] [5], 5 twice
+- 4 4 = [4] [], 4 twice";
+
+#[test]
+fn a_start_chooses_among_all_journals_except_a_discarded_one(rt: HostRuntime) {
+    expect_lines::<Plans>(&rt, PLANS);
 }
 
 /// Returns the table that continues the choice in a folder, over a sink that takes this number of
