@@ -168,7 +168,9 @@ pub struct End {
 
 impl End {
     /// The end by a fault that is about this.
-    pub fn at(place: Place, fault: Fault) -> End {
+    pub fn at(place: Place, fault: Fault) -> End
+        ensures value { result ≡ record { place = place; fault = fault } }
+    {
         End { place, fault }
     }
 
@@ -197,7 +199,9 @@ impl End {
     }
 
     /// The end because a file can't be had, by what the system told, or by this fault.
-    pub fn by_system(place: Place, fault: Fault, error: &io::Error) -> End {
+    pub fn by_system(place: Place, fault: Fault, error: &io::Error) -> End
+        ensures at { result.place ≡ place }
+    {
         let fault = match error.kind() {
             io::ErrorKind::OutOfMemory => Fault::OutOfMemory,
             io::ErrorKind::PermissionDenied => Fault::NotAllowed,

@@ -12,16 +12,16 @@ use tfs_serve::AnyListener;
 /// A folder that is ready to be served: its lock, the listener, the file of the least position, its
 /// next journal, and the table over that.
 #[derive(Drop)]
-pub(crate) struct Ready {
+pub(crate) struct Ready<'f> {
     pub(crate) lock: FolderLock,
     pub(crate) listener: AnyListener,
     pub(crate) least: Option<PositionFile>,
-    pub(crate) made: Made,
+    pub(crate) made: Made<'f>,
 }
 
 /// Looks at the stack of threads, takes the lock of a folder and the address, and makes the folder's next journal; or ends by the first
 /// fault.
-pub(crate) fn start(rt: &HostRuntime, asked: &Serving<'_>) -> Result<Ready, End> {
+pub(crate) fn start<'f>(rt: &HostRuntime, asked: &Serving<'f>) -> Result<Ready<'f>, End> {
     if let Err(fault) = refuse_small_stack() {
         return Err(End::at(Place::Command, fault));
     }
@@ -41,11 +41,11 @@ pub(crate) fn start(rt: &HostRuntime, asked: &Serving<'_>) -> Result<Ready, End>
 }
 
 /// The file of the least position, which is raised to the table's, and the folder's next journal.
-fn begun(
+fn begun<'f>(
     rt: &HostRuntime,
-    asked: &Serving<'_>,
+    asked: &Serving<'f>,
     begins: bool,
-) -> Result<(Option<PositionFile>, Made), End> {
+) -> Result<(Option<PositionFile>, Made<'f>), End> {
     let least = PositionFile::named(rt, asked.least_file, begins)?;
     let made = started_from(rt, asked, least_position(asked.start.least, &least))?;
     let least = raised(rt, least, made.table.position())?;
@@ -53,7 +53,7 @@ fn begun(
 }
 
 /// The folder's next journal, which starts from this position at least.
-fn started_from(rt: &HostRuntime, asked: &Serving<'_>, least: u64) -> Result<Made, End> {
+fn started_from<'f>(rt: &HostRuntime, asked: &Serving<'f>, least: u64) -> Result<Made<'f>, End> {
     let start = Start {
         least,
         ..asked.start
