@@ -1,2 +1,6 @@
+pub mod FolderFacts
+pub mod Naming
+pub mod Copies
+pub mod Start
 pub mod Retention
 pub mod Status

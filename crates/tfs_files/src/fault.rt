@@ -168,7 +168,9 @@ pub struct End {
 
 impl End {
     /// Creates the end by a fault with this subject.
-    pub fn at(place: Place, fault: Fault) -> End {
+    pub fn at(place: Place, fault: Fault) -> End
+        ensures value { result ≡ record { place = place; fault = fault } }
+    {
         End { place, fault }
     }
 
@@ -199,7 +201,9 @@ impl End {
     /// Creates the end after a failed operation on a file. The fault is `OutOfMemory` or
     /// `NotAllowed` if the system's error says so, `NoFolder` or `NotFolder` if it says so of the
     /// folder, and otherwise `fault`.
-    pub fn by_system(place: Place, fault: Fault, error: &io::Error) -> End {
+    pub fn by_system(place: Place, fault: Fault, error: &io::Error) -> End
+        ensures at { result.place ≡ place }
+    {
         let fault = match error.kind() {
             io::ErrorKind::OutOfMemory => Fault::OutOfMemory,
             io::ErrorKind::PermissionDenied => Fault::NotAllowed,

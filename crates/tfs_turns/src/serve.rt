@@ -48,10 +48,10 @@ pub struct Plan<'p> {
 /// What a start has made: the listener, whose waits time out; the file of the least position; the
 /// folder's newest journal; and the table over it.
 #[derive(Drop)]
-pub struct Begun {
+pub struct Begun<'f> {
     pub listener: AnyListener,
     pub least: Option<PositionFile>,
-    pub journal: DurableJournal,
+    pub journal: DurableJournal<'f>,
     pub table: Table<JournalSink>,
 }
 
@@ -72,7 +72,7 @@ pub fn serve_folder<R: AllocGlobal + Threads + Wait + Clock + Sync>(
     host: &HostRuntime,
     lock: &FolderLock,
     plan: &Plan<'_>,
-    begun: Begun,
+    begun: Begun<'_>,
 ) -> Left
     ensures ends { EndsOn begun.table.journal result.table.journal 0 result.reported.count }
     ensures holds { HoldsAll begun.table.journal result.table.journal 0 result.reported.count }

@@ -30,7 +30,7 @@ pub(crate) struct Turning<'t, R: AllocGlobal + Wait> {
     pub(crate) plan: &'t Plan<'t>,
     pub(crate) watch: &'t Watch<'t>,
     pub(crate) journal: Arc<ServedJournal>,
-    pub(crate) in_place: DurableJournal,
+    pub(crate) in_place: DurableJournal<'t>,
     pub(crate) least: &'t Mutex<Option<PositionFile>>,
     pub(crate) listener: &'t AnyListener,
     pub(crate) news: Cell<News>,
@@ -62,7 +62,9 @@ impl<'t, R: AllocGlobal + Wait> Turning<'t, R> {
 }
 
 impl<'t, R: AllocGlobal + Wait + Sync> Terms for Turning<'t, R> {
-    ghost use Rattle.std.specs.Prelude.{◌≡◌, ◌≤◌, ◌<◌, ◌+◌, [], length, sum_by, IfOk, OnOk, OnErr, IfSome};
+    ghost use Rattle.std.specs.Prelude.{◌≡◌, ◌≤◌, ◌<◌, ◌+◌, [], false, length, sum_by, IfOk, OnOk, OnErr, IfSome};
+    ghost use Rattle.tfs_terms.specs.declared.terms.Unturned.TheVariants.{Failed};
+    ghost use Rattle.tfs_turns.specs.declared.fault.TurnFault.TheVariants.{Replaced, Unsynced};
 
     type Gate = Watching<'t, R>;
 
@@ -152,7 +154,10 @@ impl<'t, R: AllocGlobal + Wait + Sync> Terms for Turning<'t, R> {
         Ok(())
     }
 
-    fn goes_on_after(&self, why: &Unturned<TurnFault>) -> bool {
+    fn goes_on_after(&self, why: &Unturned<TurnFault>) -> bool
+        ensures unsynced { why.now ≡ Failed Unsynced → result ≡ false }
+        ensures replaced { why.now ≡ Failed Replaced → result ≡ false }
+    {
         match why {
             Unturned::Stopped => true,
             Unturned::Failed(TurnFault::Unsynced | TurnFault::Replaced) => false,

@@ -167,10 +167,10 @@ fn keep(
 
 /// Retires the journals before this one, which continues the last of them, and removes expired
 /// ones.
-fn tidy(rt: &HostRuntime, asked: &Copying<'_>, journal: DurableJournal) -> Result<(), End> {
-    let here = numbers_here(rt, asked.to)?;
-    retire(rt, asked.to, here.as_slice(), journal)?;
-    let _ = remove_expired(rt, asked.to, asked.keep);
+fn tidy(rt: &HostRuntime, asked: &Copying<'_>, journal: DurableJournal<'_>) -> Result<(), End> {
+    let here = numbers_here(rt, journal.folder())?;
+    retire(rt, here.as_slice(), journal)?;
+    let _ = remove_expired(rt, journal.folder(), asked.keep);
     Ok(())
 }
 

@@ -16,7 +16,7 @@ pub(crate) fn run<R: AllocGlobal + Threads + Wait + Clock + Sync>(
     rt: &R,
     host: &HostRuntime,
     asked: &Serving<'_>,
-    ready: Ready,
+    ready: Ready<'_>,
 ) -> ExitCode {
     let Ready {
         lock,
@@ -39,7 +39,7 @@ fn serve_begun<R: AllocGlobal + Threads + Wait + Clock + Sync>(
     host: &HostRuntime,
     lock: &FolderLock,
     asked: &Serving<'_>,
-    begun: Begun,
+    begun: Begun<'_>,
 ) -> ExitCode {
     let left = serve_folder(rt, host, lock, &plan_of(asked), begun);
     end_of(host, asked.start.folder, left.fault, left.accepting)

@@ -12,16 +12,16 @@ use tfs_serve::AnyListener;
 /// A folder that is ready to be served: its lock, the listener, the file of the least position, and
 /// its next journal with the table over it.
 #[derive(Drop)]
-pub(crate) struct Ready {
+pub(crate) struct Ready<'f> {
     pub(crate) lock: FolderLock,
     pub(crate) listener: AnyListener,
     pub(crate) least: Option<PositionFile>,
-    pub(crate) made: Made,
+    pub(crate) made: Made<'f>,
 }
 
 /// Checks the stack size of threads, takes the folder's lock, listens, and makes the folder's next
 /// journal. Returns the first error.
-pub(crate) fn start(rt: &HostRuntime, asked: &Serving<'_>) -> Result<Ready, End> {
+pub(crate) fn start<'f>(rt: &HostRuntime, asked: &Serving<'f>) -> Result<Ready<'f>, End> {
     if let Err(fault) = refuse_small_stack() {
         return Err(End::at(Place::Command, fault));
     }
@@ -42,11 +42,11 @@ pub(crate) fn start(rt: &HostRuntime, asked: &Serving<'_>) -> Result<Ready, End>
 
 /// Returns the file of the least position, raised to the table's position, and the folder's next
 /// journal.
-fn begun(
+fn begun<'f>(
     rt: &HostRuntime,
-    asked: &Serving<'_>,
+    asked: &Serving<'f>,
     begins: bool,
-) -> Result<(Option<PositionFile>, Made), End> {
+) -> Result<(Option<PositionFile>, Made<'f>), End> {
     let least = PositionFile::named(rt, asked.least_file, begins)?;
     let made = started_from(rt, asked, least_position(asked.start.least, &least))?;
     let least = raised(rt, least, made.table.position())?;
@@ -54,7 +54,7 @@ fn begun(
 }
 
 /// Makes the folder's next journal, which starts at this position or a higher one.
-fn started_from(rt: &HostRuntime, asked: &Serving<'_>, least: u64) -> Result<Made, End> {
+fn started_from<'f>(rt: &HostRuntime, asked: &Serving<'f>, least: u64) -> Result<Made<'f>, End> {
     let start = Start {
         least,
         ..asked.start
