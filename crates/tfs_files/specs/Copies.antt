@@ -1,4 +1,4 @@
--- What becomes of the parts of copies.
+-- The outcome for the part files of copies.
 use Rattle.std.specs.Prelude.{◌≡◌, ◌<◌, ◌≤◌, ◌⊎◌, ℕ, List, Option, None, Some, length, slice_index_or}
 use Rattle.tfs_files.specs.FolderFacts.{remove_part, sync_names, HasFailed, IsNamed, IsDurable, IsRemoved}
 use Rattle.tfs_files.specs.Naming.{IsUnnamedCopy}
@@ -13,17 +13,17 @@ pub record IsNamedOrRemoved (folder : List ℕ) (newest number : ℕ) : Type 0 w
   pub durable : number ≤ newest → IsDurable folder number
   pub removed : newest < number → IsRemoved folder number
 
--- The first so many parts have got their names, or are removed.
+-- The first `count` part files have their outcome.
 abbrev pub AreNamed : List ℕ → List ℕ → ℕ → ℕ → Type 0
 AreNamed folder parts newest count = (k : ℕ) → k < count → IsNamedOrRemoved folder newest (slice_index_or parts k 0)
 
--- The last one of the first so many parts that has got its name; none of none.
+-- The last one of the first `count` part files that is named, or None.
 abbrev pub IsLastNamed : List ℕ → List ℕ → ℕ → ℕ → Option DurableJournal → Type 0
 IsLastNamed folder parts newest count None = (k : ℕ) → k < count → newest < slice_index_or parts k 0
 IsLastNamed folder parts newest count (Some journal) = (at : ℕ) × (at < count) × (slice_index_or parts at 0 ≡ journal.number)
     × (journal.number ≤ newest) × (journal.folder.now ≡ folder) × ((k : ℕ) → at < k → k < count → newest < slice_index_or parts k 0)
 
--- A part hasn't got its name, or that name isn't synced; or one beyond the newest isn't removed.
+-- Why a part file has no outcome: it wasn't renamed, its name wasn't synced, or it wasn't removed.
 abbrev pub FailsToName : List ℕ → ℕ → ℕ → Type 0
 FailsToName folder newest number = ((number ≤ newest) × (IsUnnamedCopy folder number ⊎ (IsNamed folder number number × HasFailed folder sync_names)))
     ⊎ ((newest < number) × HasFailed folder (remove_part number))
