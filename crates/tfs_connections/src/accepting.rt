@@ -175,7 +175,7 @@ pub fn let_wait(listener: &TcpListener) {
 /// Waits for the next connection, and counts the worker as free meanwhile. Returns `None` if
 /// conversations are to end, and an error if the listener has reported one after which it is
 /// unusable.
-pub fn taken<L: Listener, R: Wait + Clock>(
+pub fn take_connection<L: Listener, R: Wait + Clock>(
     rt: &R,
     listener: &mut L,
     ended: &AtomicBool,
@@ -186,13 +186,13 @@ pub fn taken<L: Listener, R: Wait + Clock>(
     ensures none { IfOk result (λ next. next ≡ None → HasPassed (L.told listener.new)) }
 {
     load.begin_wait();
-    let next = accepted(rt, listener, ended);
+    let next = accept_next(rt, listener, ended);
     load.end_wait();
     next
 }
 
 /// Waits for the next connection. Returns `None` if conversations are to end before there is one.
-fn accepted<L: Listener, R: Wait + Clock>(
+fn accept_next<L: Listener, R: Wait + Clock>(
     rt: &R,
     listener: &mut L,
     ended: &AtomicBool,

@@ -11,7 +11,7 @@ mod transport;
 
 pub use accepting::{
     AcceptError, AcceptFault, Listener, Listening, PAUSE_MILLISECONDS, Remedy, let_wait,
-    limit_waits, remedy_of, taken,
+    limit_waits, remedy_of, take_connection,
 };
 pub use any_listener::{AnyListener, AnyStream, LentListener, bind_local};
 pub use connection::{Incoming, Outgoing};

@@ -254,11 +254,11 @@ fn send_whole<W: Outlet>(
     if write_head(reply, form, body.as_slice(), text).is_err() {
         return Err(ServeFault::NoMemory);
     }
-    write_joined(writer, text, shown(form, body.as_slice()))
+    write_joined(writer, text, visible_body(form, body.as_slice()))
 }
 
 /// Returns what a form sends of a body: nothing of it if the form is bare.
-fn shown(form: Form, body: &[u8]) -> &[u8]
+fn visible_body(form: Form, body: &[u8]) -> &[u8]
     ensures { result.now ≡ (if form.bare then [] else body.now) }
 {
     if form.bare { b"" } else { body }

@@ -180,7 +180,7 @@ impl End {
     }
 
     /// Creates the end if no journal was chosen with at least this position.
-    pub fn unchosen(unchosen: Unchosen, least: u64) -> End {
+    pub fn choice_failed(unchosen: Unchosen, least: u64) -> End {
         let place = match unchosen.number {
             Some(number) => Place::Journal(number),
             None => Place::Folder,

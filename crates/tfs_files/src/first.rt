@@ -3,7 +3,7 @@
 use crate::fault::End;
 use crate::folder::numbers_of;
 use crate::next::{Next, make, mark_served};
-use crate::start::{chosen_first, refuse_second};
+use crate::start::{choose_first, refuse_second};
 
 /// The number of a folder's first journal.
 pub const FIRST_NUMBER: u64 = 1;
@@ -15,7 +15,7 @@ pub fn make_first(rt: &HostRuntime, folder: &str) -> Result<(), End> {
     refuse_second(rt, folder, &numbers)?;
     let first = Next {
         number: FIRST_NUMBER,
-        chosen: &chosen_first(rt, "", 0)?,
+        chosen: &choose_first(rt, "", 0)?,
         may_replace: false,
     };
     make(rt, folder, &first)?;

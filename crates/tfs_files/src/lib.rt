@@ -33,7 +33,7 @@ pub use naming::{
 pub use next::{JournalSink, part_path, remove_part, sink_of};
 pub use old::remove_expired;
 pub use own::{mark_copies, mark_grown, refuse_other_copies, refuse_other_original};
-pub use position_file::{PositionFile, least_position, raised};
+pub use position_file::{PositionFile, least_position, raise_least};
 pub use retention::{Limits, OldFile, Retention, expired};
 pub use stack::{LEAST_STACK, refuse_small_stack};
-pub use start::{Made, Start, started};
+pub use start::{Made, Start, start_journal};

@@ -76,14 +76,14 @@ fn first_of(rt: &HostRuntime, folder: &str, number: u64) -> io::Result<Vec<u8>> 
 /// Creates the folder's identity if it has none, and marks the journal with this number in it if
 /// the journal is open.
 fn complete(rt: &HostRuntime, folder: &str, chosen: Option<&File>, number: u64) -> Result<(), End> {
-    match completed(rt, folder, chosen, number) {
+    match complete_mark(rt, folder, chosen, number) {
         Ok(()) => Ok(()),
         Err(error) => Err(End::by_system(Place::Identity, Fault::CannotWrite, &error)),
     }
 }
 
 /// Does the work of [`complete`]. Only durable bytes are marked.
-fn completed(rt: &HostRuntime, folder: &str, chosen: Option<&File>, number: u64) -> io::Result<()> {
+fn complete_mark(rt: &HostRuntime, folder: &str, chosen: Option<&File>, number: u64) -> io::Result<()> {
     let mut identity = new_identity(rt, folder)?;
     if let Some(file) = chosen {
         file.sync_all()?;

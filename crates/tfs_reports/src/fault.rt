@@ -128,7 +128,7 @@ impl End {
     }
 
     /// Returns the end by a version that couldn't be restored.
-    pub(crate) fn unrestored(why: RestoreFault) -> End {
+    pub(crate) fn restore_failed(why: RestoreFault) -> End {
         let fault = match why {
             RestoreFault::LineageDiffers => Fault::LineageDiffers,
             RestoreFault::SerialAtLimit => Fault::SerialAtLimit,

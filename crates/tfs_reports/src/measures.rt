@@ -3,13 +3,13 @@
 use crate::fault::{End, Fault, Place};
 use crate::files::{Newest, Opening, Source, fault_of, newest_opening};
 use std::alloc::Global;
-use tfs_versions::{Measures, measured, whole_part};
+use tfs_versions::{Measures, measure, whole_part};
 
 /// Returns the metrics of the valid part of a folder's newest journal, and the fault that follows
 /// that part, if any.
 pub(crate) fn measures_of(rt: &HostRuntime, folder: &str) -> Result<(Measures, Option<End>), End> {
     match newest_opening(rt, folder)? {
-        Opening::Whole(Newest { len, table }) => Ok((measured(rt.alloc(), len, &table)?, None)),
+        Opening::Whole(Newest { len, table }) => Ok((measure(rt.alloc(), len, &table)?, None)),
         Opening::Broken(source, end) => match measures_in(rt.alloc(), &source)? {
             Some(measures) => Ok((measures, Some(end))),
             None => Err(end),
@@ -22,7 +22,7 @@ pub(crate) fn measures_of(rt: &HostRuntime, folder: &str) -> Result<(Measures, O
 fn measures_in(alloc: Global, source: &Source) -> Result<Option<Measures>, End> {
     let bytes = source.bytes.as_slice();
     match whole_part(alloc, bytes) {
-        Ok(Some(table)) => Ok(Some(measured(alloc, bytes.len(), &table)?)),
+        Ok(Some(table)) => Ok(Some(measure(alloc, bytes.len(), &table)?)),
         Ok(None) => Ok(None),
         Err(fault) => Err(End::of_files(source.place, fault_of(fault))),
     }

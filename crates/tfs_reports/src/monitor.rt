@@ -34,7 +34,7 @@ const COPY_AGE: Metric = Metric {
 pub fn stats(rt: &HostRuntime, folder: &str, copies: Option<&str>) -> Result<(), End> {
     let (measures, fault) = measures_of(rt, folder)?;
     let (copied, copies_fault) = match copies {
-        Some(copies) => match copied_at(rt, copies) {
+        Some(copies) => match newest_copy_time(rt, copies) {
             Ok(copied) => (copied, None),
             Err(end) => (None, Some(end)),
         },
@@ -69,7 +69,7 @@ fn seconds_now(rt: &HostRuntime) -> Option<i64> {
 
 /// Returns when the newest journal of a folder of copies was modified, in seconds since 1970; none
 /// before the first copy.
-fn copied_at(rt: &HostRuntime, copies: &str) -> Result<Option<i64>, End> {
+fn newest_copy_time(rt: &HostRuntime, copies: &str) -> Result<Option<i64>, End> {
     for _ in 0..TRIES {
         let Some(number) = newest_copy(rt, copies)? else {
             return Ok(None);

@@ -8,7 +8,7 @@ ghost use Rattle.tfs_serve.specs.Serving.{IsRun, served_view};
 ghost use Rattle.tfs_serve.specs.Working.{HasWorked, end_of_work};
 
 use crate::gate::Gate;
-use crate::leaving::{gathered, parted};
+use crate::leaving::{gathered, split_members};
 use crate::member::{Member, work_until};
 use crate::run::{Run, Served};
 use crate::runtime::Runtime;
@@ -87,9 +87,9 @@ pub(crate) fn attend<
         sessions: room,
         served,
     } = room;
-    let members = filled(members, gates, sessions);
-    let members = worked(runtime, &LentListener::of(&listener), members, &shared);
-    let (sessions, served) = parted(members, room, served);
+    let members = make_members(members, gates, sessions);
+    let members = run_members(runtime, &LentListener::of(&listener), members, &shared);
+    let (sessions, served) = split_members(members, room, served);
     match gathered(runtime.rt, shared, sessions) {
         Ok(table) => Ok(Run {
             table,
@@ -101,7 +101,7 @@ pub(crate) fn attend<
 }
 
 /// Makes a member for each gate, over new sessions: the first gate gets the last session.
-fn filled<J: Naming, G: Gate + Drop>(
+fn make_members<J: Naming, G: Gate + Drop>(
     room: Vec<Member<J, G>>,
     gates: Vec<G>,
     sessions: Vec<Session<J>>,
@@ -128,7 +128,7 @@ fn filled<J: Naming, G: Gate + Drop>(
 }
 
 /// Runs the members, and returns them when each has finished its work.
-fn worked<
+fn run_members<
     J: Naming + Send + Sync,
     L: OpenListener<Stream = AnyStream> + Sync,
     K: Sink + Send,

@@ -17,7 +17,7 @@ use tfs_shared::{Naming, Session, Shared, Strangers, gather};
 use tfs_table::Table;
 
 /// Takes the table back from sessions that have made no calls.
-pub(crate) fn taken_back<J: Naming, K: Sink, R: Wait>(
+pub(crate) fn take_back<J: Naming, K: Sink, R: Wait>(
     rt: &R,
     shared: Shared<J, K>,
     sessions: Vec<Session<J>>,
@@ -64,7 +64,7 @@ pub(crate) fn gathered<J: Naming, K: Sink, R: Wait>(
 }
 
 /// Splits the members into their sessions and their outcomes.
-pub(crate) fn parted<J: Naming, G: Gate + Drop>(
+pub(crate) fn split_members<J: Naming, G: Gate + Drop>(
     members: Vec<Member<J, G>>,
     sessions: Vec<Session<J>>,
     served: Vec<Served<G>>,

@@ -11,7 +11,7 @@ ghost use Rattle.tfs_serve.specs.declared.run.Obstacle.TheVariants.{NoCopy};
 
 use crate::crew::{Crew, Room, attend};
 use crate::gate::Gate;
-use crate::leaving::taken_back;
+use crate::leaving::take_back;
 use crate::runtime::Runtime;
 use std::alloc::Global;
 use std::marker::Brand;
@@ -225,7 +225,7 @@ fn serve_shared<
     let Asked { gates, listen } = asked;
     let Ok(room) = Room::new(runtime.alloc, gates.len()) else {
         let why = Obstacle::NoMemory;
-        return Err(given_back(runtime.rt, shared, sessions, why));
+        return Err(give_back(runtime.rt, shared, sessions, why));
     };
     match listen() {
         Ok(listener) => {
@@ -244,14 +244,14 @@ fn serve_shared<
         }
         Err(fault) => {
             let why = Obstacle::NoListener(fault);
-            Err(given_back(runtime.rt, shared, sessions, why))
+            Err(give_back(runtime.rt, shared, sessions, why))
         }
     }
 }
 
 /// Takes the table back from sessions that have made no calls, with the reason why it wasn't
 /// served.
-fn given_back<J: Naming, K: Sink, E, R: Wait>(
+fn give_back<J: Naming, K: Sink, E, R: Wait>(
     rt: &R,
     shared: Shared<J, K>,
     sessions: Vec<Session<J>>,
@@ -260,7 +260,7 @@ fn given_back<J: Naming, K: Sink, E, R: Wait>(
     requires new { AreNew J.opening J.sessions sessions.items }
     ensures journal { result.table.journal ≡ J.opening }
 {
-    let table = taken_back(rt, shared, sessions);
+    let table = take_back(rt, shared, sessions);
     Unserved { table, why }
 }
 

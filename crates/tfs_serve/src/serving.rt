@@ -14,7 +14,7 @@ use std::net::{OpenListener, TcpStream};
 use std::sync::Wait;
 use std::time::Clock;
 use tfs_connections::{
-    AcceptFault, Connection, Incoming, LentConnection, Listening, Outgoing, Timing, taken,
+    AcceptFault, Connection, Incoming, LentConnection, Listening, Outgoing, Timing, take_connection,
 };
 use tfs_conversation::{Outlet, Reads, Source, converse};
 use tfs_records::Sink;
@@ -71,7 +71,7 @@ pub(crate) fn work_over<
         if !gate.admit() {
             return Ok(());
         }
-        match taken(service.rt, &mut listening, service.ended, service.load) {
+        match take_connection(service.rt, &mut listening, service.ended, service.load) {
             Ok(stream) => serve(service, stream, gate, session, &mut scratch),
             Err(fault) => return Err(fault),
         }

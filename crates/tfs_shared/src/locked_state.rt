@@ -18,7 +18,7 @@ ghost use Rattle.tfs_shared.specs.Locked.{AnswersChange, AnswersRead, HasNoCopy,
 ghost use Rattle.tfs_published.specs.Beginning.{BeginsWith};
 
 use crate::locked::change;
-use crate::merge::merged;
+use crate::merge::merge_shares;
 use crate::session::Session;
 use std::marker::Model;
 use std::sync::ledger::Book;
@@ -240,7 +240,7 @@ impl<J: Naming, K: Sink> LockedState<J, K> {
             publisher,
             mut book,
         } = self;
-        if let Some(mut all) = merged(sessions) {
+        if let Some(mut all) = merge_shares(sessions) {
             book.audit(&mut all);
         }
         publisher.close(rt);

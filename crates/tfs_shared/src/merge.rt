@@ -8,7 +8,7 @@ use tfs_published::Naming;
 
 /// Merges the shares of the sessions into one. Returns `None` if there are no sessions.
 #[tactic(auto, using(crate::proofs::Shares::accepted_more))]
-pub(crate) fn merged<J: Naming>(sessions: Vec<Session<J>>) -> Option<Share<J>>
+pub(crate) fn merge_shares<J: Naming>(sessions: Vec<Session<J>>) -> Option<Share<J>>
     requires some { 1 ≤ J.parts }
     ensures parts { IfSome result (λ share. share.parts ≡ length sessions.items) }
     ensures amount { IfSome result (λ share. share.amount ≡ sum_by (λ session. session.accepted) sessions.items) }

@@ -27,7 +27,7 @@ pub struct Measures {
 }
 
 /// Returns the metrics of a table whose journal has a file of `bytes` bytes.
-pub fn measured<K: Sink>(
+pub fn measure<K: Sink>(
     alloc: Global,
     bytes: usize,
     table: &Table<K>,

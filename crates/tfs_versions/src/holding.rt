@@ -63,14 +63,14 @@ fn time_numbered<K: Sink>(
         ≡ option_and_then (taken_at table.now.journal) (slice_get (names_of table.now.journal) number)) }
 {
     match table.name(number) {
-        Some(name) => taken_at(alloc, table, name),
+        Some(name) => lock_time(alloc, table, name),
         None => Ok(None),
     }
 }
 
 /// Returns the time at which the lock of a name was taken, if it is held and its information states
 /// a valid time.
-fn taken_at<K: Sink>(
+fn lock_time<K: Sink>(
     alloc: Global,
     table: &Table<K>,
     name: &Name,

@@ -15,12 +15,12 @@ mod telling;
 mod told;
 mod whole;
 
-pub use counts::{Measures, measured};
+pub use counts::{Measures, measure};
 pub use dot::picture;
 pub use event::{Deed, Event, Outline};
 pub use holding::words_of;
 pub use laws::events_are_the_acts_of_a_name_in_order;
 pub use past::state_at;
-pub use restore::{RestoreFault, restored};
-pub use told::{Told, told_by};
+pub use restore::{RestoreFault, restore_text};
+pub use told::{Told, read_acts};
 pub use whole::whole_part;

@@ -28,11 +28,11 @@ pub(crate) fn with_number(
     if !are_digits(digits) {
         return Ok(None);
     }
-    Ok(Some(joined(alloc, front, number, back)?))
+    Ok(Some(join_number(alloc, front, number, back)?))
 }
 
 /// Returns a text, a number in decimal, and another text, joined.
-fn joined(alloc: Global, front: &[u8], number: u64, back: &[u8]) -> Result<Vec<u8>, AllocError>
+fn join_number(alloc: Global, front: &[u8], number: u64, back: &[u8]) -> Result<Vec<u8>, AllocError>
     ensures { IfOk result (λ text. text.items ≡ front.now ++ (decimal number ++ back.now)) }
 {
     let mut buffer = Buffer::new();

@@ -251,21 +251,21 @@ pub(crate) const ADDRESSES: Argument = Argument {
 
 impl Argument {
     /// Returns the argument for the parser.
-    pub(crate) fn made<'a>(&self, alloc: Global) -> Result<Arg<'a>, AllocError> {
+    pub(crate) fn to_arg<'a>(&self, alloc: Global) -> Result<Arg<'a>, AllocError> {
         let arg = Arg::new(alloc, self.name).help(self.help);
         match self.takes {
             Takes::Word => Ok(arg.required(true)),
             Takes::OneOf(words) => Ok(arg.required(true).value_parser(words)),
             Takes::Words => Ok(arg.required(true).num_args(1..)),
             Takes::Nothing => Ok(arg.long(self.name).action(ArgAction::SetTrue)),
-            Takes::Value(called, value) => value.given(arg.long(self.name).value_name(called)),
+            Takes::Value(called, value) => value.with_value(arg.long(self.name).value_name(called)),
         }
     }
 }
 
 impl Value {
     /// Returns the option with this value.
-    fn given<'a>(self, option: Arg<'a>) -> Result<Arg<'a>, AllocError> {
+    fn with_value<'a>(self, option: Arg<'a>) -> Result<Arg<'a>, AllocError> {
         match self {
             Value::Optional(parser) => Ok(option.value_parser(parser)),
             Value::Required(parser) => Ok(option.value_parser(parser).required(true)),

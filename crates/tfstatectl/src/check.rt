@@ -13,14 +13,14 @@ use tfs_table::Table;
 /// Prints a line for each journal of a folder, and one for the journal that a start would continue.
 /// Returns the program's exit status.
 pub(crate) fn run(rt: &HostRuntime, folder: &str) -> ExitCode {
-    match checked(rt, folder) {
+    match check_folder(rt, folder) {
         Ok(()) => ExitCode::SUCCESS,
         Err(end) => end_by(rt, folder, end),
     }
 }
 
 /// Checks a folder, and prints the lines.
-fn checked(rt: &HostRuntime, folder: &str) -> Result<(), End> {
+fn check_folder(rt: &HostRuntime, folder: &str) -> Result<(), End> {
     let numbers = numbers_here(rt, folder)?;
     tell_old(rt, folder)?;
     let files = files_of(rt, folder, numbers.as_slice())?;
@@ -32,7 +32,7 @@ fn checked(rt: &HostRuntime, folder: &str) -> Result<(), End> {
             Ok(()) => Ok(()),
             Err(_) => Err(End::at(Place::Command, Fault::Write)),
         },
-        Err(unchosen) => Err(End::unchosen(unchosen, 0)),
+        Err(unchosen) => Err(End::choice_failed(unchosen, 0)),
     }
 }
 

@@ -3,7 +3,7 @@
 ghost use Rattle.std.specs.Prelude.{◌≡◌, ◌≤◌};
 
 use crate::commands::program;
-use crate::numbers::written_out;
+use crate::numbers::expand_numbers;
 use clap::{ArgMatches, Error};
 use std::alloc::{AllocError, Global};
 use std::env;
@@ -157,15 +157,15 @@ pub(crate) fn words_of(rt: &(impl AllocGlobal + Env + Eprint)) -> Result<Vec<Str
     let Ok(words) = env::args(rt) else {
         return Err(end_by(rt, "", End::at(Place::Command, Fault::Arguments)));
     };
-    match collected(rt.alloc(), words) {
+    match collect_words(rt.alloc(), words) {
         Ok(words) => Ok(words),
         Err(_) => Err(end_by(rt, "", End::at(Place::Command, Fault::OutOfMemory))),
     }
 }
 
 /// Collects the words, and writes out their numbers with K, M or G.
-fn collected(alloc: Global, words: env::Args) -> Result<Vec<String>, AllocError> {
-    written_out(alloc, words.collect(alloc)?)
+fn collect_words(alloc: Global, words: env::Args) -> Result<Vec<String>, AllocError> {
+    expand_numbers(alloc, words.collect(alloc)?)
 }
 
 /// Returns the parsed words, or the text that reports what is wrong with them.

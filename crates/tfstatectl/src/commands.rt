@@ -129,7 +129,7 @@ fn command<'a>(alloc: Global, form: &Form) -> Result<Command<'a>, AllocError> {
 fn arguments<'a>(alloc: Global, of: &[Argument]) -> Result<Vec<Arg<'a>>, AllocError> {
     let mut arguments = Vec::with_capacity(alloc, of.len())?;
     for argument in of {
-        arguments.push(argument.made(alloc)?)?;
+        arguments.push(argument.to_arg(alloc)?)?;
     }
     Ok(arguments)
 }

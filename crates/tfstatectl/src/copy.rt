@@ -6,7 +6,7 @@ use std::process::ExitCode;
 use std::{fs, io};
 use tfs_files::{
     DurableJournal, End, Fault, FolderLock, Gap, Originals, Place, PositionFile, end_by,
-    least_position, lock_folder, mark_copies, name_parts, numbers_here, raised, read_originals,
+    least_position, lock_folder, mark_copies, name_parts, numbers_here, raise_least, read_originals,
     refuse_other_copies, refuse_other_original, refuse_served, remove_expired, retire, write_parts,
 };
 use tfs_folder::{Chosen, FolderFile, choose};
@@ -78,7 +78,7 @@ fn copy_files(
     let gap = originals.gap_before(rt, asked.to, here);
     let shared = match gap {
         Some(gap) if gap.goes_back() => here,
-        Some(_) | None => originals.shared(here),
+        Some(_) | None => originals.still_held(here),
     };
     let parts = match write_parts(rt, asked.to, shared, originals.files.as_slice()) {
         Ok(parts) => parts,
@@ -108,7 +108,7 @@ fn own_in(
 fn chosen_in(rt: &HostRuntime, files: Vec<FolderFile>, least: u64) -> Result<Newest, End> {
     match choose(rt.alloc(), files, least) {
         Ok(chosen) => Ok(Newest::of(&chosen)),
-        Err(unchosen) => Err(End::unchosen(unchosen, least)),
+        Err(unchosen) => Err(End::choice_failed(unchosen, least)),
     }
 }
 
@@ -136,14 +136,14 @@ fn name_copied(rt: &HostRuntime, asked: &Copying<'_>, copies: Copies, copied: Co
 fn copies_in(rt: &HostRuntime, asked: &Copying<'_>) -> Result<Copies, End> {
     let _ = fs::create_dir_all(rt, asked.to);
     let lock = lock_folder(rt, asked.to)?;
-    let here = unserved(rt, asked.to)?;
+    let here = unserved_numbers(rt, asked.to)?;
     refuse_other_copies(rt, asked.from, asked.to)?;
     let least = PositionFile::named(rt, asked.least_file, here.is_empty())?;
     Ok(Copies { lock, here, least })
 }
 
 /// Returns the numbers of the journals of a folder, unless the folder was served.
-fn unserved(rt: &HostRuntime, folder: &str) -> Result<Vec<u64>, End> {
+fn unserved_numbers(rt: &HostRuntime, folder: &str) -> Result<Vec<u64>, End> {
     refuse_served(rt, folder)?;
     numbers_here(rt, folder)
 }
@@ -161,7 +161,7 @@ fn keep(
     if let Some(journal) = named {
         tidy(rt, asked, journal)?;
     }
-    let _least = raised(rt, least, copied.newest.position)?;
+    let _least = raise_least(rt, least, copied.newest.position)?;
     Ok(())
 }
 

@@ -6,7 +6,7 @@ use std::alloc::{AllocError, Global};
 const OPTIONS: [&str; 3] = ["--compact-bytes", "--compact-entries", "--keep-bytes"];
 
 /// Returns the words of a command line, with the numbers of these options written out.
-pub(crate) fn written_out(alloc: Global, words: Vec<String>) -> Result<Vec<String>, AllocError> {
+pub(crate) fn expand_numbers(alloc: Global, words: Vec<String>) -> Result<Vec<String>, AllocError> {
     let mut all = Vec::with_capacity(alloc, words.len())?;
     let mut is_number = false;
     for word in words {

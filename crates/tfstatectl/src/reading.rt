@@ -13,14 +13,14 @@ pub(crate) fn run(rt: &HostRuntime, command: &str, given: &ArgMatches<'_>) -> Ex
         .get_str("NAME")
         .or(given.get_str("copies"))
         .unwrap_or("");
-    match told(rt, command, folder, name, given) {
+    match report(rt, command, folder, name, given) {
         Ok(()) => ExitCode::SUCCESS,
         Err(end) => end_by(rt, folder, name, end),
     }
 }
 
 /// Prints what a command requests.
-fn told(
+fn report(
     rt: &HostRuntime,
     command: &str,
     folder: &str,
@@ -32,14 +32,14 @@ fn told(
         "history" => history(rt, folder, name, given.get_flag("json")),
         "show" => show(rt, folder, name, position),
         "restore" => restore(rt, folder, name, position.unwrap_or(0)),
-        "impact" => reached(rt, folder, name, given),
+        "impact" => report_impact(rt, folder, name, given),
         "stats" => stats(rt, folder, given.get_str("copies")),
         _ => list(rt, folder, given.get_flag("json")),
     }
 }
 
 /// Prints what a change reaches.
-fn reached(rt: &HostRuntime, folder: &str, name: &str, given: &ArgMatches<'_>) -> Result<(), End> {
+fn report_impact(rt: &HostRuntime, folder: &str, name: &str, given: &ArgMatches<'_>) -> Result<(), End> {
     let is_all = given.get_str("QUERY") == Some("all");
     let addresses = given.get_strs("ADDRESS").unwrap_or(&[]);
     let form = if given.get_flag("answer-only") {

@@ -4,8 +4,8 @@ use crate::command::Serving;
 use crate::listening::listen;
 use std::fs;
 use tfs_files::{
-    End, Fault, FolderLock, Made, Place, PositionFile, Start, least_position, lock_folder, raised,
-    refuse_small_stack, started,
+    End, Fault, FolderLock, Made, Place, PositionFile, Start, least_position, lock_folder, raise_least,
+    refuse_small_stack, start_journal,
 };
 use tfs_serve::AnyListener;
 
@@ -31,7 +31,7 @@ pub(crate) fn start<'f>(rt: &HostRuntime, asked: &Serving<'f>) -> Result<Ready<'
     }
     let lock = lock_folder(rt, asked.start.folder)?;
     let listener = listen(rt, asked.listen)?;
-    let (least, made) = begun(rt, asked, begins)?;
+    let (least, made) = begin(rt, asked, begins)?;
     Ok(Ready {
         lock,
         listener,
@@ -42,22 +42,22 @@ pub(crate) fn start<'f>(rt: &HostRuntime, asked: &Serving<'f>) -> Result<Ready<'
 
 /// Returns the file of the least position, raised to the table's position, and the folder's next
 /// journal.
-fn begun<'f>(
+fn begin<'f>(
     rt: &HostRuntime,
     asked: &Serving<'f>,
     begins: bool,
 ) -> Result<(Option<PositionFile>, Made<'f>), End> {
     let least = PositionFile::named(rt, asked.least_file, begins)?;
-    let made = started_from(rt, asked, least_position(asked.start.least, &least))?;
-    let least = raised(rt, least, made.table.position())?;
+    let made = start_from(rt, asked, least_position(asked.start.least, &least))?;
+    let least = raise_least(rt, least, made.table.position())?;
     Ok((least, made))
 }
 
 /// Makes the folder's next journal, which starts at this position or a higher one.
-fn started_from<'f>(rt: &HostRuntime, asked: &Serving<'f>, least: u64) -> Result<Made<'f>, End> {
+fn start_from<'f>(rt: &HostRuntime, asked: &Serving<'f>, least: u64) -> Result<Made<'f>, End> {
     let start = Start {
         least,
         ..asked.start
     };
-    started(rt, &start)
+    start_journal(rt, &start)
 }

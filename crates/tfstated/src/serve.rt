@@ -56,7 +56,7 @@ fn table_of<R: AllocGlobal + Files<File = File> + Eprint>(
         Ok(sink) => sink,
         Err(error) => return Err(end_without_file(rt, Fault::CannotCreate, &error)),
     };
-    match opened(rt, old, sink) {
+    match open_table(rt, old, sink) {
         Ok(table) => Ok(table),
         Err(fault) => Err(end_with(rt, RunFault::Opening(fault))),
     }
@@ -77,7 +77,7 @@ fn old_journal<R: AllocGlobal + Files<File = File> + Eprint>(
 }
 
 /// Returns the table that continues the old journal over a sink, or a new table.
-fn opened(
+fn open_table(
     rt: &impl AllocGlobal,
     old: Option<Vec<u8>>,
     sink: FileSink,

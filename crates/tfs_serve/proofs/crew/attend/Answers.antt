@@ -11,16 +11,16 @@ returns-in-Ok g c =
     let told = g.G.Gate.told in
     let opening = g.J.Naming.opening in
     let last = c.in-Ok.table.journal in
-    let sessions = c.parted-sessions.ensures.sessions in
+    let sessions = c.split_members-sessions.ensures.sessions in
     let begun = subst (λ (l : List SessionView). All (λ (s : SessionView). BeginsWith last s.journal) l) sessions c.in-Ok.ensures.seen in
     let signed = subst (λ (l : List SessionView). AreSigned opening last l) sessions c.in-Ok.ensures.signed in
     let grows = c.in-Ok.ensures.counted
     ∙ ap (λ (l : List SessionView). length opening.entries + sum_by (λ (s : SessionView). s.accepted) l) sessions in
     record {
-      run = run_of (λ m. m.gate) told (λ m. m.session) (λ m. m.fault) _ _ opening last c.args.crew.gates.items c.filled-members.result.items
-          c.worked-members.result.items c.parted-sessions.result.1.items (λ m. refl) c.filled-members.ensures.gates
-          c.parted-sessions.ensures.served c.requires.some c.in-Ok.ensures.lawful c.in-Ok.ensures.opening
-          c.filled-members.ensures.sessions c.worked-members.ensures.caused c.worked-members.ensures.worked c.worked-members.ensures.len begun signed
+      run = run_of (λ m. m.gate) told (λ m. m.session) (λ m. m.fault) _ _ opening last c.args.crew.gates.items c.make_members-members.result.items
+          c.run_members-members.result.items c.split_members-sessions.result.1.items (λ m. refl) c.make_members-members.ensures.gates
+          c.split_members-sessions.ensures.served c.requires.some c.in-Ok.ensures.lawful c.in-Ok.ensures.opening
+          c.make_members-members.ensures.sessions c.run_members-members.ensures.caused c.run_members-members.ensures.worked c.run_members-members.ensures.len begun signed
           grows;
       kept = tt;
     }

@@ -1,6 +1,6 @@
 -- The share so far has the parts and the amounts of the sessions so far.
 use Rattle.std.proofs.Common.{◌≡◌, ◌+◌, ◌≤◌, length, sum_by}
-use Rattle.tfs_shared.proofs.merge.merged.Given as goal
+use Rattle.tfs_shared.proofs.merge.merge_shares.Given as goal
 
 abbrev pub invariant-loop-session : goal.invariant-loop-session
 invariant-loop-session g l = record {

@@ -3,7 +3,7 @@ use Rattle.std.proofs.Common.{◌++◌, ◌∷◌, [], length, map, is_ok, arith
 use Rattle.std.specs.Option.{option_to_list}
 use Rattle.std.proofs.lemmas.List.{length-map, map-append, length_push}
 use Rattle.tfs_serve.proofs.Returning.{HaveNumbers, numbers_more, pushed, without_last}
-use Rattle.tfs_serve.proofs.crew.filled.Goals as goal
+use Rattle.tfs_serve.proofs.crew.make_members.Goals as goal
 
 pub loop-gate-preserved : goal.loop-gate-preserved
 loop-gate-preserved g c =

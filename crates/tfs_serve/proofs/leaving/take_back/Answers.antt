@@ -1,6 +1,6 @@
 -- New sessions keep nobody from gathering, and the table is as it was.
 use Rattle.tfs_serve.proofs.Returning as returning
-use Rattle.tfs_serve.proofs.leaving.taken_back.Goals as goal
+use Rattle.tfs_serve.proofs.leaving.take_back.Goals as goal
 
 pub unreachable-requires : goal.unreachable-requires
 unreachable-requires g c =

@@ -1,7 +1,7 @@
 -- The sessions of the members so far, and what became of these.
 use Rattle.std.proofs.Common.{◌≡◌, ◌≤◌, is_some, length, map, vec_capacity}
 use Rattle.tfs_records.specs.Journal.{position_of}
-use Rattle.tfs_serve.proofs.leaving.parted.Given as goal
+use Rattle.tfs_serve.proofs.leaving.split_members.Given as goal
 
 abbrev pub invariant-loop-member : goal.invariant-loop-member
 invariant-loop-member g l = record {

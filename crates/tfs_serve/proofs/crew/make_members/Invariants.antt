@@ -2,7 +2,7 @@
 use Rattle.std.proofs.Common.{◌≡◌, ◌+◌, ◌≤◌, length, map, vec_capacity}
 use Rattle.tfs_shared.specs.View.{AreNew}
 use Rattle.tfs_serve.proofs.Returning.{HaveNumbers}
-use Rattle.tfs_serve.proofs.crew.filled.Given as goal
+use Rattle.tfs_serve.proofs.crew.make_members.Given as goal
 
 abbrev pub invariant-loop-gate : goal.invariant-loop-gate
 invariant-loop-gate g l = record {
