@@ -66,7 +66,7 @@ def test_copies_are_read_before_they_are_kept(files, kept):
 
 @pytest.mark.parametrize("files, fault", [
     ({"n2": NEWEST[:-1] + b"x"}, "Damaged"), ({"n2": NEWEST + PUSH1}, "Unlawful"), ({}, "NoJournal"), ({"n2": b""}, "TornBase"),
-    ({"n1": NEWEST, "n2": SHORT}, "Parted")])
+    ({"n1": NEWEST, "n2": SHORT}, "Diverged")])
 def test_copies_that_a_start_would_refuse_are_not_kept(files, fault):
     refused(fresh(**files), fresh(), fault)
 

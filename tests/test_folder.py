@@ -220,7 +220,7 @@ def test_a_journal_that_cant_be_read_stops_the_start(files, make):
 def test_histories_that_parted_stop_the_start(files, about):
     """A continued number 3 when B had already continued from it, or another history has the later
     number."""
-    errors = refused(fresh(**files), "Parted", about)
+    errors = refused(fresh(**files), "Diverged", about)
     expect(named(4) in errors, True, errors)
 
 
@@ -235,7 +235,7 @@ def test_changes_of_two_servers_from_one_journal_stop_the_start():
     first.kill()
     second.kill()
     shutil.copy(other / f"{named(4)}.tfj", folder)
-    refused(folder, "Parted", "A's change isn't B's")
+    refused(folder, "Diverged", "A's change isn't B's")
 
 
 def start_over_a_cut_base(count):
@@ -313,7 +313,7 @@ def test_random_folders_are_served_as_the_model_says():
         met.update(at_once(expect_as_the_model, folders))
 
     are_served()
-    expect(met, {"NoJournal", "Damaged", "Unlawful", "TornBase", "Parted", "TooFar", "left", "replaced", "served"}, "each end is met")
+    expect(met, {"NoJournal", "Damaged", "Unlawful", "TornBase", "Diverged", "TooFar", "left", "replaced", "served"}, "each end is met")
 
 
 def test_check_tells_of_each_journal():
@@ -323,7 +323,7 @@ def test_check_tells_of_each_journal():
     before = all_of(folder)
     expect(run("check", folder), (0, wanted, ""))
     status, output, errors = run("check", fresh(n3=NEWEST, n4=SHORT))
-    expect((status, output.count("\n"), "Parted" in errors, named(4) in errors), (STATUSES["Parted"], 2, True, True), errors)
+    expect((status, output.count("\n"), "Diverged" in errors, named(4) in errors), (STATUSES["Diverged"], 2, True, True), errors)
     expect(all_of(folder), before)
     none, file = fresh() / "none", fresh() / "file"
     file.write_bytes(NEWEST)

@@ -139,8 +139,8 @@ FILES = {"n2": SHORT, "n3": NEWEST, "n4": SHORT}
 
 @pytest.mark.parametrize("name", [f"{named(3)}.tfj", f"./{named(3)}.tfj", f"/elsewhere/{named(3)}.tfj"])
 def test_what_is_passed_over_is_named(name):
-    refused(fresh(**FILES), "Parted")
-    refused(fresh(**FILES, n5=base_of(2, b"", S1)), "Parted", "--accept-past", name)
+    refused(fresh(**FILES), "Diverged")
+    refused(fresh(**FILES, n5=base_of(2, b"", S1)), "Diverged", "--accept-past", name)
     for folder in (fresh(n3=NEWEST, n4=SHORT), fresh(**FILES)):
         expect(passed_over(folder, name)[0], (200, S1))
 

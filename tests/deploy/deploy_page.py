@@ -293,7 +293,7 @@ def check_histories_of_two_servers_are_told_apart():
     listen = f"--listen {LOOPBACK}:{free_port()}"
     both = fresh(n1=SHORT + PUSH3, n2=REBASED)
     told = run(f"tfstatectl serve {both} {listen} || [ $? = 25 ]")
-    expect("Parted" in told, True, told)
+    expect("Diverged" in told, True, told)
     for folder in (fresh(n1=SHORT + PUSH3), fresh(n2=REBASED)):
         text = run(command("tfstatectl check FOLDER", FOLDER=folder))
         expect("a start continues" in text, True, text)

@@ -233,7 +233,7 @@ def check_two_servers_at_once_give_one_lock_twice_and_their_histories_stay_apart
     for path in standby.copies.glob("*.tfj"):
         shutil.copy(path, folder / path.name.replace(path.stem[-2:], f"{int(path.stem[-2:]) + 5:02}"))
     status, fault = FIRST.refused(folder)
-    expect((status, fault), (25, "Parted"), "one folder with both is refused")
+    expect((status, fault), (25, "Diverged"), "one folder with both is refused")
 
 
 def check_a_host_that_comes_back_is_refused_by_the_position_of_the_other():

@@ -53,7 +53,7 @@ def chosen(files, least=0):
         if not after[1].startswith(text):
             if after != own or not text.startswith(after[1]):
                 opened(*after)
-                raise Fault("Parted", after[0])
+                raise Fault("Diverged", after[0])
             own, left = before, after[0]
             break
     if opened(*own)[0] < least:

@@ -14,7 +14,7 @@ from programs import TFSTATECTL as FOLDER_PROGRAM
 STATUSES = {
     **dict.fromkeys(("Locked", "CannotRead", "CannotWrite", "CannotBind", "SyncFault", "AcceptFault", "Write", "Changing"), 20),
     **dict.fromkeys(("Arguments", "NotPast"), 21), "TornBase": 22, "Damaged": 23, "Unlawful": 24,
-    **dict.fromkeys(("NoJournal", "NotFirst", "Parted", "TooFar", "TwoOfName", "NotBeginning", "Served"), 25),
+    **dict.fromkeys(("NoJournal", "NotFirst", "Diverged", "TooFar", "TwoOfName", "NotBeginning", "Served"), 25),
     **dict.fromkeys(("Replaced", "OldAhead", "OtherIdentity", "BadIdentity"), 25), **dict.fromkeys(("NotAtLeast", "NoPosition"), 26),
     **dict.fromkeys(("NoFolder", "NotFolder", "NotAllowed"), 27), **dict.fromkeys(("OutOfMemory", "SmallStack"), 28), "JournalFault": 29,
     "NoName": 30, "NoState": 31, **dict.fromkeys(("BeforeOldest", "BehindNewest", "NotKept"), 32), "LineageDiffers": 33,

@@ -7,7 +7,7 @@ use thiserror::Error;
 /// Why a command ended before its work was done. Its text is the name in docs/PROTOCOL.md (The
 /// program).
 #[derive(Clone, Copy, Debug, PartialEq, Eq, Error)]
-pub enum Fault {
+pub enum ProgramFault {
     /// Memory was refused.
     #[error("NoMemory")]
     NoMemory,
@@ -52,28 +52,28 @@ pub enum Fault {
     AcceptFault,
 }
 
-impl From<ServeFault> for Fault {
-    fn from(fault: ServeFault) -> Fault {
+impl From<ServeFault> for ProgramFault {
+    fn from(fault: ServeFault) -> ProgramFault {
         match fault {
-            ServeFault::Read => Fault::Read,
-            ServeFault::Write => Fault::Write,
-            ServeFault::TooManyReads => Fault::TooManyReads,
-            ServeFault::NoMemory => Fault::NoMemory,
+            ServeFault::Read => ProgramFault::Read,
+            ServeFault::Write => ProgramFault::Write,
+            ServeFault::TooManyReads => ProgramFault::TooManyReads,
+            ServeFault::NoMemory => ProgramFault::NoMemory,
         }
     }
 }
 
-impl From<RunFault> for Fault {
-    fn from(fault: RunFault) -> Fault {
+impl From<RunFault> for ProgramFault {
+    fn from(fault: RunFault) -> ProgramFault {
         match fault {
-            RunFault::Write => Fault::Write,
-            RunFault::NoMemory => Fault::NoMemory,
-            RunFault::Opening(OpenFault::Damaged(_)) => Fault::Damaged,
-            RunFault::Opening(OpenFault::Unlawful(_)) => Fault::Unlawful,
-            RunFault::Opening(OpenFault::SinkFault) => Fault::SinkFault,
-            RunFault::Opening(OpenFault::NoMemory) => Fault::NoMemory,
-            RunFault::Opening(OpenFault::TornBase) => Fault::TornBase,
-            RunFault::Opening(OpenFault::TooFar) => Fault::TooFar,
+            RunFault::Write => ProgramFault::Write,
+            RunFault::NoMemory => ProgramFault::NoMemory,
+            RunFault::Opening(OpenFault::Damaged(_)) => ProgramFault::Damaged,
+            RunFault::Opening(OpenFault::Unlawful(_)) => ProgramFault::Unlawful,
+            RunFault::Opening(OpenFault::SinkFault) => ProgramFault::SinkFault,
+            RunFault::Opening(OpenFault::NoMemory) => ProgramFault::NoMemory,
+            RunFault::Opening(OpenFault::TornBase) => ProgramFault::TornBase,
+            RunFault::Opening(OpenFault::TooFar) => ProgramFault::TooFar,
         }
     }
 }

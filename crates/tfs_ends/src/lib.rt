@@ -5,5 +5,5 @@
 mod fault;
 mod status;
 
-pub use fault::Fault;
+pub use fault::ProgramFault;
 pub use status::{fault_status, status_of};

@@ -3,8 +3,8 @@ use Rattle.std.specs.Prelude.{◌≡◌, ◌<◌, ◌≤◌, ◌⊎◌, ℕ, Lis
 use Rattle.tfs_files.specs.FolderFacts.{remove_part, sync_names, HasFailed, IsNamed, IsDurable, IsRemoved}
 use Rattle.tfs_files.specs.Naming.{IsUnnamedCopy}
 use Rattle.tfs_files.specs.declared.naming.DurableJournal.{DurableJournal}
-use Rattle.tfs_files.specs.declared.fault.End.{End}
-use Rattle.tfs_files.specs.declared.fault.Place.TheVariants.{Journal}
+use Rattle.tfs_files.specs.declared.fault.CommandEnd.{CommandEnd}
+use Rattle.tfs_files.specs.declared.fault.FaultPlace.TheVariants.{Journal}
 
 -- The outcome for a part file: it is named durably if its number is at most the newest one, and
 -- removed otherwise.
@@ -29,7 +29,7 @@ FailsToName folder newest number = ((number ≤ newest) × (IsUnnamedCopy folder
     ⊎ ((newest < number) × HasFailed folder (remove_part number))
 
 -- One of the part files couldn't be named, or removed. Those before it have their outcome.
-pub record StopsNaming (folder parts : List ℕ) (newest : ℕ) (end : End) : Type 0 where
+pub record StopsNaming (folder parts : List ℕ) (newest : ℕ) (end : CommandEnd) : Type 0 where
   pub count : ℕ
   pub among : count < length parts
   pub before : AreNamed folder parts newest count

@@ -3,8 +3,8 @@ use Rattle.std.specs.Prelude.{◌≡◌, ◌<◌, ◌⊎◌, ℕ, List, length, 
 use Rattle.tfs_files.specs.FolderFacts.{sync_part, mark_part, look_for, name_part, name_copy, sync_names, retire, HasFailed, Had, IsNamed, IsRetired}
 use Rattle.tfs_files.specs.declared.naming.NamingFault.{NamingFault}
 use Rattle.tfs_files.specs.declared.naming.NamingFault.TheVariants.{Unnamed, Unsynced}
-use Rattle.tfs_files.specs.declared.fault.End.{End}
-use Rattle.tfs_files.specs.declared.fault.Place.TheVariants.{Journal}
+use Rattle.tfs_files.specs.declared.fault.CommandEnd.{CommandEnd}
+use Rattle.tfs_files.specs.declared.fault.FaultPlace.TheVariants.{Journal}
 
 -- Why a part file wasn't renamed to a journal: its sync, its mark or the renaming failed.
 abbrev pub IsUnnamed : List ℕ → ℕ → ℕ → Type 0
@@ -32,7 +32,7 @@ AreRetired folder numbers next count =
 
 -- The journal of one of the numbers couldn't be retired, although it is before `next`. Those earlier
 -- in the list are retired.
-pub record StopsRetiring (folder numbers : List ℕ) (next : ℕ) (end : End) : Type 0 where
+pub record StopsRetiring (folder numbers : List ℕ) (next : ℕ) (end : CommandEnd) : Type 0 where
   pub count : ℕ
   pub among : count < length numbers
   pub older : slice_index_or numbers count 0 < next

@@ -1,11 +1,11 @@
 -- The exit statuses of the commands.
 use Rattle.std.specs.Prelude.{ℕ}
-use Rattle.tfs_files.specs.declared.fault.Fault.{Fault}
-use Rattle.tfs_files.specs.declared.fault.Fault.TheVariants as fault
+use Rattle.tfs_files.specs.declared.fault.CommandFault.{CommandFault}
+use Rattle.tfs_files.specs.declared.fault.CommandFault.TheVariants as fault
 
 -- The exit status of a fault: 20 or 29 if a retry may help, 21 for invalid arguments, and 22 to 28
 -- if a person must look. systemd and shells give lower and higher numbers meanings of their own.
-abbrev pub status_of : Fault → ℕ
+abbrev pub status_of : CommandFault → ℕ
 status_of fault.Locked = 20
 status_of fault.CannotRead = 20
 status_of fault.CannotWrite = 20
@@ -23,7 +23,7 @@ status_of (fault.Damaged at) = 23
 status_of (fault.Unlawful number) = 24
 status_of fault.NoJournal = 25
 status_of fault.NotFirst = 25
-status_of fault.Parted = 25
+status_of fault.Diverged = 25
 status_of fault.TooFar = 25
 status_of fault.TwoOfName = 25
 status_of fault.NotBeginning = 25

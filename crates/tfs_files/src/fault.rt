@@ -10,7 +10,7 @@ use thiserror::Error;
 
 /// The reason why a command ended before its work was done.
 #[derive(Clone, Copy, Debug, PartialEq, Eq, Error)]
-pub enum Fault {
+pub enum CommandFault {
     #[error("invalid arguments: tfstatectl --help lists them")]
     Arguments,
     #[error("OutOfMemory: a request for memory was refused. Raise the memory limit")]
@@ -39,8 +39,8 @@ pub enum Fault {
     Unlawful(u64),
     #[error("TornBase: it ends inside its header or base, and not because a start failed. Restore it from a copy")]
     TornBase,
-    #[error("Parted: it does not continue the journal before it. Move away the one that should not count")]
-    Parted,
+    #[error("Diverged: it does not continue the journal before it. Move away the one that should not count")]
+    Diverged,
     #[error("TooFar: its position or number is too high to continue. Push its states to a new folder")]
     TooFar,
     #[error("NotAtLeast: its position is {0}, below the required {1}. Mount or restore the folder with the later changes")]
@@ -84,57 +84,57 @@ Stop what moved it, find the journal with the highest position, and start again"
 }
 
 /// Returns the exit status of a fault.
-pub fn status_of(fault: Fault) -> u8
+pub fn status_of(fault: CommandFault) -> u8
     ensures status { result ≡ status_of fault }
 {
     match fault {
-        Fault::Locked
-        | Fault::CannotRead
-        | Fault::CannotWrite
-        | Fault::Write
-        | Fault::NoPlace
-        | Fault::CannotBind
-        | Fault::SyncFault
-        | Fault::AcceptFault => 20,
-        Fault::Arguments | Fault::NotPast | Fault::NotSocket | Fault::SocketPath => 21,
-        Fault::TornBase => 22,
-        Fault::Damaged(_) => 23,
-        Fault::Unlawful(_) => 24,
-        Fault::NoJournal
-        | Fault::NotFirst
-        | Fault::Parted
-        | Fault::TooFar
-        | Fault::TwoOfName
-        | Fault::NotBeginning
-        | Fault::Served
-        | Fault::Replaced
-        | Fault::OldAhead
-        | Fault::OtherIdentity
-        | Fault::BadIdentity => 25,
-        Fault::NotAtLeast(_, _) | Fault::NoPosition => 26,
-        Fault::NoFolder | Fault::NotFolder | Fault::NotAllowed => 27,
-        Fault::OutOfMemory | Fault::SmallStack(_) => 28,
-        Fault::JournalFault => 29,
+        CommandFault::Locked
+        | CommandFault::CannotRead
+        | CommandFault::CannotWrite
+        | CommandFault::Write
+        | CommandFault::NoPlace
+        | CommandFault::CannotBind
+        | CommandFault::SyncFault
+        | CommandFault::AcceptFault => 20,
+        CommandFault::Arguments | CommandFault::NotPast | CommandFault::NotSocket | CommandFault::SocketPath => 21,
+        CommandFault::TornBase => 22,
+        CommandFault::Damaged(_) => 23,
+        CommandFault::Unlawful(_) => 24,
+        CommandFault::NoJournal
+        | CommandFault::NotFirst
+        | CommandFault::Diverged
+        | CommandFault::TooFar
+        | CommandFault::TwoOfName
+        | CommandFault::NotBeginning
+        | CommandFault::Served
+        | CommandFault::Replaced
+        | CommandFault::OldAhead
+        | CommandFault::OtherIdentity
+        | CommandFault::BadIdentity => 25,
+        CommandFault::NotAtLeast(_, _) | CommandFault::NoPosition => 26,
+        CommandFault::NoFolder | CommandFault::NotFolder | CommandFault::NotAllowed => 27,
+        CommandFault::OutOfMemory | CommandFault::SmallStack(_) => 28,
+        CommandFault::JournalFault => 29,
     }
 }
 
 /// Returns the fault if no journal was chosen with at least this position.
-fn fault_of(why: tfs_folder::Fault, least: u64) -> Fault {
+fn fault_of(why: tfs_folder::ChoiceFault, least: u64) -> CommandFault {
     match why {
-        tfs_folder::Fault::NoJournal => Fault::NoJournal,
-        tfs_folder::Fault::Damaged(at) => Fault::Damaged(at),
-        tfs_folder::Fault::Unlawful(number) => Fault::Unlawful(number),
-        tfs_folder::Fault::TornBase => Fault::TornBase,
-        tfs_folder::Fault::Parted => Fault::Parted,
-        tfs_folder::Fault::TooFar => Fault::TooFar,
-        tfs_folder::Fault::NotAtLeast(position) => Fault::NotAtLeast(position, least),
-        tfs_folder::Fault::OutOfMemory => Fault::OutOfMemory,
+        tfs_folder::ChoiceFault::NoJournal => CommandFault::NoJournal,
+        tfs_folder::ChoiceFault::Damaged(at) => CommandFault::Damaged(at),
+        tfs_folder::ChoiceFault::Unlawful(number) => CommandFault::Unlawful(number),
+        tfs_folder::ChoiceFault::TornBase => CommandFault::TornBase,
+        tfs_folder::ChoiceFault::Diverged => CommandFault::Diverged,
+        tfs_folder::ChoiceFault::TooFar => CommandFault::TooFar,
+        tfs_folder::ChoiceFault::NotAtLeast(position) => CommandFault::NotAtLeast(position, least),
+        tfs_folder::ChoiceFault::OutOfMemory => CommandFault::OutOfMemory,
     }
 }
 
 /// The subject of a fault.
 #[derive(Clone, Copy, Debug, PartialEq, Eq)]
-pub enum Place {
+pub enum FaultPlace {
     /// The command itself.
     Command,
     /// The folder.
@@ -161,83 +161,83 @@ pub enum Place {
 
 /// The end of a command: a fault and its subject.
 #[derive(Clone, Copy, Debug, PartialEq, Eq)]
-pub struct End {
-    place: Place,
-    fault: Fault,
+pub struct CommandEnd {
+    place: FaultPlace,
+    fault: CommandFault,
 }
 
-impl End {
+impl CommandEnd {
     /// Creates the end by a fault with this subject.
-    pub fn at(place: Place, fault: Fault) -> End
+    pub fn at(place: FaultPlace, fault: CommandFault) -> CommandEnd
         ensures value { result ≡ record { place = place; fault = fault } }
     {
-        End { place, fault }
+        CommandEnd { place, fault }
     }
 
     /// Returns the subject of the fault.
-    pub fn place(&self) -> Place {
+    pub fn place(&self) -> FaultPlace {
         self.place
     }
 
     /// Creates the end if no journal was chosen with at least this position.
-    pub fn choice_failed(unchosen: Unchosen, least: u64) -> End {
+    pub fn choice_failed(unchosen: Unchosen, least: u64) -> CommandEnd {
         let place = match unchosen.number {
-            Some(number) => Place::Journal(number),
-            None => Place::Folder,
+            Some(number) => FaultPlace::Journal(number),
+            None => FaultPlace::Folder,
         };
-        End::at(place, fault_of(unchosen.why, least))
+        CommandEnd::at(place, fault_of(unchosen.why, least))
     }
 
     /// Returns the same end, with the file from which a new folder starts as its subject.
-    pub fn of_first(self) -> End {
-        End::at(Place::First, self.fault)
+    pub fn of_first(self) -> CommandEnd {
+        CommandEnd::at(FaultPlace::First, self.fault)
     }
 
     /// Returns the same end, with the file `identity` of the copied folder as its subject.
-    pub fn of_original(self) -> End {
-        End::at(Place::OriginalIdentity, self.fault)
+    pub fn of_original(self) -> CommandEnd {
+        CommandEnd::at(FaultPlace::OriginalIdentity, self.fault)
     }
 
     /// Creates the end after a failed operation on a file. The fault is `OutOfMemory` or
     /// `NotAllowed` if the system's error says so, `NoFolder` or `NotFolder` if it says so of the
     /// folder, and otherwise `fault`.
-    pub fn by_system(place: Place, fault: Fault, error: &io::Error) -> End
+    pub fn by_system(place: FaultPlace, fault: CommandFault, error: &io::Error) -> CommandEnd
         ensures at { result.place ≡ place }
     {
         let fault = match error.kind() {
-            io::ErrorKind::OutOfMemory => Fault::OutOfMemory,
-            io::ErrorKind::PermissionDenied => Fault::NotAllowed,
+            io::ErrorKind::OutOfMemory => CommandFault::OutOfMemory,
+            io::ErrorKind::PermissionDenied => CommandFault::NotAllowed,
             io::ErrorKind::NotFound => match place {
-                Place::Folder => Fault::NoFolder,
+                FaultPlace::Folder => CommandFault::NoFolder,
                 _ => fault,
             },
             io::ErrorKind::NotADirectory => match place {
-                Place::Folder => Fault::NotFolder,
+                FaultPlace::Folder => CommandFault::NotFolder,
                 _ => fault,
             },
             _ => fault,
         };
-        End { place, fault }
+        CommandEnd { place, fault }
     }
 }
 
 /// Ends a command. Prints the fault on standard error after the name of its subject: the folder, or
 /// the value of another argument. If standard error can't be written, nothing is reported.
-pub fn end_by(rt: &impl Eprint, name: &str, end: End) -> ExitCode {
+pub fn end_by(rt: &impl Eprint, name: &str, end: CommandEnd) -> ExitCode {
     let fault = end.fault;
     let _ = match end.place {
-        Place::Command => eprintln!(rt; "tfstatectl: {fault}"),
-        Place::Folder | Place::First | Place::Past | Place::Position | Place::Address => {
+        FaultPlace::Command => eprintln!(rt; "tfstatectl: {fault}"),
+        FaultPlace::Folder | FaultPlace::First | FaultPlace::Past | FaultPlace::Position | FaultPlace::Address => {
             eprintln!(rt; "tfstatectl: {name}: {fault}")
         }
-        Place::Old => eprintln!(rt; "tfstatectl: {name}/old: {fault}"),
-        Place::Identity | Place::OriginalIdentity => eprintln!(rt;
+        FaultPlace::Old => eprintln!(rt; "tfstatectl: {name}/old: {fault}"),
+        FaultPlace::Identity | FaultPlace::OriginalIdentity => eprintln!(rt;
             "tfstatectl: {name}/identity: {fault}"
         ),
-        Place::OldJournal(number) => eprintln!(rt;
+        FaultPlace::OldJournal(number) => eprintln!(rt;
             "tfstatectl: {name}/old/journal-{number:010}.tfj: {fault}"
         ),
-        Place::Journal(number) => eprintln!(rt;
+        FaultPlace::Journal(number) => eprintln!(rt;
             "tfstatectl: {name}/journal-{number:010}.tfj: {fault}"
         ),
     };

@@ -1,6 +1,6 @@
 //! The first journal of a new folder.
 
-use crate::fault::End;
+use crate::fault::CommandEnd;
 use crate::folder::numbers_of;
 use crate::next::{Next, make, mark_served};
 use crate::start::{choose_first, refuse_second};
@@ -10,7 +10,7 @@ pub const FIRST_NUMBER: u64 = 1;
 
 /// Makes the first journal, which is empty, in a locked folder that never had one. The journal is
 /// durable on return.
-pub fn make_first(rt: &HostRuntime, folder: &str) -> Result<(), End> {
+pub fn make_first(rt: &HostRuntime, folder: &str) -> Result<(), CommandEnd> {
     let numbers = numbers_of(rt, folder)?;
     refuse_second(rt, folder, &numbers)?;
     let first = Next {

@@ -1,7 +1,7 @@
 //! The lock of a folder, and checks that the files that a server or a copy has opened are still in
 //! place.
 
-use crate::fault::{End, Fault, Place};
+use crate::fault::{CommandEnd, CommandFault, FaultPlace};
 use crate::folder::journal_path;
 use crate::next::part_path;
 use std::fs::{self, File, Metadata, OpenOptions, TryLockError};
@@ -68,12 +68,12 @@ pub struct FolderLock {
 impl FolderLock {
     /// Locks a folder. The folder itself is locked first, so that no file is created in a folder
     /// that is already locked.
-    fn take(rt: &HostRuntime, folder: &str) -> Result<FolderLock, End> {
-        let directory = lock_opened(File::open(rt, folder), Place::Folder)?;
-        let file = lock_opened(lock_file(rt, folder), Place::Folder)?;
+    fn take(rt: &HostRuntime, folder: &str) -> Result<FolderLock, CommandEnd> {
+        let directory = lock_opened(File::open(rt, folder), FaultPlace::Folder)?;
+        let file = lock_opened(lock_file(rt, folder), FaultPlace::Folder)?;
         match FolderLock::of(rt, folder, directory, file) {
             Ok(lock) => Ok(lock),
-            Err(error) => Err(End::by_system(Place::Folder, Fault::CannotRead, &error)),
+            Err(error) => Err(CommandEnd::by_system(FaultPlace::Folder, CommandFault::CannotRead, &error)),
         }
     }
 
@@ -131,30 +131,30 @@ impl ServedJournal {
 }
 
 /// Locks a folder for a start and for the journals that it makes, until the lock is dropped.
-pub fn lock_folder(rt: &HostRuntime, folder: &str) -> Result<FolderLock, End> {
+pub fn lock_folder(rt: &HostRuntime, folder: &str) -> Result<FolderLock, CommandEnd> {
     FolderLock::take(rt, folder)
 }
 
 /// Locks the folder's journal with this number, from which a start continues, so that no other
 /// server writes it.
-pub fn lock_journal(rt: &HostRuntime, folder: &str, number: u64) -> Result<File, End> {
-    let place = Place::Journal(number);
+pub fn lock_journal(rt: &HostRuntime, folder: &str, number: u64) -> Result<File, CommandEnd> {
+    let place = FaultPlace::Journal(number);
     match journal_path(rt, folder, number) {
         Ok(path) => lock_opened(File::open(rt, path.as_str()), place),
-        Err(_) => Err(End::at(place, Fault::OutOfMemory)),
+        Err(_) => Err(CommandEnd::at(place, CommandFault::OutOfMemory)),
     }
 }
 
 /// Locks an opened file. Never waits for the lock.
-fn lock_opened(opened: io::Result<File>, place: Place) -> Result<File, End> {
+fn lock_opened(opened: io::Result<File>, place: FaultPlace) -> Result<File, CommandEnd> {
     let file = match opened {
         Ok(file) => file,
-        Err(error) => return Err(End::by_system(place, Fault::CannotWrite, &error)),
+        Err(error) => return Err(CommandEnd::by_system(place, CommandFault::CannotWrite, &error)),
     };
     match file.try_lock() {
         Ok(()) => Ok(file),
-        Err(TryLockError::WouldBlock) => Err(End::at(place, Fault::Locked)),
-        Err(TryLockError::Error(error)) => Err(End::by_system(place, Fault::CannotWrite, &error)),
+        Err(TryLockError::WouldBlock) => Err(CommandEnd::at(place, CommandFault::Locked)),
+        Err(TryLockError::Error(error)) => Err(CommandEnd::by_system(place, CommandFault::CannotWrite, &error)),
     }
 }
 

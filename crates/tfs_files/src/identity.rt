@@ -1,6 +1,6 @@
 //! The identity of a folder: a random value, and marks of its journals.
 
-use crate::fault::{End, Fault, Place};
+use crate::fault::{CommandEnd, CommandFault, FaultPlace};
 use crate::folder::sync_names;
 use crate::marks::{Mark, mark_line, mark_of};
 use std::alloc::{AllocError, Global};
@@ -125,12 +125,12 @@ fn identity_path(rt: &HostRuntime, folder: &str) -> Result<String, AllocError> {
 }
 
 /// Reads the identity of a folder, if it has one.
-pub(crate) fn read_identity(rt: &HostRuntime, folder: &str) -> Result<Option<Identity>, End> {
+pub(crate) fn read_identity(rt: &HostRuntime, folder: &str) -> Result<Option<Identity>, CommandEnd> {
     match load_identity(rt, folder) {
         Ok(identity) => Ok(identity),
         Err(error) => match error.kind() {
-            io::ErrorKind::InvalidData => Err(End::at(Place::Identity, Fault::BadIdentity)),
-            _ => Err(End::by_system(Place::Identity, Fault::CannotRead, &error)),
+            io::ErrorKind::InvalidData => Err(CommandEnd::at(FaultPlace::Identity, CommandFault::BadIdentity)),
+            _ => Err(CommandEnd::by_system(FaultPlace::Identity, CommandFault::CannotRead, &error)),
         },
     }
 }

@@ -22,7 +22,7 @@ mod stack;
 mod start;
 
 pub use copies::{Gap, Originals, below, name_parts, old_file, read_originals, write_parts};
-pub use fault::{End, Fault, Place, end_by, status_of};
+pub use fault::{CommandEnd, CommandFault, FaultPlace, end_by, status_of};
 pub use first::{FIRST_NUMBER, make_first};
 pub use folder::{files_of, journal_path, numbers_here, numbers_in, old_numbers, refuse_served};
 pub use guard::{FolderLock, ServedJournal, lock_folder};

@@ -1,6 +1,6 @@
 //! A folder's own journals: which journals a start refuses, and which ones are marked.
 
-use crate::fault::{End, Fault, Place};
+use crate::fault::{CommandEnd, CommandFault, FaultPlace};
 use crate::folder::{journal_path, numbers_in, old_numbers, old_path};
 use crate::identity::{Identity, load_identity, new_identity, read_identity, write_identity};
 use crate::marks::{MOST_MARKED, first_bytes};
@@ -20,7 +20,7 @@ pub(crate) fn refuse_other(
     asked: &Start<'_>,
     chosen: Option<&File>,
     number: u64,
-) -> Result<(), End> {
+) -> Result<(), CommandEnd> {
     let known = read_identity(rt, asked.folder)?;
     let is_own = match (chosen, &known) {
         (None, Some(_)) => Some(true),
@@ -34,7 +34,7 @@ pub(crate) fn refuse_other(
     match is_own {
         Some(true) => Ok(()),
         None if !has_marks || asked.past.is_some() => complete(rt, asked.folder, chosen, number),
-        _ => Err(End::at(Place::Journal(number), Fault::OtherIdentity)),
+        _ => Err(CommandEnd::at(FaultPlace::Journal(number), CommandFault::OtherIdentity)),
     }
 }
 
@@ -45,14 +45,14 @@ fn is_own(
     folder: &str,
     identity: &Identity,
     number: u64,
-) -> Result<Option<bool>, End> {
+) -> Result<Option<bool>, CommandEnd> {
     match first_of(rt, folder, number).and_then(|first| identity.has(
         rt.alloc(),
         number,
         first.as_slice(),
     )) {
         Ok(is_own) => Ok(is_own),
-        Err(error) => Err(End::by_system(Place::Journal(number), Fault::CannotRead, &error)),
+        Err(error) => Err(CommandEnd::by_system(FaultPlace::Journal(number), CommandFault::CannotRead, &error)),
     }
 }
 
@@ -75,10 +75,10 @@ fn first_of(rt: &HostRuntime, folder: &str, number: u64) -> io::Result<Vec<u8>> 
 
 /// Creates the folder's identity if it has none, and marks the journal with this number in it if
 /// the journal is open.
-fn complete(rt: &HostRuntime, folder: &str, chosen: Option<&File>, number: u64) -> Result<(), End> {
+fn complete(rt: &HostRuntime, folder: &str, chosen: Option<&File>, number: u64) -> Result<(), CommandEnd> {
     match complete_mark(rt, folder, chosen, number) {
         Ok(()) => Ok(()),
-        Err(error) => Err(End::by_system(Place::Identity, Fault::CannotWrite, &error)),
+        Err(error) => Err(CommandEnd::by_system(FaultPlace::Identity, CommandFault::CannotWrite, &error)),
     }
 }
 
@@ -131,14 +131,14 @@ fn newest_of(rt: &HostRuntime, folder: &str) -> io::Result<Vec<u64>> {
 
 /// Refuses to copy a folder into one with another identity. A folder without an identity is never
 /// refused.
-pub fn refuse_other_copies(rt: &HostRuntime, from: &str, to: &str) -> Result<(), End> {
+pub fn refuse_other_copies(rt: &HostRuntime, from: &str, to: &str) -> Result<(), CommandEnd> {
     let original = match read_identity(rt, from) {
         Ok(original) => original,
         Err(end) => return Err(end.of_original()),
     };
     let copy = read_identity(rt, to)?;
     if are_different(original.as_ref(), copy.as_ref()) {
-        return Err(End::at(Place::Identity, Fault::OtherIdentity));
+        return Err(CommandEnd::at(FaultPlace::Identity, CommandFault::OtherIdentity));
     }
     Ok(())
 }
@@ -146,24 +146,24 @@ pub fn refuse_other_copies(rt: &HostRuntime, from: &str, to: &str) -> Result<(),
 /// Refuses to copy the journal with this number if it isn't the copied folder's own according to
 /// its identity. Accepts every journal of a folder without marks, and a journal that was retired so
 /// long ago that its mark or its file is gone.
-pub fn refuse_other_original(rt: &HostRuntime, from: &str, number: u64) -> Result<(), End> {
+pub fn refuse_other_original(rt: &HostRuntime, from: &str, number: u64) -> Result<(), CommandEnd> {
     let Some(identity) = read_identity(rt, from)? else {
         return Ok(());
     };
-    let place = Place::Journal(number);
+    let place = FaultPlace::Journal(number);
     if identity.ends_before(number) {
-        return Err(End::at(place, Fault::OtherIdentity));
+        return Err(CommandEnd::at(place, CommandFault::OtherIdentity));
     }
     match first_in(rt, from, number).and_then(|first| identity.has(
         rt.alloc(),
         number,
         first.as_slice(),
     )) {
-        Ok(Some(false)) => Err(End::at(place, Fault::OtherIdentity)),
+        Ok(Some(false)) => Err(CommandEnd::at(place, CommandFault::OtherIdentity)),
         Ok(_) => Ok(()),
         Err(error) => match error.kind() {
             io::ErrorKind::NotFound => Ok(()),
-            _ => Err(End::by_system(place, Fault::CannotRead, &error)),
+            _ => Err(CommandEnd::by_system(place, CommandFault::CannotRead, &error)),
         },
     }
 }
@@ -179,7 +179,7 @@ fn are_different(one: Option<&Identity>, other: Option<&Identity>) -> bool {
 /// Gives a folder of copies the identity of the copied folder if that has one, unless the folder of
 /// copies has its own. Marks its journals, and the part files with these numbers whose journals it
 /// lacks, before they get their names.
-pub fn mark_copies(rt: &HostRuntime, from: &str, to: &str, parts: &[u64]) -> Result<(), End> {
+pub fn mark_copies(rt: &HostRuntime, from: &str, to: &str, parts: &[u64]) -> Result<(), CommandEnd> {
     let known = match read_identity(rt, to)? {
         Some(identity) => Some(identity),
         None => read_identity(rt, from)?,
@@ -189,7 +189,7 @@ pub fn mark_copies(rt: &HostRuntime, from: &str, to: &str, parts: &[u64]) -> Res
     };
     match copies_marked(rt, to, &known, parts) {
         Ok(()) => Ok(()),
-        Err(error) => Err(End::by_system(Place::Identity, Fault::CannotWrite, &error)),
+        Err(error) => Err(CommandEnd::by_system(FaultPlace::Identity, CommandFault::CannotWrite, &error)),
     }
 }
 

@@ -1,9 +1,9 @@
 //! Limits of thread stacks.
 
 ghost use Rattle.std.specs.Prelude.{◌≡◌, ◌≤◌, ◌<◌, IfSome, IfErr};
-ghost use Rattle.tfs_files.specs.declared.fault.Fault.TheVariants.{SmallStack};
+ghost use Rattle.tfs_files.specs.declared.fault.CommandFault.TheVariants.{SmallStack};
 
-use crate::fault::Fault;
+use crate::fault::CommandFault;
 use libc::types::rlimit;
 use libc::{RLIMIT_STACK, getrlimit};
 
@@ -12,11 +12,11 @@ pub const LEAST_STACK: u64 = 524_288;
 
 /// Refuses a stack limit below the smallest one. The C library gives each thread a stack of the
 /// limit with which the program was started.
-pub fn refuse_small_stack() -> Result<(), Fault>
+pub fn refuse_small_stack() -> Result<(), CommandFault>
     ensures small { IfErr result (λ fault. (limit : _) × (fault ≡ SmallStack limit) × (limit < 524_288)) }
 {
     match limit_of_stacks() {
-        Some(limit) if limit < LEAST_STACK => Err(Fault::SmallStack(limit)),
+        Some(limit) if limit < LEAST_STACK => Err(CommandFault::SmallStack(limit)),
         _ => Ok(()),
     }
 }

@@ -1,13 +1,13 @@
 -- The exit statuses of the reading commands.
 use Rattle.std.specs.Prelude.{ℕ}
 use Rattle.tfs_files.specs.Status as files
-use Rattle.tfs_reports.specs.declared.fault.Fault.{Fault}
-use Rattle.tfs_reports.specs.declared.fault.Fault.TheVariants as fault
+use Rattle.tfs_reports.specs.declared.fault.ReportFault.{ReportFault}
+use Rattle.tfs_reports.specs.declared.fault.ReportFault.TheVariants as fault
 
 -- The exit status of a fault: the shared status for a fault that all commands share, 20 if a retry
 -- may help, and 30 or more for something that doesn't exist, can't be restored, or isn't a valid
 -- query.
-abbrev pub status_of : Fault → ℕ
+abbrev pub status_of : ReportFault → ℕ
 status_of (fault.Files shared) = files.status_of shared
 status_of fault.Changing = 20
 status_of fault.NoName = 30

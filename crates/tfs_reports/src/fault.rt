@@ -12,10 +12,10 @@ use thiserror::Error;
 
 /// Why a reading command ended early.
 #[derive(Clone, Copy, Debug, Error)]
-pub enum Fault {
+pub enum ReportFault {
     /// A fault that all commands share.
     #[error("{0}")]
-    Files(tfs_files::Fault),
+    Files(tfs_files::CommandFault),
     #[error("Changing: the journals were replaced while they were read, ten times. Try again")]
     Changing,
     #[error("NoName: no journal of the folder has this workspace. `list` prints the names")]
@@ -45,24 +45,24 @@ pub enum Fault {
 }
 
 /// Returns the exit status of a fault.
-pub fn status_of(fault: Fault) -> u8
+pub fn status_of(fault: ReportFault) -> u8
     ensures status { result ≡ status_of fault }
 {
     match fault {
-        Fault::Files(fault) => tfs_files::status_of(fault),
-        Fault::Changing => 20,
-        Fault::NoName => 30,
-        Fault::NoState => 31,
-        Fault::BeforeOldest(_) | Fault::BehindNewest(_) | Fault::NotKept => 32,
-        Fault::LineageDiffers => 33,
-        Fault::SerialAtLimit | Fault::TooLong | Fault::Unplaced => 34,
-        Fault::NoAddress | Fault::TooManyAddresses | Fault::UnknownAddress(_) => 35,
+        ReportFault::Files(fault) => tfs_files::status_of(fault),
+        ReportFault::Changing => 20,
+        ReportFault::NoName => 30,
+        ReportFault::NoState => 31,
+        ReportFault::BeforeOldest(_) | ReportFault::BehindNewest(_) | ReportFault::NotKept => 32,
+        ReportFault::LineageDiffers => 33,
+        ReportFault::SerialAtLimit | ReportFault::TooLong | ReportFault::Unplaced => 34,
+        ReportFault::NoAddress | ReportFault::TooManyAddresses | ReportFault::UnknownAddress(_) => 35,
     }
 }
 
 /// What a fault is about.
 #[derive(Clone, Copy)]
-pub enum Place {
+pub enum ReportPlace {
     /// The command itself.
     Command,
     /// The folder of journals.
@@ -83,89 +83,89 @@ pub enum Place {
 
 /// The fault that ended a command, and what it is about.
 #[derive(Clone, Copy)]
-pub struct End {
-    place: Place,
-    fault: Fault,
+pub struct ReportEnd {
+    place: ReportPlace,
+    fault: ReportFault,
 }
 
-impl End {
+impl ReportEnd {
     /// Returns the end by a fault, and what it is about.
-    pub fn at(place: Place, fault: Fault) -> End {
-        End { place, fault }
+    pub fn at(place: ReportPlace, fault: ReportFault) -> ReportEnd {
+        ReportEnd { place, fault }
     }
 
     /// Returns the end by a fault that all commands share.
-    pub(crate) fn of_files(place: Place, fault: tfs_files::Fault) -> End {
-        End::at(place, Fault::Files(fault))
+    pub(crate) fn of_files(place: ReportPlace, fault: tfs_files::CommandFault) -> ReportEnd {
+        ReportEnd::at(place, ReportFault::Files(fault))
     }
 
     /// Returns the end by an error that the system reported for a read.
-    pub(crate) fn by_system(place: Place, error: &io::Error) -> End {
+    pub(crate) fn by_system(place: ReportPlace, error: &io::Error) -> ReportEnd {
         let fault = match error.kind() {
-            io::ErrorKind::OutOfMemory => tfs_files::Fault::OutOfMemory,
-            io::ErrorKind::PermissionDenied => tfs_files::Fault::NotAllowed,
+            io::ErrorKind::OutOfMemory => tfs_files::CommandFault::OutOfMemory,
+            io::ErrorKind::PermissionDenied => tfs_files::CommandFault::NotAllowed,
             io::ErrorKind::NotFound => match place {
-                Place::Folder | Place::Copies => tfs_files::Fault::NoFolder,
-                _ => tfs_files::Fault::CannotRead,
+                ReportPlace::Folder | ReportPlace::Copies => tfs_files::CommandFault::NoFolder,
+                _ => tfs_files::CommandFault::CannotRead,
             },
             io::ErrorKind::NotADirectory => match place {
-                Place::Folder | Place::Copies => tfs_files::Fault::NotFolder,
-                _ => tfs_files::Fault::CannotRead,
+                ReportPlace::Folder | ReportPlace::Copies => tfs_files::CommandFault::NotFolder,
+                _ => tfs_files::CommandFault::CannotRead,
             },
-            _ => tfs_files::Fault::CannotRead,
+            _ => tfs_files::CommandFault::CannotRead,
         };
-        End::of_files(place, fault)
+        ReportEnd::of_files(place, fault)
     }
 
     /// Returns the end by a journal that couldn't be read to its end.
-    pub(crate) fn unread(place: Place, why: ReadFault) -> End {
+    pub(crate) fn unread(place: ReportPlace, why: ReadFault) -> ReportEnd {
         match why {
-            ReadFault::NoMemory => End::from(AllocError),
+            ReadFault::NoMemory => ReportEnd::from(AllocError),
             ReadFault::Source | ReadFault::TooLong => {
-                End::of_files(place, tfs_files::Fault::CannotRead)
+                ReportEnd::of_files(place, tfs_files::CommandFault::CannotRead)
             }
         }
     }
 
     /// Returns the end by a version that couldn't be restored.
-    pub(crate) fn restore_failed(why: RestoreFault) -> End {
+    pub(crate) fn restore_failed(why: RestoreFault) -> ReportEnd {
         let fault = match why {
-            RestoreFault::LineageDiffers => Fault::LineageDiffers,
-            RestoreFault::SerialAtLimit => Fault::SerialAtLimit,
-            RestoreFault::TooLong => Fault::TooLong,
-            RestoreFault::Unplaced => Fault::Unplaced,
-            RestoreFault::NoMemory => Fault::Files(tfs_files::Fault::OutOfMemory),
+            RestoreFault::LineageDiffers => ReportFault::LineageDiffers,
+            RestoreFault::SerialAtLimit => ReportFault::SerialAtLimit,
+            RestoreFault::TooLong => ReportFault::TooLong,
+            RestoreFault::Unplaced => ReportFault::Unplaced,
+            RestoreFault::NoMemory => ReportFault::Files(tfs_files::CommandFault::OutOfMemory),
         };
-        End::at(Place::Name, fault)
+        ReportEnd::at(ReportPlace::Name, fault)
     }
 }
 
-impl From<AllocError> for End {
-    fn from(_error: AllocError) -> End {
-        End::of_files(Place::Command, tfs_files::Fault::OutOfMemory)
+impl From<AllocError> for ReportEnd {
+    fn from(_error: AllocError) -> ReportEnd {
+        ReportEnd::of_files(ReportPlace::Command, tfs_files::CommandFault::OutOfMemory)
     }
 }
 
 /// Reports a fault on standard error with what it is about, and returns the exit status. A fault is
 /// about the folder, a file in it, or what `name` names: a workspace or a folder of copies. A
 /// failure to write the report is ignored, because there is nowhere left to report it.
-pub fn end_by(rt: &impl Eprint, folder: &str, name: &str, end: End) -> ExitCode {
+pub fn end_by(rt: &impl Eprint, folder: &str, name: &str, end: ReportEnd) -> ExitCode {
     let fault = end.fault;
     let _ = match end.place {
-        Place::Command => eprintln!(rt; "tfstatectl: {fault}"),
-        Place::Folder => tell(rt, folder, "", fault),
-        Place::Old => tell(rt, folder, "/old", fault),
-        Place::Journal(number) => tell_journal(rt, folder, "", number, fault),
-        Place::OldJournal(number) => tell_journal(rt, folder, "/old", number, fault),
-        Place::Name => eprintln!(rt; "tfstatectl: {folder}: {name}: {fault}"),
-        Place::Copies => tell(rt, name, "", fault),
-        Place::Copy(number) => tell_journal(rt, name, "", number, fault),
+        ReportPlace::Command => eprintln!(rt; "tfstatectl: {fault}"),
+        ReportPlace::Folder => tell(rt, folder, "", fault),
+        ReportPlace::Old => tell(rt, folder, "/old", fault),
+        ReportPlace::Journal(number) => tell_journal(rt, folder, "", number, fault),
+        ReportPlace::OldJournal(number) => tell_journal(rt, folder, "/old", number, fault),
+        ReportPlace::Name => eprintln!(rt; "tfstatectl: {folder}: {name}: {fault}"),
+        ReportPlace::Copies => tell(rt, name, "", fault),
+        ReportPlace::Copy(number) => tell_journal(rt, name, "", number, fault),
     };
     ExitCode::from(status_of(fault))
 }
 
 /// Reports a fault of a folder, or of a folder below it.
-fn tell(rt: &impl Eprint, folder: &str, below: &str, fault: Fault) -> io::Result<()> {
+fn tell(rt: &impl Eprint, folder: &str, below: &str, fault: ReportFault) -> io::Result<()> {
     eprintln!(rt; "tfstatectl: {folder}{below}: {fault}")
 }
 
@@ -175,7 +175,7 @@ fn tell_journal(
     folder: &str,
     below: &str,
     number: u64,
-    fault: Fault,
+    fault: ReportFault,
 ) -> io::Result<()> {
     eprintln!(rt; "tfstatectl: {folder}{below}/journal-{number:010}.tfj: {fault}")
 }

@@ -18,7 +18,7 @@ mod texts;
 mod versions;
 
 pub use acts::history;
-pub use fault::{End, Fault, Place, end_by, status_of};
+pub use fault::{ReportEnd, ReportFault, ReportPlace, end_by, status_of};
 pub use listing::list;
 pub use monitor::stats;
 pub use reach::{Form, print_impact, query_of};

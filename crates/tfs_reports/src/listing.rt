@@ -8,7 +8,7 @@ ghost use Rattle.tfs_records.specs.Journal.{acts_of};
 ghost use Rattle.tfs_versions.specs.Holding.{word_at};
 ghost use Rattle.tfs_reports.specs.Rows.{name_row, whole_or_null};
 
-use crate::fault::End;
+use crate::fault::ReportEnd;
 use crate::files::newest_journal;
 use crate::kept::{missing_in, tell_missing, with_kept_from};
 use crate::report::Report;
@@ -34,7 +34,7 @@ const COLUMNS: &[&str] = &[
 /// Prints the state and the lock holder of each workspace of the newest journal of a folder. Unless
 /// versions are kept from position 0 on, the first position is reported: in each row of JSON
 /// (`kept_from`), or on standard error for a table and for a journal without workspaces.
-pub fn list(rt: &HostRuntime, folder: &str, json: bool) -> Result<(), End> {
+pub fn list(rt: &HostRuntime, folder: &str, json: bool) -> Result<(), ReportEnd> {
     let missing = missing_in(rt, folder);
     let newest = newest_journal(rt, folder)?;
     let from = match missing {

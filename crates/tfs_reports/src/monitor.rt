@@ -1,6 +1,6 @@
 //! Metrics of a folder, in the text format of Prometheus. (Prometheus, 'Exposition formats'.)
 
-use crate::fault::{End, Fault, Place};
+use crate::fault::{ReportEnd, ReportFault, ReportPlace};
 use crate::files::TRIES;
 use crate::measures::measures_of;
 use crate::output::write;
@@ -31,7 +31,7 @@ const COPY_AGE: Metric = Metric {
 /// Prints the metrics of the valid part of a folder's newest journal, and the age of the newest
 /// copy if a folder of copies is given. Leaves out an age that isn't known, such as that of copies
 /// before the first one is made.
-pub fn stats(rt: &HostRuntime, folder: &str, copies: Option<&str>) -> Result<(), End> {
+pub fn stats(rt: &HostRuntime, folder: &str, copies: Option<&str>) -> Result<(), ReportEnd> {
     let (measures, fault) = measures_of(rt, folder)?;
     let (copied, copies_fault) = match copies {
         Some(copies) => match newest_copy_time(rt, copies) {
@@ -48,7 +48,7 @@ pub fn stats(rt: &HostRuntime, folder: &str, copies: Option<&str>) -> Result<(),
 }
 
 /// Prints the metrics, with ages if there is a clock.
-fn tell(rt: &HostRuntime, measures: &Measures, copied: Option<i64>) -> Result<(), End> {
+fn tell(rt: &HostRuntime, measures: &Measures, copied: Option<i64>) -> Result<(), ReportEnd> {
     let mut text = String::new(rt.alloc());
     add_numbers(rt.alloc(), &mut text, measures)?;
     if let Some(now) = seconds_now(rt) {
@@ -69,7 +69,7 @@ fn seconds_now(rt: &HostRuntime) -> Option<i64> {
 
 /// Returns when the newest journal of a folder of copies was modified, in seconds since 1970; none
 /// before the first copy.
-fn newest_copy_time(rt: &HostRuntime, copies: &str) -> Result<Option<i64>, End> {
+fn newest_copy_time(rt: &HostRuntime, copies: &str) -> Result<Option<i64>, ReportEnd> {
     for _ in 0..TRIES {
         let Some(number) = newest_copy(rt, copies)? else {
             return Ok(None);
@@ -78,34 +78,34 @@ fn newest_copy_time(rt: &HostRuntime, copies: &str) -> Result<Option<i64>, End> 
             return Ok(Some(time));
         }
     }
-    Err(End::at(Place::Copies, Fault::Changing))
+    Err(ReportEnd::at(ReportPlace::Copies, ReportFault::Changing))
 }
 
 /// Returns the number of the newest journal of a folder of copies; none if the folder has no
 /// journal or doesn't exist.
-fn newest_copy(rt: &HostRuntime, copies: &str) -> Result<Option<u64>, End> {
+fn newest_copy(rt: &HostRuntime, copies: &str) -> Result<Option<u64>, ReportEnd> {
     match numbers_in(rt, copies) {
         Ok(numbers) => Ok(numbers.as_slice().last().copied()),
         Err(error) => match error.kind() {
             io::ErrorKind::NotFound => Ok(None),
-            _ => Err(End::by_system(Place::Copies, &error)),
+            _ => Err(ReportEnd::by_system(ReportPlace::Copies, &error)),
         },
     }
 }
 
 /// Returns when the journal with a number was modified, in seconds since 1970; none if it went
 /// away.
-fn written_at(rt: &HostRuntime, copies: &str, number: u64) -> Result<Option<i64>, End> {
+fn written_at(rt: &HostRuntime, copies: &str, number: u64) -> Result<Option<i64>, ReportEnd> {
     let path = journal_path(rt, copies, number)?;
-    let place = Place::Copy(number);
+    let place = ReportPlace::Copy(number);
     match modified_at(rt, path.as_str()) {
         Ok(time) => match Timestamp::try_from(time) {
             Ok(time) => Ok(Some(time.as_second())),
-            Err(_) => Err(End::of_files(place, tfs_files::Fault::CannotRead)),
+            Err(_) => Err(ReportEnd::of_files(place, tfs_files::CommandFault::CannotRead)),
         },
         Err(error) => match error.kind() {
             io::ErrorKind::NotFound => Ok(None),
-            _ => Err(End::by_system(place, &error)),
+            _ => Err(ReportEnd::by_system(place, &error)),
         },
     }
 }

@@ -4,7 +4,7 @@
 ghost use Rattle.std.specs.Prelude.{◌<◌, length};
 
 use crate::acts::name_of;
-use crate::fault::{End, Fault, Place};
+use crate::fault::{ReportEnd, ReportFault, ReportPlace};
 use crate::files::newest_journal;
 use crate::output::write;
 use crate::report::Report;
@@ -39,26 +39,26 @@ pub fn print_impact(
     name: &str,
     query: Query,
     form: Form,
-) -> Result<(), End> {
+) -> Result<(), ReportEnd> {
     let name = name_of(rt.alloc(), name)?;
     let answer = answer_of(rt, folder, &name, &query)?;
     tell(rt, &answer, form)
 }
 
 /// Answers a query over the newest journal of a folder.
-fn answer_of(rt: &HostRuntime, folder: &str, name: &Name, query: &Query) -> Result<Impact, End> {
+fn answer_of(rt: &HostRuntime, folder: &str, name: &Name, query: &Query) -> Result<Impact, ReportEnd> {
     let table = newest_journal(rt, folder)?.table;
     if table.number(name).is_none() {
-        return Err(End::at(Place::Name, Fault::NoName));
+        return Err(ReportEnd::at(ReportPlace::Name, ReportFault::NoName));
     }
     match table.impact(name, query) {
         Ok(answer) => Ok(answer),
-        Err(refusal) => Err(End::at(Place::Name, fault_of(&refusal))),
+        Err(refusal) => Err(ReportEnd::at(ReportPlace::Name, fault_of(&refusal))),
     }
 }
 
 /// Returns the query for `any` or `all` of the addresses.
-pub fn query_of(alloc: Global, is_all: bool, addresses: &[&str]) -> Result<Query, End> {
+pub fn query_of(alloc: Global, is_all: bool, addresses: &[&str]) -> Result<Query, ReportEnd> {
     let kind = if is_all { Kind::All } else { Kind::Any };
     let texts = Texts::new(texts_of(alloc, addresses)?);
     Ok(Query { kind, texts })
@@ -74,18 +74,18 @@ fn texts_of(alloc: Global, addresses: &[&str]) -> Result<Vec<Text>, AllocError> 
 }
 
 /// Returns the fault for a refused query.
-fn fault_of(refusal: &Refusal) -> Fault {
+fn fault_of(refusal: &Refusal) -> ReportFault {
     match refusal {
-        Refusal::NoState => Fault::NoState,
-        Refusal::NoAddress => Fault::NoAddress,
-        Refusal::TooManyAddresses => Fault::TooManyAddresses,
-        Refusal::UnknownAddress(number) => Fault::UnknownAddress(*number),
-        _ => Fault::Files(tfs_files::Fault::OutOfMemory),
+        Refusal::NoState => ReportFault::NoState,
+        Refusal::NoAddress => ReportFault::NoAddress,
+        Refusal::TooManyAddresses => ReportFault::TooManyAddresses,
+        Refusal::UnknownAddress(number) => ReportFault::UnknownAddress(*number),
+        _ => ReportFault::Files(tfs_files::CommandFault::OutOfMemory),
     }
 }
 
 /// Prints an answer.
-fn tell(rt: &HostRuntime, answer: &Impact, form: Form) -> Result<(), End> {
+fn tell(rt: &HostRuntime, answer: &Impact, form: Form) -> Result<(), ReportEnd> {
     let doc = answer.version.doc();
     let chosen = answer.chosen.as_slice();
     match form {
@@ -100,7 +100,7 @@ fn tell(rt: &HostRuntime, answer: &Impact, form: Form) -> Result<(), End> {
 }
 
 /// Prints a picture of some instances, with the chosen ones filled.
-fn draw(rt: &HostRuntime, doc: &Doc, among: &[usize], chosen: &[usize]) -> Result<(), End> {
+fn draw(rt: &HostRuntime, doc: &Doc, among: &[usize], chosen: &[usize]) -> Result<(), ReportEnd> {
     let bytes = picture(rt.alloc(), doc, among, chosen)?;
     let text = String::from_utf8_lossy(rt.alloc(), bytes.as_slice())?;
     let mut drawn = String::with_capacity(rt.alloc(), text.len())?;

@@ -1,7 +1,7 @@
 //! Reports: rows with named members, as a table for people or as JSON for programs. A report keeps
 //! only the text of its rows.
 
-use crate::fault::End;
+use crate::fault::ReportEnd;
 use crate::output::write;
 use crate::texts::cell;
 use serde_json::Value;
@@ -51,7 +51,7 @@ impl Report {
     }
 
     /// Prints the report.
-    pub(crate) fn print(self, rt: &HostRuntime) -> Result<(), End> {
+    pub(crate) fn print(self, rt: &HostRuntime) -> Result<(), ReportEnd> {
         let mut report = self;
         if report.is_json {
             report.text.push_str("]\n")?;

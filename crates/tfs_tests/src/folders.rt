@@ -130,11 +130,11 @@ const CHOICES: &str = "0 1:104:104 = 1 at 2
 0 1:104:104 2:92:91 = 1 at 2, 2 left
 0 1:104:104 2:92:0 = 1 at 2, 2 left
 3 1:104:104 2:92:0 = 1 NotAtLeast(2)
-0 1:104:104 2:130:130 = 2 Parted
-0 1:104:104 2:104:104 = 2 Parted
-0 1:104:90 2:92:92 = 2 Parted
-0 1:104:104 2:92:92 3:130:130 = 3 Parted
-0 1:104:104 2:130:130 3:92:92 = 2 Parted
+0 1:104:104 2:130:130 = 2 Diverged
+0 1:104:104 2:104:104 = 2 Diverged
+0 1:104:90 2:92:92 = 2 Diverged
+0 1:104:104 2:92:92 3:130:130 = 3 Diverged
+0 1:104:104 2:130:130 3:92:92 = 2 Diverged
 0 1:104:104 2:130:20 = 2 TornBase
 0 1:104:104 2:92:91 3:92:92 = 2 TornBase
 0 1:137:137 2:92:92 = 1 Unlawful(2)
@@ -174,7 +174,7 @@ const FAILING: &str = "1 1:104:104 2:92:92 = 1 unread Source
 2 1:104:104 2:130:130 = 2 unread Source
 2 1:104:104 2:92:92 3:92:92 = 2 unread Source
 3 1:104:104 2:92:92 3:92:92 = 3 unread Source
-3 1:104:104 2:130:130 3:92:92 = 2 Parted";
+3 1:104:104 2:130:130 3:92:92 = 2 Diverged";
 
 #[test]
 fn a_reader_that_fails_ends_the_choice(rt: HostRuntime) {

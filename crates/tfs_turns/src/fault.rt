@@ -1,6 +1,6 @@
 //! Errors of compactions and runs.
 
-use tfs_files::Fault;
+use tfs_files::CommandFault;
 use tfs_serve::Obstacle;
 use tfs_table::OpenFault;
 use tfs_terms::{Finish, Unturned};
@@ -23,13 +23,13 @@ pub(crate) enum TurnFault {
 }
 
 /// Returns the program's error for an error of a compaction.
-pub(crate) fn fault_of(fault: TurnFault) -> Fault {
+pub(crate) fn fault_of(fault: TurnFault) -> CommandFault {
     match fault {
-        TurnFault::NoMemory => Fault::OutOfMemory,
-        TurnFault::Write => Fault::Write,
-        TurnFault::TooFar => Fault::TooFar,
-        TurnFault::CannotWrite | TurnFault::Unsynced => Fault::CannotWrite,
-        TurnFault::Replaced => Fault::Replaced,
+        TurnFault::NoMemory => CommandFault::OutOfMemory,
+        TurnFault::Write => CommandFault::Write,
+        TurnFault::TooFar => CommandFault::TooFar,
+        TurnFault::CannotWrite | TurnFault::Unsynced => CommandFault::CannotWrite,
+        TurnFault::Replaced => CommandFault::Replaced,
     }
 }
 
@@ -47,19 +47,19 @@ pub(crate) fn fault_of_opening(fault: OpenFault) -> TurnFault {
 ///
 /// `NoCopy`, after which the table may lack something that a worker had seen, counts as an error of
 /// accept.
-pub(crate) fn end_of(finish: Finish<TurnFault>, has_stopped: bool) -> Fault {
+pub(crate) fn end_of(finish: Finish<TurnFault>, has_stopped: bool) -> CommandFault {
     match finish {
         Finish::Ended | Finish::Unturned(Unturned::Stopped) => {
             if has_stopped {
-                Fault::JournalFault
+                CommandFault::JournalFault
             } else {
-                Fault::AcceptFault
+                CommandFault::AcceptFault
             }
         }
-        Finish::Unserved(Obstacle::NoMemory) => Fault::OutOfMemory,
-        Finish::Unserved(Obstacle::NoPlace) => Fault::NoPlace,
+        Finish::Unserved(Obstacle::NoMemory) => CommandFault::OutOfMemory,
+        Finish::Unserved(Obstacle::NoPlace) => CommandFault::NoPlace,
         Finish::Unserved(Obstacle::NoListener(fault)) => fault_of(fault),
-        Finish::Unserved(Obstacle::NoCopy) => Fault::AcceptFault,
+        Finish::Unserved(Obstacle::NoCopy) => CommandFault::AcceptFault,
         Finish::Failed(fault) | Finish::Unturned(Unturned::Failed(fault)) => fault_of(fault),
         Finish::Unturned(Unturned::Unopened(fault)) => fault_of(fault_of_opening(fault)),
     }

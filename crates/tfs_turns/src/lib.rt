@@ -12,4 +12,4 @@ mod turning;
 mod underway;
 mod watch;
 
-pub use serve::{Begun, Bounds, Left, Plan, serve_folder};
+pub use serve::{StartedFolder, Bounds, Left, Plan, serve_folder};

@@ -2,7 +2,7 @@
 
 use crate::serve::Plan;
 use std::io::{self, Write};
-use tfs_files::Fault;
+use tfs_files::CommandFault;
 
 /// A compaction that was done: the number and the position of the new journal, the number of its
 /// names, and the lengths of the old and the new journal in bytes.
@@ -23,7 +23,7 @@ pub(crate) enum News {
     /// The journal was compacted.
     Turned(Turned),
     /// The old journal is still served, because the one of this number couldn't be made.
-    Stayed(u64, Fault),
+    Stayed(u64, CommandFault),
     /// There is nothing to report.
     Nothing,
 }

@@ -13,7 +13,7 @@ use std::sync::{Arc, Mutex, Wait};
 use std::thread::Threads;
 use std::time::Clock;
 use tfs_files::{
-    DurableJournal, Fault, FolderLock, JournalSink, PositionFile, Retention, ServedJournal,
+    DurableJournal, CommandFault, FolderLock, JournalSink, PositionFile, Retention, ServedJournal,
 };
 use tfs_serve::{AcceptFault, AnyListener};
 use tfs_table::Table;
@@ -48,7 +48,7 @@ pub struct Plan<'p> {
 /// What a start has made: the listener, whose waits time out; the file of the least position; the
 /// folder's newest journal; and the table over it.
 #[derive(Drop)]
-pub struct Begun<'f> {
+pub struct StartedFolder<'f> {
     pub listener: AnyListener,
     pub least: Option<PositionFile>,
     pub journal: DurableJournal<'f>,
@@ -60,7 +60,7 @@ pub struct Begun<'f> {
 #[derive(Drop)]
 pub struct Left {
     pub table: Table<JournalSink>,
-    pub fault: Fault,
+    pub fault: CommandFault,
     pub accepting: Option<AcceptFault>,
     /// The number of changes that workers reported as accepted. Only proofs use it.
     pub reported: Tally,
@@ -72,12 +72,12 @@ pub fn serve_folder<R: AllocGlobal + Threads + Wait + Clock + Sync>(
     host: &HostRuntime,
     lock: &FolderLock,
     plan: &Plan<'_>,
-    begun: Begun<'_>,
+    begun: StartedFolder<'_>,
 ) -> Left
     ensures ends { EndsOn begun.table.journal result.table.journal 0 result.reported.count }
     ensures holds { HoldsAll begun.table.journal result.table.journal 0 result.reported.count }
 {
-    let Begun {
+    let StartedFolder {
         listener,
         least,
         journal: in_place,
@@ -125,7 +125,7 @@ fn unread(table: Table<JournalSink>) -> Left
 {
     Left {
         table,
-        fault: Fault::CannotRead,
+        fault: CommandFault::CannotRead,
         accepting: None,
         reported: Tally::new(),
     }
@@ -133,11 +133,11 @@ fn unread(table: Table<JournalSink>) -> Left
 
 /// Returns the error that ended the runs. A lost lock, and then a failed sync, takes precedence
 /// over the error of the last run.
-fn fault_after(lock: &FolderLock, watch: &Watch<'_>, last: Fault) -> Fault {
+fn fault_after(lock: &FolderLock, watch: &Watch<'_>, last: CommandFault) -> CommandFault {
     if lock.is_lost() {
-        Fault::Replaced
+        CommandFault::Replaced
     } else if watch.is_muted() {
-        Fault::SyncFault
+        CommandFault::SyncFault
     } else {
         last
     }

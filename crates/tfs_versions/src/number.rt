@@ -5,7 +5,7 @@ ghost use Rattle.std.specs.List.{list_all};
 ghost use Rattle.std.specs.Char.{is_ascii_digit};
 ghost use Rattle.tfs_versions.specs.Restored.{HasNumber};
 
-use crate::place::Place;
+use crate::place::SerialPlace;
 use itoa::Buffer;
 use std::alloc::{AllocError, Global};
 
@@ -14,7 +14,7 @@ use std::alloc::{AllocError, Global};
 pub(crate) fn with_number(
     alloc: Global,
     text: &[u8],
-    place: Place,
+    place: SerialPlace,
     number: u64,
 ) -> Result<Option<Vec<u8>>, AllocError>
     ensures { IfOk result (λ new. IfSome new (λ new. HasNumber text.now number new.items)) }

@@ -10,14 +10,14 @@ const MAX_DEPTH: usize = 126;
 
 /// A part of a text.
 #[derive(Clone, Copy, Debug, PartialEq, Eq)]
-pub(crate) struct Place {
+pub(crate) struct SerialPlace {
     pub(crate) start: usize,
     pub(crate) len: usize,
 }
 
 /// Returns the place of the serial's digits: those of the last member `serial` of the text's
 /// object. Nothing is promised of the place, so the caller must check it.
-pub(crate) fn serial_place(alloc: Global, text: &str) -> Result<Option<Place>, AllocError> {
+pub(crate) fn serial_place(alloc: Global, text: &str) -> Result<Option<SerialPlace>, AllocError> {
     let mut scratch = Scratch::new(alloc);
     let mut reader = Reader::new(text, &mut scratch)?;
     reader.next();
@@ -41,7 +41,7 @@ fn last_serial_end(reader: &mut Reader<'_>) -> Result<Option<usize>, Invalid> {
 
 /// Returns the place of the last sequence of digits before `end`. Other bytes between them and
 /// `end`, such as blanks and a comma, are skipped.
-fn digits_before(text: &[u8], end: usize) -> Option<Place> {
+fn digits_before(text: &[u8], end: usize) -> Option<SerialPlace> {
     let text = text.get(..end)?;
     let end = text.iter().rposition(|byte| byte.is_ascii_digit())? + 1;
     let digits = text.get(..end)?;
@@ -49,7 +49,7 @@ fn digits_before(text: &[u8], end: usize) -> Option<Place> {
         Some(before) => before + 1,
         None => 0,
     };
-    Some(Place {
+    Some(SerialPlace {
         start,
         len: end - start,
     })

@@ -4,7 +4,7 @@
 use std::alloc::Global;
 use std::io::{self, Write};
 use std::process::ExitCode;
-use tfs_files::{End, Fault, Place, end_by, files_of, numbers_here, old_file, old_numbers};
+use tfs_files::{CommandEnd, CommandFault, FaultPlace, end_by, files_of, numbers_here, old_file, old_numbers};
 use tfs_folder::{Chosen, FolderFile, choose};
 use tfs_journal::End as JournalEnd;
 use tfs_records::Discard;
@@ -20,28 +20,28 @@ pub(crate) fn run(rt: &HostRuntime, folder: &str) -> ExitCode {
 }
 
 /// Checks a folder, and prints the lines.
-fn check_folder(rt: &HostRuntime, folder: &str) -> Result<(), End> {
+fn check_folder(rt: &HostRuntime, folder: &str) -> Result<(), CommandEnd> {
     let numbers = numbers_here(rt, folder)?;
     tell_old(rt, folder)?;
     let files = files_of(rt, folder, numbers.as_slice())?;
     if tell_files(rt, files.as_slice()).is_err() {
-        return Err(End::at(Place::Command, Fault::Write));
+        return Err(CommandEnd::at(FaultPlace::Command, CommandFault::Write));
     }
     match choose(rt.alloc(), files, 0) {
         Ok(chosen) => match tell_choice(rt, &chosen) {
             Ok(()) => Ok(()),
-            Err(_) => Err(End::at(Place::Command, Fault::Write)),
+            Err(_) => Err(CommandEnd::at(FaultPlace::Command, CommandFault::Write)),
         },
-        Err(unchosen) => Err(End::choice_failed(unchosen, 0)),
+        Err(unchosen) => Err(CommandEnd::choice_failed(unchosen, 0)),
     }
 }
 
 /// Prints a line for each journal of the folder's `old/`, which are read one after the other. A
 /// journal that is removed meanwhile has no line.
-fn tell_old(rt: &HostRuntime, folder: &str) -> Result<(), End> {
+fn tell_old(rt: &HostRuntime, folder: &str) -> Result<(), CommandEnd> {
     let numbers = match old_numbers(rt, folder) {
         Ok(numbers) => numbers,
-        Err(error) => return Err(End::by_system(Place::Old, Fault::CannotRead, &error)),
+        Err(error) => return Err(CommandEnd::by_system(FaultPlace::Old, CommandFault::CannotRead, &error)),
     };
     for number in numbers {
         if let Some(file) = old_file(rt, folder, number)? {
@@ -52,10 +52,10 @@ fn tell_old(rt: &HostRuntime, folder: &str) -> Result<(), End> {
 }
 
 /// Prints the line of a journal of `old/`, or returns the error of the output.
-fn tell_old_file(rt: &HostRuntime, file: &FolderFile) -> Result<(), End> {
+fn tell_old_file(rt: &HostRuntime, file: &FolderFile) -> Result<(), CommandEnd> {
     match print_old_file(rt, file) {
         Ok(()) => Ok(()),
-        Err(_) => Err(End::at(Place::Command, Fault::Write)),
+        Err(_) => Err(CommandEnd::at(FaultPlace::Command, CommandFault::Write)),
     }
 }
 

@@ -9,7 +9,7 @@ use std::alloc::{AllocError, Global};
 use std::env;
 use std::process::ExitCode;
 use std::rt::Env;
-use tfs_files::{End, Fault, Limits, Place, Retention, Start, end_by};
+use tfs_files::{CommandEnd, CommandFault, Limits, FaultPlace, Retention, Start, end_by};
 use tfs_turns::Bounds;
 
 /// The request of `serve`.
@@ -45,19 +45,19 @@ impl<'a> Serving<'a> {
     }
 
     /// Returns the path or address that an error is about.
-    pub(crate) fn name_at(&self, place: Place) -> &'a str {
+    pub(crate) fn name_at(&self, place: FaultPlace) -> &'a str {
         match place {
-            Place::Command
-            | Place::Folder
-            | Place::Old
-            | Place::Journal(_)
-            | Place::OldJournal(_)
-            | Place::Identity
-            | Place::OriginalIdentity => self.start.folder,
-            Place::First => self.start.first.unwrap_or(""),
-            Place::Past => self.start.past.unwrap_or(""),
-            Place::Position => self.least_file.unwrap_or(""),
-            Place::Address => self.listen,
+            FaultPlace::Command
+            | FaultPlace::Folder
+            | FaultPlace::Old
+            | FaultPlace::Journal(_)
+            | FaultPlace::OldJournal(_)
+            | FaultPlace::Identity
+            | FaultPlace::OriginalIdentity => self.start.folder,
+            FaultPlace::First => self.start.first.unwrap_or(""),
+            FaultPlace::Past => self.start.past.unwrap_or(""),
+            FaultPlace::Position => self.least_file.unwrap_or(""),
+            FaultPlace::Address => self.listen,
         }
     }
 }
@@ -127,10 +127,10 @@ impl<'a> Copying<'a> {
 
     /// Returns the path that an error is about: the folder of copies, the file of the least
     /// position, or the folder that is copied.
-    pub(crate) fn name_at(&self, place: Place) -> &'a str {
+    pub(crate) fn name_at(&self, place: FaultPlace) -> &'a str {
         match place {
-            Place::Position => self.least_file.unwrap_or(""),
-            Place::OriginalIdentity => self.from,
+            FaultPlace::Position => self.least_file.unwrap_or(""),
+            FaultPlace::OriginalIdentity => self.from,
             _ => self.to,
         }
     }
@@ -155,11 +155,11 @@ pub(crate) fn folder_of<'a>(given: &ArgMatches<'a>) -> &'a str {
 /// Returns the words of the command line. Their numbers with K, M or G are written out.
 pub(crate) fn words_of(rt: &(impl AllocGlobal + Env + Eprint)) -> Result<Vec<String>, ExitCode> {
     let Ok(words) = env::args(rt) else {
-        return Err(end_by(rt, "", End::at(Place::Command, Fault::Arguments)));
+        return Err(end_by(rt, "", CommandEnd::at(FaultPlace::Command, CommandFault::Arguments)));
     };
     match collect_words(rt.alloc(), words) {
         Ok(words) => Ok(words),
-        Err(_) => Err(end_by(rt, "", End::at(Place::Command, Fault::OutOfMemory))),
+        Err(_) => Err(end_by(rt, "", CommandEnd::at(FaultPlace::Command, CommandFault::OutOfMemory))),
     }
 }
 

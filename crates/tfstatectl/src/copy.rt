@@ -5,7 +5,7 @@ use crate::command::Copying;
 use std::process::ExitCode;
 use std::{fs, io};
 use tfs_files::{
-    DurableJournal, End, Fault, FolderLock, Gap, Originals, Place, PositionFile, end_by,
+    DurableJournal, CommandEnd, CommandFault, FolderLock, Gap, Originals, FaultPlace, PositionFile, end_by,
     least_position, lock_folder, mark_copies, name_parts, numbers_here, raise_least, read_originals,
     refuse_other_copies, refuse_other_original, refuse_served, remove_expired, retire, write_parts,
 };
@@ -98,17 +98,17 @@ fn own_in(
     folder: &str,
     files: Vec<FolderFile>,
     least: u64,
-) -> Result<Newest, End> {
+) -> Result<Newest, CommandEnd> {
     let newest = chosen_in(rt, files, least)?;
     refuse_other_original(rt, folder, newest.number)?;
     Ok(newest)
 }
 
 /// Returns the newest journal of these files. Its position must be at least this one.
-fn chosen_in(rt: &HostRuntime, files: Vec<FolderFile>, least: u64) -> Result<Newest, End> {
+fn chosen_in(rt: &HostRuntime, files: Vec<FolderFile>, least: u64) -> Result<Newest, CommandEnd> {
     match choose(rt.alloc(), files, least) {
         Ok(chosen) => Ok(Newest::of(&chosen)),
-        Err(unchosen) => Err(End::choice_failed(unchosen, least)),
+        Err(unchosen) => Err(CommandEnd::choice_failed(unchosen, least)),
     }
 }
 
@@ -133,7 +133,7 @@ fn name_copied(rt: &HostRuntime, asked: &Copying<'_>, copies: Copies, copied: Co
 
 /// Takes the lock of the folder of copies, which is created if it doesn't exist. Refuses a folder
 /// that was served, because it may have changes of its own.
-fn copies_in(rt: &HostRuntime, asked: &Copying<'_>) -> Result<Copies, End> {
+fn copies_in(rt: &HostRuntime, asked: &Copying<'_>) -> Result<Copies, CommandEnd> {
     let _ = fs::create_dir_all(rt, asked.to);
     let lock = lock_folder(rt, asked.to)?;
     let here = unserved_numbers(rt, asked.to)?;
@@ -143,7 +143,7 @@ fn copies_in(rt: &HostRuntime, asked: &Copying<'_>) -> Result<Copies, End> {
 }
 
 /// Returns the numbers of the journals of a folder, unless the folder was served.
-fn unserved_numbers(rt: &HostRuntime, folder: &str) -> Result<Vec<u64>, End> {
+fn unserved_numbers(rt: &HostRuntime, folder: &str) -> Result<Vec<u64>, CommandEnd> {
     refuse_served(rt, folder)?;
     numbers_here(rt, folder)
 }
@@ -155,7 +155,7 @@ fn keep(
     asked: &Copying<'_>,
     least: Option<PositionFile>,
     copied: &Copied,
-) -> Result<(), End> {
+) -> Result<(), CommandEnd> {
     mark_copies(rt, asked.from, asked.to, copied.parts.as_slice())?;
     let named = name_parts(rt, asked.to, copied.parts.as_slice(), copied.newest.number)?;
     if let Some(journal) = named {
@@ -167,7 +167,7 @@ fn keep(
 
 /// Retires the journals before this one, which continues the last of them, and removes expired
 /// ones.
-fn tidy(rt: &HostRuntime, asked: &Copying<'_>, journal: DurableJournal<'_>) -> Result<(), End> {
+fn tidy(rt: &HostRuntime, asked: &Copying<'_>, journal: DurableJournal<'_>) -> Result<(), CommandEnd> {
     let here = numbers_here(rt, journal.folder())?;
     retire(rt, here.as_slice(), journal)?;
     let _ = remove_expired(rt, journal.folder(), asked.keep);
@@ -197,6 +197,6 @@ fn tell(rt: &HostRuntime, newest: Newest) -> ExitCode {
     let Newest { number, position } = newest;
     match println!(rt; "copied journal-{number:010}.tfj up to position {position}") {
         Ok(()) => ExitCode::SUCCESS,
-        Err(_) => end_by(rt, "", End::at(Place::Command, Fault::Write)),
+        Err(_) => end_by(rt, "", CommandEnd::at(FaultPlace::Command, CommandFault::Write)),
     }
 }

@@ -2,7 +2,7 @@
 
 use std::fs;
 use std::process::ExitCode;
-use tfs_files::{End, FIRST_NUMBER, Fault, Place, end_by, lock_folder, make_first};
+use tfs_files::{CommandEnd, FIRST_NUMBER, CommandFault, FaultPlace, end_by, lock_folder, make_first};
 
 /// Creates a folder with its first journal, and prints the journal's path. Returns the program's
 /// exit status.
@@ -14,12 +14,12 @@ pub(crate) fn run(rt: &HostRuntime, folder: &str) -> ExitCode {
 }
 
 /// Creates a folder with its first journal, under the folder's lock.
-fn create(rt: &HostRuntime, folder: &str) -> Result<(), End> {
+fn create(rt: &HostRuntime, folder: &str) -> Result<(), CommandEnd> {
     let _ = fs::create_dir_all(rt, folder);
     let _lock = lock_folder(rt, folder)?;
     make_first(rt, folder)?;
     match println!(rt; "created {folder}/journal-{FIRST_NUMBER:010}.tfj") {
         Ok(()) => Ok(()),
-        Err(_) => Err(End::at(Place::Command, Fault::Write)),
+        Err(_) => Err(CommandEnd::at(FaultPlace::Command, CommandFault::Write)),
     }
 }

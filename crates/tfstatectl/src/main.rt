@@ -21,7 +21,7 @@ use std::process::ExitCode;
 use std::sync::Wait;
 use std::thread::Threads;
 use std::time::Clock;
-use tfs_files::{End, Fault, Place, end_by, status_of};
+use tfs_files::{CommandEnd, CommandFault, FaultPlace, end_by, status_of};
 
 fn main(rt: HostRuntime) -> ExitCode {
     match words_of(&rt) {
@@ -53,7 +53,7 @@ fn run_command<R: AllocGlobal + Threads + Wait + Clock + Sync>(
 ) -> ExitCode {
     match matches.subcommand() {
         Some((command, given)) => run_named(rt, host, command, given),
-        None => end_by(host, "", End::at(Place::Command, Fault::Arguments)),
+        None => end_by(host, "", CommandEnd::at(FaultPlace::Command, CommandFault::Arguments)),
     }
 }
 
@@ -89,7 +89,7 @@ fn run_server<R: AllocGlobal + Threads + Wait + Clock + Sync>(
 /// after help or a version.
 fn end_of_words(error: &Error) -> ExitCode {
     if error.use_stderr() {
-        ExitCode::from(status_of(Fault::Arguments))
+        ExitCode::from(status_of(CommandFault::Arguments))
     } else {
         ExitCode::SUCCESS
     }

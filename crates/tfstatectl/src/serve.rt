@@ -7,9 +7,9 @@ use std::process::ExitCode;
 use std::sync::Wait;
 use std::thread::Threads;
 use std::time::Clock;
-use tfs_files::{End, Fault, FolderLock, Made, Place, end_by, status_of};
+use tfs_files::{CommandEnd, CommandFault, FolderLock, Made, FaultPlace, end_by, status_of};
 use tfs_serve::AcceptFault;
-use tfs_turns::{Begun, Left, Plan, serve_folder};
+use tfs_turns::{StartedFolder, Left, Plan, serve_folder};
 
 /// Serves a folder until an error ends the server. Returns the program's exit status.
 pub(crate) fn run<R: AllocGlobal + Threads + Wait + Clock + Sync>(
@@ -24,7 +24,7 @@ pub(crate) fn run<R: AllocGlobal + Threads + Wait + Clock + Sync>(
         least,
         made: Made { journal, table },
     } = ready;
-    let begun = Begun {
+    let begun = StartedFolder {
         listener,
         least,
         journal,
@@ -39,7 +39,7 @@ fn serve_begun<R: AllocGlobal + Threads + Wait + Clock + Sync>(
     host: &HostRuntime,
     lock: &FolderLock,
     asked: &Serving<'_>,
-    begun: Begun<'_>,
+    begun: StartedFolder<'_>,
 ) -> ExitCode {
     let left = serve_folder(rt, host, lock, &plan_of(asked), begun);
     end_of(host, asked.start.folder, left.fault, left.accepting)
@@ -49,12 +49,12 @@ fn serve_begun<R: AllocGlobal + Threads + Wait + Clock + Sync>(
 fn end_of(
     host: &HostRuntime,
     folder: &str,
-    fault: Fault,
+    fault: CommandFault,
     accepting: Option<AcceptFault>,
 ) -> ExitCode {
     match (fault, accepting) {
-        (Fault::AcceptFault, Some(fault)) => end_by_accepting(host, folder, fault),
-        (fault, _) => end_by(host, folder, End::at(Place::Folder, fault)),
+        (CommandFault::AcceptFault, Some(fault)) => end_by_accepting(host, folder, fault),
+        (fault, _) => end_by(host, folder, CommandEnd::at(FaultPlace::Folder, fault)),
     }
 }
 
@@ -62,7 +62,7 @@ fn end_of(
 /// exit status.
 fn end_by_accepting(rt: &impl Eprint, folder: &str, fault: AcceptFault) -> ExitCode {
     let _ = eprintln!(rt; "tfstatectl: {folder}: AcceptFault: {fault}. Start again");
-    ExitCode::from(status_of(Fault::AcceptFault))
+    ExitCode::from(status_of(CommandFault::AcceptFault))
 }
 
 /// Returns how to serve the folder.

@@ -4,7 +4,7 @@ use crate::command::Serving;
 use crate::listening::listen;
 use std::fs;
 use tfs_files::{
-    End, Fault, FolderLock, Made, Place, PositionFile, Start, least_position, lock_folder, raise_least,
+    CommandEnd, CommandFault, FolderLock, Made, FaultPlace, PositionFile, Start, least_position, lock_folder, raise_least,
     refuse_small_stack, start_journal,
 };
 use tfs_serve::AnyListener;
@@ -21,9 +21,9 @@ pub(crate) struct Ready<'f> {
 
 /// Checks the stack size of threads, takes the folder's lock, listens, and makes the folder's next
 /// journal. Returns the first error.
-pub(crate) fn start<'f>(rt: &HostRuntime, asked: &Serving<'f>) -> Result<Ready<'f>, End> {
+pub(crate) fn start<'f>(rt: &HostRuntime, asked: &Serving<'f>) -> Result<Ready<'f>, CommandEnd> {
     if let Err(fault) = refuse_small_stack() {
-        return Err(End::at(Place::Command, fault));
+        return Err(CommandEnd::at(FaultPlace::Command, fault));
     }
     let begins = asked.start.first.is_some();
     if begins {
@@ -46,7 +46,7 @@ fn begin<'f>(
     rt: &HostRuntime,
     asked: &Serving<'f>,
     begins: bool,
-) -> Result<(Option<PositionFile>, Made<'f>), End> {
+) -> Result<(Option<PositionFile>, Made<'f>), CommandEnd> {
     let least = PositionFile::named(rt, asked.least_file, begins)?;
     let made = start_from(rt, asked, least_position(asked.start.least, &least))?;
     let least = raise_least(rt, least, made.table.position())?;
@@ -54,7 +54,7 @@ fn begin<'f>(
 }
 
 /// Makes the folder's next journal, which starts at this position or a higher one.
-fn start_from<'f>(rt: &HostRuntime, asked: &Serving<'f>, least: u64) -> Result<Made<'f>, End> {
+fn start_from<'f>(rt: &HostRuntime, asked: &Serving<'f>, least: u64) -> Result<Made<'f>, CommandEnd> {
     let start = Start {
         least,
         ..asked.start

@@ -13,7 +13,7 @@ use std::sync::Wait;
 use std::thread::Threads;
 use std::time::Clock;
 use tfs_conversation::RunFault;
-use tfs_ends::Fault;
+use tfs_ends::ProgramFault;
 use tfs_records::FileSink;
 use tfs_serve::{Obstacle, Open, let_wait, serve};
 use tfs_table::{OpenFault, Table};
@@ -36,11 +36,11 @@ pub(crate) fn run<
         Err(status) => return status,
     };
     let Ok(gates) = gates_of(rt, asked.workers) else {
-        return end_by(rt, Fault::NoMemory);
+        return end_by(rt, ProgramFault::NoMemory);
     };
     let address = asked.address.as_str();
     let fault = match serve(rt, rt.alloc(), table, gates, || listen(rt, address)) {
-        Ok(_run) => Fault::AcceptFault,
+        Ok(_run) => ProgramFault::AcceptFault,
         Err(unserved) => fault_of(unserved.why),
     };
     end_by(rt, fault)
@@ -54,7 +54,7 @@ fn table_of<R: AllocGlobal + Files<File = File> + Eprint>(
     let old = old_journal(rt, asked)?;
     let sink = match FileSink::create_new(rt, asked.new.as_str()) {
         Ok(sink) => sink,
-        Err(error) => return Err(end_without_file(rt, Fault::CannotCreate, &error)),
+        Err(error) => return Err(end_without_file(rt, ProgramFault::CannotCreate, &error)),
     };
     match open_table(rt, old, sink) {
         Ok(table) => Ok(table),
@@ -72,7 +72,7 @@ fn old_journal<R: AllocGlobal + Files<File = File> + Eprint>(
     };
     match fs::read(rt, old.as_str()) {
         Ok(bytes) => Ok(Some(bytes)),
-        Err(error) => Err(end_without_file(rt, Fault::CannotRead, &error)),
+        Err(error) => Err(end_without_file(rt, ProgramFault::CannotRead, &error)),
     }
 }
 
@@ -108,14 +108,14 @@ fn gates_of(rt: &impl AllocGlobal, number: usize) -> Result<Vec<Open>, AllocErro
 fn listen<R: Net<Stream = TcpStream, Listener = TcpListener> + Print>(
     rt: &R,
     address: &str,
-) -> Result<TcpListener, Fault> {
+) -> Result<TcpListener, ProgramFault> {
     let Ok(listener) = TcpListener::bind(rt, address) else {
-        return Err(Fault::CannotBind);
+        return Err(ProgramFault::CannotBind);
     };
     let_wait(&listener);
     match tell(rt, address) {
         Ok(()) => Ok(listener),
-        Err(_) => Err(Fault::Write),
+        Err(_) => Err(ProgramFault::Write),
     }
 }
 
@@ -128,11 +128,11 @@ fn tell(rt: &impl Print, address: &str) -> io::Result<()> {
 
 /// Returns the fault that the program reports for the end of a run. NoCopy, after which the journal
 /// may lack what a worker had seen, is reported as AcceptFault: the workers have ended.
-fn fault_of(why: Obstacle<Fault>) -> Fault {
+fn fault_of(why: Obstacle<ProgramFault>) -> ProgramFault {
     match why {
-        Obstacle::NoMemory => Fault::NoMemory,
-        Obstacle::NoPlace => Fault::NoPlace,
+        Obstacle::NoMemory => ProgramFault::NoMemory,
+        Obstacle::NoPlace => ProgramFault::NoPlace,
         Obstacle::NoListener(fault) => fault,
-        Obstacle::NoCopy => Fault::AcceptFault,
+        Obstacle::NoCopy => ProgramFault::AcceptFault,
     }
 }

@@ -4,7 +4,7 @@ use crate::fault::end_by;
 use std::io;
 use std::process::ExitCode;
 use tfs_conversation::{Reads, Watched, converse_over_table};
-use tfs_ends::{Fault, status_of};
+use tfs_ends::{ProgramFault, status_of};
 use tfs_records::Discard;
 use tfs_table::Table;
 
@@ -16,11 +16,11 @@ pub(crate) fn run(rt: &(impl AllocGlobal + Input + Print + Eprint)) -> ExitCode 
     let mut writer = Watched::new(io::writer(rt));
     // A sink that discards the journal never fails.
     let Ok(mut table) = Table::new(alloc, Discard) else {
-        return end_by(rt, Fault::NoMemory);
+        return end_by(rt, ProgramFault::NoMemory);
     };
     let mut reads = Reads::new();
     match converse_over_table(alloc, &mut reader, &mut writer, &mut table, &mut reads) {
         Ok(ended) => ExitCode::from(status_of(ended)),
-        Err(fault) => end_by(rt, Fault::from(fault)),
+        Err(fault) => end_by(rt, ProgramFault::from(fault)),
     }
 }
