@@ -10,7 +10,7 @@ use std::env;
 use std::process::ExitCode;
 use std::rt::Env;
 use tfs_files::{CommandEnd, CommandFault, Limits, FaultPlace, Retention, Start, end_by};
-use tfs_turns::Bounds;
+use tfs_server::Bounds;
 
 /// The request of `serve`.
 #[derive(Drop)]

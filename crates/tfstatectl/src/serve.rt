@@ -9,7 +9,7 @@ use std::thread::Threads;
 use std::time::Clock;
 use tfs_files::{CommandEnd, CommandFault, FolderLock, Made, FaultPlace, end_by, status_of};
 use tfs_serve::AcceptFault;
-use tfs_turns::{StartedFolder, Left, Plan, serve_folder};
+use tfs_server::{StartedFolder, Left, Plan, serve_folder};
 
 /// Serves a folder until an error ends the server. Returns the program's exit status.
 pub(crate) fn run<R: AllocGlobal + Threads + Wait + Clock + Sync>(

@@ -1,0 +1,230 @@
+-- Runs of service, one after another.
+use mathlib.Core.List.{IsPrefix}
+use Rattle.std.proofs.Common.{◌≡◌, ◌+◌, ◌≤◌, ◌<◌, ℕ, suc, length, length-append, get_or, map, List, sum_by, [], ◌∷◌, ◌++◌, append-nil, Option, refl, sym, ◌∙◌, ap, subst, inl, inr, arith}
+use Rattle.std.proofs.lemmas.Grind.{flat_map-append}
+use Rattle.std.proofs.lemmas.List.Sums.{sum_by-cons, sum_by_push}
+use Rattle.tfs_records.specs.Journal.{Journal, position_of}
+use Rattle.tfs_calls.specs.Reply.{ReplyValue, done, state, impact, refused}
+use Rattle.tfs_published.specs.Beginning.{BeginsWith}
+use Rattle.tfs_published.proofs.Beginnings.{begins_with_itself, begins_with_earlier}
+use Rattle.tfs_serve.specs.Gate.{Event}
+use Rattle.tfs_serve.specs.Serving.{ServedView, IsServed, IsRun, accepted_in, answers_on}
+use Rattle.tfs_serve.specs.Session.{accepted_by}
+use Rattle.tfs_serve.specs.Told.{AreToldOnce, position_told, positions_told, times}
+use Rattle.tfs_serve.specs.Working.{Answer}
+use Rattle.tfs_runs.specs.Runs.{ReturnedRun, IsReturnedRun, IsReturnedRunOf, LeadsTo, GoesBy, GoesOn, EndsOn, HoldsAll, HoldsJust, accepted_of, accepted_by_all, positions_on, positions_of_all}
+use Rattle.tfs_runs.proofs.Once.{told_then}
+
+-- A reply has a position if it reports a change as accepted.
+one_told : (r : ReplyValue) → length (position_told r) ≡ accepted_by r
+one_told (done position) = refl
+one_told (state d) = refl
+one_told (impact d chosen position) = refl
+one_told (refused refusal) = refl
+
+-- Answers have as many positions as they report changes as accepted.
+some_told : (answers : List Answer) → length (positions_told answers) ≡ accepted_in answers
+some_told [] = refl
+some_told (a ∷ more) =
+    let one = one_told a.reply in
+    let rest = some_told more in
+    let lengths = length-append (position_told a.reply) (positions_told more) in
+    let sums = sum_by-cons (λ (b : Answer). accepted_by b.reply) a more in omega (arith, one, rest, lengths, sums)
+
+-- So have those of all workers.
+all_told : (opening last : Journal) (workers : List (List (List Answer))) (told : List (Option (List Event))) (served : List ServedView)
+    → length workers ≡ length told → length served ≡ length told
+    → ((i : ℕ) (t : Option (List Event)) (s : ServedView) → i < length told
+    → IsServed opening last (get_or workers i []) (get_or told i t) (get_or served i s))
+    → length (positions_on workers) ≡ accepted_of served
+all_told opening last [] [] [] few same each = refl
+all_told opening last [] (t ∷ told) served few same each = absurd (omega (arith, few))
+all_told opening last (w ∷ workers) [] served few same each = absurd (omega (arith, few))
+all_told opening last [] [] (s ∷ served) few same each = absurd (omega (arith, same))
+all_told opening last (w ∷ workers) (t ∷ told) [] few same each = absurd (omega (arith, same))
+all_told opening last (w ∷ workers) (t ∷ told) (s ∷ served) few same each =
+    let one = (each 0 t s (omega arith)).accepted_is in
+    let more = all_told opening last workers told served (omega (arith, few)) (omega (arith, same))
+    (λ i u v inside. each (suc i) u v (omega (arith, inside))) in
+    let here = some_told (answers_on w) in
+    let lengths = length-append (positions_told (answers_on w)) (positions_on workers) in
+    let sums = sum_by-cons (λ (v : ServedView). v.accepted) s served in omega (arith, one, more, here, lengths, sums)
+
+-- A run has as many positions as its workers report changes as accepted.
+term_told : (opening : Journal) (t : ReturnedRun) → IsReturnedRun opening t → length t.positions ≡ accepted_of t.served
+term_told opening t run =
+    let run = run.run in
+    ap length run.positions ∙ all_told opening t.last run.connections run.told t.served run.each.0 run.each.1 run.workers
+
+-- It has a position more for each of them.
+term_grows : (opening : Journal) (t : ReturnedRun) → IsReturnedRun opening t → position_of t.last ≡ position_of opening + accepted_of t.served
+term_grows opening t run =
+    let base = ap (λ b. b.position) run.run.begins.base in
+    let grows = run.run.grows in omega (arith, base, grows)
+
+-- Each is reported once.
+term_once : (opening : Journal) (t : ReturnedRun) → IsReturnedRun opening t → AreToldOnce opening t.last t.positions
+term_once opening t run p above within = ap (times p) run.positions ∙ run.run.once p above within
+
+-- What a last journal leads to has its position.
+leads_stays : (last next : Journal) → LeadsTo last next → position_of next ≡ position_of last
+leads_stays last next (inl rebased) = rebased.position
+leads_stays last next (inr same) = ap position_of same
+
+-- So do runs one after another.
+goes_by_grows : (first now : Journal) (runs : List ReturnedRun) → GoesBy first runs now → position_of now ≡ position_of first + accepted_by_all runs
+goes_by_grows first now [] goes = let same = ap position_of goes in omega (arith, same)
+goes_by_grows first now (t ∷ runs) goes =
+    let grows = term_grows first t goes.1 in
+    let stays = leads_stays t.last goes.0 goes.2 in
+    let more = goes_by_grows goes.0 now runs goes.3 in
+    let all = sum_by-cons (λ (u : ReturnedRun). accepted_of u.served) t runs in omega (arith, grows, stays, more, all)
+
+-- They report as many positions as changes.
+goes_by_told : (first now : Journal) (runs : List ReturnedRun) → GoesBy first runs now → length (positions_of_all runs) ≡ accepted_by_all runs
+goes_by_told first now [] goes = refl
+goes_by_told first now (t ∷ runs) goes =
+    let one = term_told first t goes.1 in
+    let more = goes_by_told goes.0 now runs goes.3 in
+    let lengths = length-append t.positions (positions_of_all runs) in
+    let all = sum_by-cons (λ (u : ReturnedRun). accepted_of u.served) t runs in omega (arith, one, more, lengths, all)
+
+-- Between the two journals are as many positions as changes were reported.
+pub goes_on_grows : (first now : Journal) (accepted : ℕ) → GoesOn first now accepted → position_of now ≡ position_of first + accepted
+goes_on_grows first now accepted goes =
+    let counts = goes.counts in
+    let grows = goes_by_grows first now goes.runs goes.goes in omega (arith, counts, grows)
+
+-- One more run.
+goes_by_then : (first opening next : Journal) (t : ReturnedRun) (runs : List ReturnedRun) → GoesBy first runs opening → IsReturnedRun opening t → LeadsTo t.last next
+    → GoesBy first (runs ++ t ∷ []) next
+goes_by_then first opening next t [] goes run leads =
+    (next, subst (λ (j : Journal). IsReturnedRun j t) goes run, leads, refl)
+goes_by_then first opening next t (u ∷ runs) goes run leads =
+    (goes.0, goes.1, goes.2, goes_by_then goes.0 opening next t runs goes.3 run leads)
+
+-- The positions of one more run follow the others.
+positions_then : (t : ReturnedRun) (runs : List ReturnedRun) → positions_of_all (runs ++ t ∷ []) ≡ positions_of_all runs ++ t.positions
+positions_then t runs =
+    flat_map-append (λ (u : ReturnedRun). u.positions) runs (t ∷ []) ∙ ap (λ (l : List ℕ). positions_of_all runs ++ l) (append-nil t.positions)
+
+-- No run yet.
+pub goes_not_yet : (first now : Journal) → now ≡ first → GoesOn first now 0
+goes_not_yet first now same = record {
+  runs = [];
+  goes = same;
+  counts = refl;
+  once = λ p above within. let stays = ap position_of same in absurd (omega (arith, above, within, stays));
+}
+
+-- Without a run a journal leads to itself.
+pub goes_nowhere : (j : Journal) → GoesOn j j 0
+goes_nowhere j = goes_not_yet j j refl
+
+-- A run after others.
+pub goes_on_then : (first opening next : Journal) (accepted : ℕ) (t : ReturnedRun) → GoesOn first opening accepted → IsReturnedRun opening t → LeadsTo t.last next
+    → GoesOn first next (accepted + accepted_of t.served)
+goes_on_then first opening next accepted t goes run leads =
+    let counts = goes.counts in
+    let more = sum_by_push (λ (u : ReturnedRun). accepted_of u.served) goes.runs t in
+    let before = goes_by_grows first opening goes.runs goes.goes in
+    let told = goes_by_told first opening goes.runs goes.goes in
+    let grows = term_grows opening t run in
+    let here = term_told opening t run in
+    let stays = leads_stays t.last next leads in record {
+      runs = goes.runs ++ t ∷ [];
+      goes = goes_by_then first opening next t goes.runs goes.goes run leads;
+      counts = omega (arith, counts, more);
+      once = λ p above within. ap (times p) (positions_then t goes.runs)
+          ∙ told_then (position_of first) (position_of opening) (position_of t.last) (positions_of_all goes.runs) t.positions
+          (omega (arith, before, told)) (omega (arith, grows, here)) goes.once (term_once opening t run) p above (omega (arith, within, stays));
+    }
+
+-- A journal begins with itself.
+pub begins_itself : (j : Journal) → BeginsWith j j
+begins_itself = begins_with_itself
+
+-- What begins the opening journal of a run begins its last one.
+pub term_begins : (placed opening last : Journal) (served : List ServedView) → IsReturnedRunOf opening last served → BeginsWith opening placed
+    → BeginsWith last placed
+term_begins placed opening last served run begins = begins_with_earlier last opening placed run.1.run.begins begins
+
+-- A journal that is the last one begins with the one in place, if that is the same too.
+pub same_begins : (last end before after : Journal) → end ≡ last → after ≡ before → BeginsWith last before → BeginsWith end after
+same_begins last end before after same placed begins =
+    subst (λ (j : Journal). BeginsWith j after) (sym same) (subst (λ (p : Journal). BeginsWith last p) (sym placed) begins)
+
+-- The opening journal of a run is an end.
+pub ends_at : (first opening end : Journal) (accepted before after : ℕ) → GoesOn first opening accepted → BeginsWith end opening
+    → after ≡ before + accepted → EndsOn first end before after
+ends_at first opening end accepted before after goes begins counts = record {
+  opening = opening;
+  accepted = accepted;
+  goes = goes;
+  begins = begins;
+  counts = counts;
+}
+
+-- A beginning is no longer than the whole.
+prefix_is_shorter : {A : Type 0} (xs ys : List A) → IsPrefix xs ys → length xs ≤ length ys
+prefix_is_shorter [] ys begins = omega arith
+prefix_is_shorter (x ∷ xs) [] begins = absurd (cc (begins.1))
+prefix_is_shorter (x ∷ xs) (y ∷ ys) begins =
+    let rest = prefix_is_shorter xs ys (begins.0, cc (begins.1)) in omega (arith, rest)
+
+-- What a journal begins with isn't beyond it.
+begins_below : (j earlier : Journal) → BeginsWith j earlier → position_of earlier ≤ position_of j
+begins_below j earlier begins =
+    let base = ap (λ b. b.position) begins.base in
+    let shorter = prefix_is_shorter earlier.entries j.entries begins.entries in omega (arith, base, shorter)
+
+-- The last journal has all changes that were reported as accepted.
+pub holds_all : (first end : Journal) (before after : ℕ) → EndsOn first end before after → HoldsAll first end before after
+holds_all first end before after ends =
+    let counts = ends.counts in
+    let grows = goes_on_grows first ends.opening ends.accepted ends.goes in
+    let below = begins_below end ends.opening ends.begins in omega (arith, counts, grows, below)
+
+-- It has no others if it is the opening one of the next run.
+pub holds_just : (first opening end : Journal) (accepted before after : ℕ) → GoesOn first opening accepted → end ≡ opening
+    → after ≡ before + accepted → HoldsJust first end before after
+holds_just first opening end accepted before after goes same counts =
+    let grows = goes_on_grows first opening accepted goes in
+    let stays = ap position_of same in omega (arith, counts, grows, stays)
+
+-- What is left of workers tells how many changes each reported as accepted.
+pub accepted_mapped : {X : Type 0} (view : X → ServedView) (xs : List X) → accepted_of (map view xs) ≡ sum_by (λ (x : X). (view x).accepted) xs
+accepted_mapped view [] = refl
+accepted_mapped {X} view (x ∷ xs) =
+    let one = sum_by-cons (λ (s : ServedView). s.accepted) (view x) (map view xs) in
+    let same = sum_by-cons (λ (y : X). (view y).accepted) x xs in
+    let more = accepted_mapped view xs in omega (arith, one, same, more)
+
+-- One more run after a count.
+pub counts_then : (before accepted more added now mid after : ℕ) → now ≡ before + accepted → mid ≡ now + added → more ≡ added → after ≡ mid
+    → after ≡ before + (accepted + more)
+counts_then before accepted more added now mid after counts counted same stays = omega (arith, counts, counted, same, stays)
+
+-- After one more run, which led to a journal.
+pub grows_then : (first opening last next : Journal) (served : List ServedView) (accepted before added now mid after : ℕ)
+    → GoesOn first opening accepted → IsReturnedRunOf opening last served → LeadsTo last next → now ≡ before + accepted → mid ≡ now + added
+    → accepted_of served ≡ added → after ≡ mid
+    → (all : ℕ) × GoesOn first next all × (after ≡ before + all)
+grows_then first opening last next served accepted before added now mid after goes run leads counts counted same stays = (
+  accepted + accepted_of served,
+  goes_on_then first opening next accepted _ goes run.1 leads,
+  counts_then before accepted (accepted_of served) added now mid after counts counted same stays,
+)
+
+-- Runs end with a journal to which they led.
+pub ends_now : (first now : Journal) (before after : ℕ) → ((all : ℕ) × GoesOn first now all × (after ≡ before + all)) → EndsOn first now before after
+ends_now first now before after grown = ends_at first now now grown.0 before after grown.1 (begins_with_itself now) grown.2
+
+-- The journal to which runs led has all changes that they reported, and no others.
+pub holds_now : (first now : Journal) (before after : ℕ) → ((all : ℕ) × GoesOn first now all × (after ≡ before + all)) → HoldsJust first now before after
+holds_now first now before after grown = holds_just first now now grown.0 before after grown.1 refl grown.2
+
+-- A run is a run.
+pub term_of : (opening last : Journal) (told : List (Option (List Event))) (served : List ServedView) → IsRun opening last told served
+    → IsReturnedRunOf opening last served
+term_of opening last told served run = (positions_on run.connections, record { told = told; run = run; positions = refl })
