@@ -96,7 +96,10 @@ pub fn status_of(fault: CommandFault) -> u8
         | CommandFault::CannotBind
         | CommandFault::SyncFault
         | CommandFault::AcceptFault => 20,
-        CommandFault::Arguments | CommandFault::NotPast | CommandFault::NotSocket | CommandFault::SocketPath => 21,
+        CommandFault::Arguments
+        | CommandFault::NotPast
+        | CommandFault::NotSocket
+        | CommandFault::SocketPath => 21,
         CommandFault::TornBase => 22,
         CommandFault::Damaged(_) => 23,
         CommandFault::Unlawful(_) => 24,
@@ -227,9 +230,11 @@ pub fn end_by(rt: &impl Eprint, name: &str, end: CommandEnd) -> ExitCode {
     let fault = end.fault;
     let _ = match end.place {
         FaultPlace::Command => eprintln!(rt; "tfstatectl: {fault}"),
-        FaultPlace::Folder | FaultPlace::First | FaultPlace::Past | FaultPlace::Position | FaultPlace::Address => {
-            eprintln!(rt; "tfstatectl: {name}: {fault}")
-        }
+        FaultPlace::Folder
+        | FaultPlace::First
+        | FaultPlace::Past
+        | FaultPlace::Position
+        | FaultPlace::Address => { eprintln!(rt; "tfstatectl: {name}: {fault}") }
         FaultPlace::Old => eprintln!(rt; "tfstatectl: {name}/old: {fault}"),
         FaultPlace::Identity | FaultPlace::OriginalIdentity => eprintln!(rt;
             "tfstatectl: {name}/identity: {fault}"

@@ -73,7 +73,11 @@ impl FolderLock {
         let file = lock_opened(lock_file(rt, folder), FaultPlace::Folder)?;
         match FolderLock::of(rt, folder, directory, file) {
             Ok(lock) => Ok(lock),
-            Err(error) => Err(CommandEnd::by_system(FaultPlace::Folder, CommandFault::CannotRead, &error)),
+            Err(error) => Err(CommandEnd::by_system(
+                FaultPlace::Folder,
+                CommandFault::CannotRead,
+                &error,
+            )),
         }
     }
 
@@ -154,7 +158,11 @@ fn lock_opened(opened: io::Result<File>, place: FaultPlace) -> Result<File, Comm
     match file.try_lock() {
         Ok(()) => Ok(file),
         Err(TryLockError::WouldBlock) => Err(CommandEnd::at(place, CommandFault::Locked)),
-        Err(TryLockError::Error(error)) => Err(CommandEnd::by_system(place, CommandFault::CannotWrite, &error)),
+        Err(TryLockError::Error(error)) => Err(CommandEnd::by_system(
+            place,
+            CommandFault::CannotWrite,
+            &error,
+        )),
     }
 }
 

@@ -125,11 +125,17 @@ fn identity_path(rt: &HostRuntime, folder: &str) -> Result<String, AllocError> {
 }
 
 /// Reads the identity of a folder, if it has one.
-pub(crate) fn read_identity(rt: &HostRuntime, folder: &str) -> Result<Option<Identity>, CommandEnd> {
+pub(crate) fn read_identity(
+    rt: &HostRuntime,
+    folder: &str,
+) -> Result<Option<Identity>, CommandEnd> {
     match load_identity(rt, folder) {
         Ok(identity) => Ok(identity),
         Err(error) => match error.kind() {
-            io::ErrorKind::InvalidData => Err(CommandEnd::at(FaultPlace::Identity, CommandFault::BadIdentity)),
+            io::ErrorKind::InvalidData => Err(CommandEnd::at(
+                FaultPlace::Identity,
+                CommandFault::BadIdentity,
+            )),
             _ => Err(CommandEnd::by_system(FaultPlace::Identity, CommandFault::CannotRead, &error)),
         },
     }

@@ -52,7 +52,11 @@ fn is_own(
         first.as_slice(),
     )) {
         Ok(is_own) => Ok(is_own),
-        Err(error) => Err(CommandEnd::by_system(FaultPlace::Journal(number), CommandFault::CannotRead, &error)),
+        Err(error) => Err(CommandEnd::by_system(
+            FaultPlace::Journal(number),
+            CommandFault::CannotRead,
+            &error,
+        )),
     }
 }
 
@@ -75,15 +79,29 @@ fn first_of(rt: &HostRuntime, folder: &str, number: u64) -> io::Result<Vec<u8>> 
 
 /// Creates the folder's identity if it has none, and marks the journal with this number in it if
 /// the journal is open.
-fn complete(rt: &HostRuntime, folder: &str, chosen: Option<&File>, number: u64) -> Result<(), CommandEnd> {
+fn complete(
+    rt: &HostRuntime,
+    folder: &str,
+    chosen: Option<&File>,
+    number: u64,
+) -> Result<(), CommandEnd> {
     match complete_mark(rt, folder, chosen, number) {
         Ok(()) => Ok(()),
-        Err(error) => Err(CommandEnd::by_system(FaultPlace::Identity, CommandFault::CannotWrite, &error)),
+        Err(error) => Err(CommandEnd::by_system(
+            FaultPlace::Identity,
+            CommandFault::CannotWrite,
+            &error,
+        )),
     }
 }
 
 /// Does the work of [`complete`]. Only durable bytes are marked.
-fn complete_mark(rt: &HostRuntime, folder: &str, chosen: Option<&File>, number: u64) -> io::Result<()> {
+fn complete_mark(
+    rt: &HostRuntime,
+    folder: &str,
+    chosen: Option<&File>,
+    number: u64,
+) -> io::Result<()> {
     let mut identity = new_identity(rt, folder)?;
     if let Some(file) = chosen {
         file.sync_all()?;
@@ -179,7 +197,12 @@ fn are_different(one: Option<&Identity>, other: Option<&Identity>) -> bool {
 /// Gives a folder of copies the identity of the copied folder if that has one, unless the folder of
 /// copies has its own. Marks its journals, and the part files with these numbers whose journals it
 /// lacks, before they get their names.
-pub fn mark_copies(rt: &HostRuntime, from: &str, to: &str, parts: &[u64]) -> Result<(), CommandEnd> {
+pub fn mark_copies(
+    rt: &HostRuntime,
+    from: &str,
+    to: &str,
+    parts: &[u64],
+) -> Result<(), CommandEnd> {
     let known = match read_identity(rt, to)? {
         Some(identity) => Some(identity),
         None => read_identity(rt, from)?,
@@ -189,7 +212,11 @@ pub fn mark_copies(rt: &HostRuntime, from: &str, to: &str, parts: &[u64]) -> Res
     };
     match copies_marked(rt, to, &known, parts) {
         Ok(()) => Ok(()),
-        Err(error) => Err(CommandEnd::by_system(FaultPlace::Identity, CommandFault::CannotWrite, &error)),
+        Err(error) => Err(CommandEnd::by_system(
+            FaultPlace::Identity,
+            CommandFault::CannotWrite,
+            &error,
+        )),
     }
 }
 

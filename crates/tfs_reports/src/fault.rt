@@ -56,7 +56,8 @@ pub fn status_of(fault: ReportFault) -> u8
         ReportFault::BeforeOldest(_) | ReportFault::BehindNewest(_) | ReportFault::NotKept => 32,
         ReportFault::LineageDiffers => 33,
         ReportFault::SerialAtLimit | ReportFault::TooLong | ReportFault::Unplaced => 34,
-        ReportFault::NoAddress | ReportFault::TooManyAddresses | ReportFault::UnknownAddress(_) => 35,
+        ReportFault::NoAddress | ReportFault::TooManyAddresses | ReportFault::UnknownAddress(_) =>
+            35,
     }
 }
 

@@ -7,14 +7,20 @@ use tfs_versions::{Measures, measure, whole_part};
 
 /// Returns the metrics of the valid part of a folder's newest journal, and the fault that follows
 /// that part, if any.
-pub(crate) fn measures_of(rt: &HostRuntime, folder: &str) -> Result<(Measures, Option<ReportEnd>), ReportEnd> {
+pub(crate) fn measures_of(
+    rt: &HostRuntime,
+    folder: &str,
+) -> Result<(Measures, Option<ReportEnd>), ReportEnd> {
     match newest_opening(rt, folder)? {
         Opening::Whole(Newest { len, table }) => Ok((measure(rt.alloc(), len, &table)?, None)),
         Opening::Broken(source, end) => match measures_in(rt.alloc(), &source)? {
             Some(measures) => Ok((measures, Some(end))),
             None => Err(end),
         },
-        Opening::Cut | Opening::Gone => Err(ReportEnd::at(ReportPlace::Folder, ReportFault::Changing)),
+        Opening::Cut | Opening::Gone => Err(ReportEnd::at(
+            ReportPlace::Folder,
+            ReportFault::Changing,
+        )),
     }
 }
 

@@ -46,7 +46,12 @@ pub fn print_impact(
 }
 
 /// Answers a query over the newest journal of a folder.
-fn answer_of(rt: &HostRuntime, folder: &str, name: &Name, query: &Query) -> Result<Impact, ReportEnd> {
+fn answer_of(
+    rt: &HostRuntime,
+    folder: &str,
+    name: &Name,
+    query: &Query,
+) -> Result<Impact, ReportEnd> {
     let table = newest_journal(rt, folder)?.table;
     if table.number(name).is_none() {
         return Err(ReportEnd::at(ReportPlace::Name, ReportFault::NoName));

@@ -1,8 +1,8 @@
 //! Successive runs of workers. Between two runs the journal is rebased into a new sink.
 #![tactic(auto)]
 
-mod tally;
 mod runs;
+mod tally;
 
+pub use runs::{Finish, NotCompacted, Runs, serve_runs};
 pub use tally::Tally;
-pub use runs::{Finish, Runs, NotCompacted, serve_runs};

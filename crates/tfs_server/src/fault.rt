@@ -1,9 +1,9 @@
 //! Errors of compactions and runs.
 
 use tfs_files::CommandFault;
+use tfs_runs::{Finish, NotCompacted};
 use tfs_serve::Obstacle;
 use tfs_table::OpenFault;
-use tfs_runs::{Finish, NotCompacted};
 
 /// The error of a compaction that isn't done, or of a run that doesn't start.
 #[derive(Clone, Copy)]
@@ -60,7 +60,9 @@ pub(crate) fn end_of(finish: Finish<CompactionFault>, has_stopped: bool) -> Comm
         Finish::Unserved(Obstacle::NoPlace) => CommandFault::NoPlace,
         Finish::Unserved(Obstacle::NoListener(fault)) => fault_of(fault),
         Finish::Unserved(Obstacle::NoCopy) => CommandFault::AcceptFault,
-        Finish::Failed(fault) | Finish::NotCompacted(NotCompacted::Failed(fault)) => fault_of(fault),
+        Finish::Failed(fault) | Finish::NotCompacted(NotCompacted::Failed(fault)) => fault_of(
+            fault,
+        ),
         Finish::NotCompacted(NotCompacted::Unopened(fault)) => fault_of(fault_of_opening(fault)),
     }
 }

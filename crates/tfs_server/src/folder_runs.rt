@@ -5,7 +5,7 @@ ghost use Rattle.std.specs.Prelude.{◌≡◌, ◌<◌, length, IfOk};
 use crate::fault::{CompactionFault, fault_of, fault_of_opening};
 use crate::gate::Watching;
 use crate::listening::Listening;
-use crate::notice::{Notice, Compaction};
+use crate::notice::{Compaction, Notice};
 use crate::placing::{journal_of, length_of, name_new, remove, sink_of};
 use crate::serve::Plan;
 use crate::underway::Underway;
@@ -17,9 +17,9 @@ use std::sync::atomic::AtomicBool;
 use std::sync::{Arc, Mutex, Wait};
 use tfs_durable::{Durable, FileDevice};
 use tfs_files::{DurableJournal, JournalSink, PositionFile, ServedJournal};
+use tfs_runs::{NotCompacted, Runs, Tally};
 use tfs_serve::{AcceptFault, AnyListener, AnyStream, Served, first_fault};
 use tfs_table::Table;
-use tfs_runs::{Tally, Runs, NotCompacted};
 
 /// The runs of a folder: what they share, what to report when the next one starts, and the journal
 /// in place.

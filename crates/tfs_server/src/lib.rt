@@ -2,14 +2,14 @@
 #![tactic(auto)]
 
 mod fault;
+mod folder_runs;
 mod gate;
 mod listening;
 mod moments;
 mod notice;
 mod placing;
 mod serve;
-mod folder_runs;
 mod underway;
 mod watch;
 
-pub use serve::{StartedFolder, Bounds, Left, Plan, serve_folder};
+pub use serve::{Bounds, Left, Plan, StartedFolder, serve_folder};

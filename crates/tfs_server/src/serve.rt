@@ -4,8 +4,8 @@ ghost use Rattle.std.specs.Prelude.{◌≡◌, ◌≤◌};
 ghost use Rattle.tfs_runs.specs.Runs.{EndsOn, HoldsAll};
 
 use crate::fault::end_of;
-use crate::notice::Notice;
 use crate::folder_runs::FolderRuns;
+use crate::notice::Notice;
 use crate::watch::Watch;
 use std::cell::Cell;
 use std::snapshot::Snapshot;
@@ -13,11 +13,11 @@ use std::sync::{Arc, Mutex, Wait};
 use std::thread::Threads;
 use std::time::Clock;
 use tfs_files::{
-    DurableJournal, CommandFault, FolderLock, JournalSink, PositionFile, Retention, ServedJournal,
+    CommandFault, DurableJournal, FolderLock, JournalSink, PositionFile, Retention, ServedJournal,
 };
+use tfs_runs::{Tally, serve_runs};
 use tfs_serve::{AcceptFault, AnyListener};
 use tfs_table::Table;
-use tfs_runs::{Tally, serve_runs};
 
 /// How much the journal of a run may grow before it is compacted, in bytes and in entries.
 #[derive(Clone, Copy)]

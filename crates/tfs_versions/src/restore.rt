@@ -42,7 +42,11 @@ impl From<AllocError> for RestoreFault {
 /// Returns the text that restores a version of a state. If there is a newest state, it is the
 /// version's text with a serial one higher than the newest; otherwise it is the version's text
 /// unchanged.
-pub fn restore_text(alloc: Global, newest: Option<&Doc>, version: &Doc) -> Result<Vec<u8>, RestoreFault>
+pub fn restore_text(
+    alloc: Global,
+    newest: Option<&Doc>,
+    version: &Doc,
+) -> Result<Vec<u8>, RestoreFault>
     ensures ok { IfOk result (λ text. IsRestored (option_map (λ doc. doc.now) newest.entry) version.now text.items) }
     ensures err { IfErr result (IsUnrestoredFor (option_map (λ doc. doc.now) newest.entry) version.now) }
 {

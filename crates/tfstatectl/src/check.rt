@@ -4,7 +4,9 @@
 use std::alloc::Global;
 use std::io::{self, Write};
 use std::process::ExitCode;
-use tfs_files::{CommandEnd, CommandFault, FaultPlace, end_by, files_of, numbers_here, old_file, old_numbers};
+use tfs_files::{
+    CommandEnd, CommandFault, FaultPlace, end_by, files_of, numbers_here, old_file, old_numbers,
+};
 use tfs_folder::{Chosen, FolderFile, choose};
 use tfs_journal::End as JournalEnd;
 use tfs_records::Discard;
@@ -41,7 +43,11 @@ fn check_folder(rt: &HostRuntime, folder: &str) -> Result<(), CommandEnd> {
 fn tell_old(rt: &HostRuntime, folder: &str) -> Result<(), CommandEnd> {
     let numbers = match old_numbers(rt, folder) {
         Ok(numbers) => numbers,
-        Err(error) => return Err(CommandEnd::by_system(FaultPlace::Old, CommandFault::CannotRead, &error)),
+        Err(error) => return Err(CommandEnd::by_system(
+            FaultPlace::Old,
+            CommandFault::CannotRead,
+            &error,
+        )),
     };
     for number in numbers {
         if let Some(file) = old_file(rt, folder, number)? {

@@ -9,7 +9,7 @@ use std::alloc::{AllocError, Global};
 use std::env;
 use std::process::ExitCode;
 use std::rt::Env;
-use tfs_files::{CommandEnd, CommandFault, Limits, FaultPlace, Retention, Start, end_by};
+use tfs_files::{CommandEnd, CommandFault, FaultPlace, Limits, Retention, Start, end_by};
 use tfs_server::Bounds;
 
 /// The request of `serve`.
@@ -155,11 +155,19 @@ pub(crate) fn folder_of<'a>(given: &ArgMatches<'a>) -> &'a str {
 /// Returns the words of the command line. Their numbers with K, M or G are written out.
 pub(crate) fn words_of(rt: &(impl AllocGlobal + Env + Eprint)) -> Result<Vec<String>, ExitCode> {
     let Ok(words) = env::args(rt) else {
-        return Err(end_by(rt, "", CommandEnd::at(FaultPlace::Command, CommandFault::Arguments)));
+        return Err(end_by(
+            rt,
+            "",
+            CommandEnd::at(FaultPlace::Command, CommandFault::Arguments),
+        ));
     };
     match collect_words(rt.alloc(), words) {
         Ok(words) => Ok(words),
-        Err(_) => Err(end_by(rt, "", CommandEnd::at(FaultPlace::Command, CommandFault::OutOfMemory))),
+        Err(_) => Err(end_by(
+            rt,
+            "",
+            CommandEnd::at(FaultPlace::Command, CommandFault::OutOfMemory),
+        )),
     }
 }
 

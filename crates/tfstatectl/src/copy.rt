@@ -5,9 +5,10 @@ use crate::command::Copying;
 use std::process::ExitCode;
 use std::{fs, io};
 use tfs_files::{
-    DurableJournal, CommandEnd, CommandFault, FolderLock, Gap, Originals, FaultPlace, PositionFile, end_by,
-    least_position, lock_folder, mark_copies, name_parts, numbers_here, raise_least, read_originals,
-    refuse_other_copies, refuse_other_original, refuse_served, remove_expired, retire, write_parts,
+    CommandEnd, CommandFault, DurableJournal, FaultPlace, FolderLock, Gap, Originals, PositionFile,
+    end_by, least_position, lock_folder, mark_copies, name_parts, numbers_here, raise_least,
+    read_originals, refuse_other_copies, refuse_other_original, refuse_served, remove_expired,
+    retire, write_parts,
 };
 use tfs_folder::{Chosen, FolderFile, choose};
 
@@ -167,7 +168,11 @@ fn keep(
 
 /// Retires the journals before this one, which continues the last of them, and removes expired
 /// ones.
-fn tidy(rt: &HostRuntime, asked: &Copying<'_>, journal: DurableJournal<'_>) -> Result<(), CommandEnd> {
+fn tidy(
+    rt: &HostRuntime,
+    asked: &Copying<'_>,
+    journal: DurableJournal<'_>,
+) -> Result<(), CommandEnd> {
     let here = numbers_here(rt, journal.folder())?;
     retire(rt, here.as_slice(), journal)?;
     let _ = remove_expired(rt, journal.folder(), asked.keep);
@@ -197,6 +202,10 @@ fn tell(rt: &HostRuntime, newest: Newest) -> ExitCode {
     let Newest { number, position } = newest;
     match println!(rt; "copied journal-{number:010}.tfj up to position {position}") {
         Ok(()) => ExitCode::SUCCESS,
-        Err(_) => end_by(rt, "", CommandEnd::at(FaultPlace::Command, CommandFault::Write)),
+        Err(_) => end_by(
+            rt,
+            "",
+            CommandEnd::at(FaultPlace::Command, CommandFault::Write),
+        ),
     }
 }

@@ -2,7 +2,9 @@
 
 use std::fs;
 use std::process::ExitCode;
-use tfs_files::{CommandEnd, FIRST_NUMBER, CommandFault, FaultPlace, end_by, lock_folder, make_first};
+use tfs_files::{
+    CommandEnd, CommandFault, FIRST_NUMBER, FaultPlace, end_by, lock_folder, make_first,
+};
 
 /// Creates a folder with its first journal, and prints the journal's path. Returns the program's
 /// exit status.

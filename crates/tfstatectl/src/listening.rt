@@ -40,7 +40,11 @@ fn listen_locally(rt: &HostRuntime, path: &str) -> Result<AnyListener, CommandEn
     }
     match bind_local(rt, path) {
         Ok(listener) => Ok(AnyListener::Local(listener)),
-        Err(error) => Err(CommandEnd::by_system(FaultPlace::Address, CommandFault::CannotBind, &error)),
+        Err(error) => Err(CommandEnd::by_system(
+            FaultPlace::Address,
+            CommandFault::CannotBind,
+            &error,
+        )),
     }
 }
 

@@ -53,7 +53,11 @@ fn run_command<R: AllocGlobal + Threads + Wait + Clock + Sync>(
 ) -> ExitCode {
     match matches.subcommand() {
         Some((command, given)) => run_named(rt, host, command, given),
-        None => end_by(host, "", CommandEnd::at(FaultPlace::Command, CommandFault::Arguments)),
+        None => end_by(
+            host,
+            "",
+            CommandEnd::at(FaultPlace::Command, CommandFault::Arguments),
+        ),
     }
 }
 

@@ -4,7 +4,9 @@
 use crate::command::folder_of;
 use clap::ArgMatches;
 use std::process::ExitCode;
-use tfs_reports::{ReportEnd, Form, end_by, history, list, print_impact, query_of, restore, show, stats};
+use tfs_reports::{
+    Form, ReportEnd, end_by, history, list, print_impact, query_of, restore, show, stats,
+};
 
 /// Runs a command that reads a folder. Returns the program's exit status.
 pub(crate) fn run(rt: &HostRuntime, command: &str, given: &ArgMatches<'_>) -> ExitCode {
@@ -39,7 +41,12 @@ fn report(
 }
 
 /// Prints what a change reaches.
-fn report_impact(rt: &HostRuntime, folder: &str, name: &str, given: &ArgMatches<'_>) -> Result<(), ReportEnd> {
+fn report_impact(
+    rt: &HostRuntime,
+    folder: &str,
+    name: &str,
+    given: &ArgMatches<'_>,
+) -> Result<(), ReportEnd> {
     let is_all = given.get_str("QUERY") == Some("all");
     let addresses = given.get_strs("ADDRESS").unwrap_or(&[]);
     let form = if given.get_flag("answer-only") {

@@ -7,9 +7,9 @@ use std::process::ExitCode;
 use std::sync::Wait;
 use std::thread::Threads;
 use std::time::Clock;
-use tfs_files::{CommandEnd, CommandFault, FolderLock, Made, FaultPlace, end_by, status_of};
+use tfs_files::{CommandEnd, CommandFault, FaultPlace, FolderLock, Made, end_by, status_of};
 use tfs_serve::AcceptFault;
-use tfs_server::{StartedFolder, Left, Plan, serve_folder};
+use tfs_server::{Left, Plan, StartedFolder, serve_folder};
 
 /// Serves a folder until an error ends the server. Returns the program's exit status.
 pub(crate) fn run<R: AllocGlobal + Threads + Wait + Clock + Sync>(

@@ -4,8 +4,8 @@ use crate::command::Serving;
 use crate::listening::listen;
 use std::fs;
 use tfs_files::{
-    CommandEnd, CommandFault, FolderLock, Made, FaultPlace, PositionFile, Start, least_position, lock_folder, raise_least,
-    refuse_small_stack, start_journal,
+    CommandEnd, CommandFault, FaultPlace, FolderLock, Made, PositionFile, Start, least_position,
+    lock_folder, raise_least, refuse_small_stack, start_journal,
 };
 use tfs_serve::AnyListener;
 
@@ -54,7 +54,11 @@ fn begin<'f>(
 }
 
 /// Makes the folder's next journal, which starts at this position or a higher one.
-fn start_from<'f>(rt: &HostRuntime, asked: &Serving<'f>, least: u64) -> Result<Made<'f>, CommandEnd> {
+fn start_from<'f>(
+    rt: &HostRuntime,
+    asked: &Serving<'f>,
+    least: u64,
+) -> Result<Made<'f>, CommandEnd> {
     let start = Start {
         least,
         ..asked.start

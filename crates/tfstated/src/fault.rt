@@ -13,7 +13,11 @@ pub(crate) fn end_by(rt: &impl Eprint, fault: ProgramFault) -> ExitCode {
 }
 
 /// Ends because a file can't be read or created: by this fault, or by NoMemory if memory ran out.
-pub(crate) fn end_without_file(rt: &impl Eprint, fault: ProgramFault, error: &io::Error) -> ExitCode {
+pub(crate) fn end_without_file(
+    rt: &impl Eprint,
+    fault: ProgramFault,
+    error: &io::Error,
+) -> ExitCode {
     match error.kind() {
         io::ErrorKind::OutOfMemory => end_by(rt, ProgramFault::NoMemory),
         _ => end_by(rt, fault),
