@@ -1,4 +1,4 @@
-//! The table of refusals in docs/JOURNAL.md (Refusals).
+//! The table of refusals in docs/PROTOCOL.md (Refusals).
 
 use crate::helpers::{A, info_of};
 use crate::lines::expect_that;
