@@ -11,6 +11,7 @@ pub data Call : Type 0 where
   look_for : ℕ → Call
   name_part : ℕ → ℕ → Call
   name_copy : ℕ → Call
+  name_new : ℕ → Call
   sync_names : Call
   remove_part : ℕ → Call
   retire : ℕ → ℕ → Call
@@ -38,6 +39,10 @@ Lacked folder number = Unit {0}
 -- The part file, which was synced, was renamed to the journal of the second number.
 pub IsNamed : List ℕ → ℕ → ℕ → Type 0
 IsNamed folder part number = Unit {0}
+
+-- The part file was renamed to the journal of its number, of which the folder had none.
+pub IsNew : List ℕ → ℕ → Type 0
+IsNew folder number = Unit {0}
 
 -- The bytes and the name of the journal of this number are synced.
 pub IsDurable : List ℕ → ℕ → Type 0
@@ -92,6 +97,10 @@ host_lacked folder number = tt
 pub host_named : (folder : List ℕ) (part number : ℕ) → IsNamed folder part number
 unfolding IsNamed
 host_named folder part number = tt
+
+pub host_new : (folder : List ℕ) (number : ℕ) → IsNew folder number
+unfolding IsNew
+host_new folder number = tt
 
 pub host_durable : (folder : List ℕ) (number : ℕ) → IsDurable folder number
 unfolding IsDurable

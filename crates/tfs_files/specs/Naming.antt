@@ -1,19 +1,23 @@
 -- How journals get their names, how older ones are retired, and why that fails.
 use Rattle.std.specs.Prelude.{◌≡◌, ◌<◌, ◌⊎◌, ℕ, List, length, slice_index_or}
-use Rattle.tfs_files.specs.FolderFacts.{sync_part, mark_part, look_for, name_part, name_copy, sync_names, retire, HasFailed, Had, IsNamed, IsRetired}
+use Rattle.tfs_files.specs.FolderFacts.{sync_part, mark_part, look_for, name_part, name_copy, name_new, sync_names, retire, HasFailed, Had, IsNamed, IsRetired}
 use Rattle.tfs_files.specs.declared.naming.NamingFault.{NamingFault}
 use Rattle.tfs_files.specs.declared.naming.NamingFault.TheVariants.{Unnamed, Unsynced}
 use Rattle.tfs_files.specs.declared.fault.CommandEnd.{CommandEnd}
 use Rattle.tfs_files.specs.declared.fault.FaultPlace.TheVariants.{Journal}
 
+-- Why a part file isn't marked: its sync or its mark failed.
+abbrev pub IsUnmarked : List ℕ → ℕ → ℕ → Type 0
+IsUnmarked folder part number = HasFailed folder (sync_part part) ⊎ HasFailed folder (mark_part part number)
+
 -- Why a part file wasn't renamed to a journal: its sync, its mark or the renaming failed.
 abbrev pub IsUnnamed : List ℕ → ℕ → ℕ → Type 0
-IsUnnamed folder part number = HasFailed folder (sync_part part) ⊎ (HasFailed folder (mark_part part number) ⊎ HasFailed folder (name_part part number))
+IsUnnamed folder part number = IsUnmarked folder part number ⊎ HasFailed folder (name_part part number)
 
 -- Why a new journal didn't get its name: the folder has a journal of its number, or couldn't be
 -- searched for one, or the part file wasn't renamed.
 abbrev pub IsUnnamedNew : List ℕ → ℕ → Type 0
-IsUnnamedNew folder number = (Had folder number ⊎ HasFailed folder (look_for number)) ⊎ IsUnnamed folder number number
+IsUnnamedNew folder number = (Had folder number ⊎ HasFailed folder (look_for number)) ⊎ (IsUnmarked folder number number ⊎ HasFailed folder (name_new number))
 
 -- Why a copy didn't get its name: its sync or the renaming failed.
 abbrev pub IsUnnamedCopy : List ℕ → ℕ → Type 0

@@ -27,9 +27,7 @@ pub use first::{FIRST_NUMBER, make_first};
 pub use folder::{files_of, journal_path, numbers_here, numbers_in, old_numbers, refuse_served};
 pub use guard::{FolderLock, ServedJournal, lock_folder};
 pub use marks::MOST_MARKED;
-pub use naming::{
-    DurableJournal, FolderFiles, InPlace, NamingFault, place, place_copy, place_new, retire,
-};
+pub use naming::{DurableJournal, FolderFiles, NamingFault, place, place_copy, place_new, retire};
 pub use next::{JournalSink, part_path, remove_part, sink_of};
 pub use old::remove_expired;
 pub use own::{mark_copies, mark_grown, refuse_other_copies, refuse_other_original};

@@ -24,13 +24,13 @@ use tfs_table::Table;
 /// The runs of a folder: what they share, what to report when the next one starts, and the journal
 /// in place.
 #[derive(Drop)]
-pub(crate) struct FolderRuns<'t, R: AllocGlobal + Wait> {
+pub(crate) struct FolderRuns<'t, 'w, R: AllocGlobal + Wait> {
     pub(crate) rt: &'t R,
     pub(crate) host: &'t HostRuntime,
-    pub(crate) plan: &'t Plan<'t>,
-    pub(crate) watch: &'t Watch<'t>,
+    pub(crate) plan: &'w Plan<'w>,
+    pub(crate) watch: &'t Watch<'w>,
     pub(crate) journal: Arc<ServedJournal>,
-    pub(crate) in_place: DurableJournal<'t>,
+    pub(crate) in_place: DurableJournal<'w>,
     pub(crate) least: &'t Mutex<Option<PositionFile>>,
     pub(crate) listener: &'t AnyListener,
     pub(crate) notice: Cell<Notice>,
@@ -39,7 +39,7 @@ pub(crate) struct FolderRuns<'t, R: AllocGlobal + Wait> {
     pub(crate) reported: Tally,
 }
 
-impl<'t, R: AllocGlobal + Wait> FolderRuns<'t, R> {
+impl<'t, 'w, R: AllocGlobal + Wait> FolderRuns<'t, 'w, R> {
     /// Returns the number of the next journal.
     fn next_number(&self) -> Result<u64, CompactionFault>
         ensures after { IfOk result (λ number. self.now.in_place.number < number) }
@@ -61,18 +61,18 @@ impl<'t, R: AllocGlobal + Wait> FolderRuns<'t, R> {
     }
 }
 
-impl<'t, R: AllocGlobal + Wait + Sync> Runs for FolderRuns<'t, R> {
+impl<'t, 'w, R: AllocGlobal + Wait + Sync> Runs for FolderRuns<'t, 'w, R> {
     ghost use Rattle.std.specs.Prelude.{◌≡◌, ◌≤◌, ◌<◌, ◌+◌, [], false, length, sum_by, IfOk, OnOk, OnErr, IfSome};
     ghost use Rattle.tfs_runs.specs.declared.runs.NotCompacted.TheVariants.{Failed};
     ghost use Rattle.tfs_server.specs.declared.fault.CompactionFault.TheVariants.{Replaced, Unsynced};
 
-    type Gate = Watching<'t, R>;
+    type Gate = Watching<'t, 'w, R>;
 
     type Sink = JournalSink;
 
     type Stream = AnyStream;
 
-    type Listener = Listening<'t>;
+    type Listener = Listening<'t, 'w>;
 
     type Fault = CompactionFault;
 
@@ -80,14 +80,14 @@ impl<'t, R: AllocGlobal + Wait + Sync> Runs for FolderRuns<'t, R> {
 
     ghost reported = { λ t. t.reported.count };
 
-    fn gates(&self, table: &Table<JournalSink>) -> Result<Vec<Watching<'t, R>>, CompactionFault> {
+    fn gates(&self, table: &Table<JournalSink>) -> Result<Vec<Watching<'t, 'w, R>>, CompactionFault> {
         match gates_of(self, table.sink().durable()) {
             Ok(gates) => Ok(gates),
             Err(_) => Err(CompactionFault::NoMemory),
         }
     }
 
-    fn listen(&self) -> Result<Listening<'t>, CompactionFault> {
+    fn listen(&self) -> Result<Listening<'t, 'w>, CompactionFault> {
         let waited = self.watch.go_on();
         let notice = self.notice.replace(Notice::Nothing);
         if notice.tell(self.host, self.plan, waited).is_err() {
@@ -111,7 +111,11 @@ impl<'t, R: AllocGlobal + Wait + Sync> Runs for FolderRuns<'t, R> {
         Some(self.watch.muted())
     }
 
-    fn goes_on(&mut self, last: &Table<JournalSink>, served: &[Served<Watching<'t, R>>]) -> bool {
+    fn goes_on(
+        &mut self,
+        last: &Table<JournalSink>,
+        served: &[Served<Watching<'t, 'w, R>>],
+    ) -> bool {
         self.accepting = first_fault(served);
         self.reported = self.reported.with(served);
         self.watch.is_ended()
@@ -141,7 +145,7 @@ impl<'t, R: AllocGlobal + Wait + Sync> Runs for FolderRuns<'t, R> {
         self.in_place = name_new(self.host, folder, number)?;
         self.placed = Snapshot::of(next);
         self.journal = journal;
-        self.watch.open(self.in_place, next.position());
+        self.watch.open(self.rt, self.in_place, next.position());
         let (position, names) = (next.position(), next.names());
         let after = self.watch.bytes();
         self.notice.set(Notice::Compaction(Compaction {
@@ -174,10 +178,10 @@ impl<'t, R: AllocGlobal + Wait + Sync> Runs for FolderRuns<'t, R> {
 }
 
 /// Makes a gate for each worker.
-fn gates_of<'t, R: AllocGlobal + Wait>(
-    folder_runs: &FolderRuns<'t, R>,
+fn gates_of<'t, 'w, R: AllocGlobal + Wait>(
+    folder_runs: &FolderRuns<'t, 'w, R>,
     durable: &Arc<Durable<FileDevice>>,
-) -> Result<Vec<Watching<'t, R>>, AllocError>
+) -> Result<Vec<Watching<'t, 'w, R>>, AllocError>
     ensures as_many { IfOk result (λ gates. length gates.items ≡ folder_runs.now.plan.now.workers) }
 {
     let alloc = folder_runs.rt.alloc();
@@ -191,12 +195,12 @@ fn gates_of<'t, R: AllocGlobal + Wait>(
 }
 
 /// Makes the gate of a worker.
-fn gate_of<'t, R: AllocGlobal + Wait>(
-    folder_runs: &FolderRuns<'t, R>,
+fn gate_of<'t, 'w, R: AllocGlobal + Wait>(
+    folder_runs: &FolderRuns<'t, 'w, R>,
     durable: Arc<Durable<FileDevice>>,
     underway: &Arc<Underway>,
     worker: usize,
-) -> Result<Watching<'t, R>, AllocError> {
+) -> Result<Watching<'t, 'w, R>, AllocError> {
     Ok(Watching {
         rt: folder_runs.rt,
         watch: folder_runs.watch,

@@ -23,9 +23,9 @@ use tfs_table::{Call, Refusal, Reply};
 /// The gate raises the least position with each accepted change, after the change is durable and
 /// without a sync. If the file can't be written, its position lags.
 #[derive(Drop)]
-pub(crate) struct Watching<'g, R: AllocGlobal + Wait> {
+pub(crate) struct Watching<'g, 'w, R: AllocGlobal + Wait> {
     pub(crate) rt: &'g R,
-    pub(crate) watch: &'g Watch<'g>,
+    pub(crate) watch: &'g Watch<'w>,
     pub(crate) durable: Arc<Durable<FileDevice>>,
     pub(crate) journal: Arc<ServedJournal>,
     pub(crate) least: &'g Mutex<Option<PositionFile>>,
@@ -36,7 +36,7 @@ pub(crate) struct Watching<'g, R: AllocGlobal + Wait> {
     pub(crate) read: Option<u64>,
 }
 
-impl<'g, R: AllocGlobal + Wait> Watching<'g, R> {
+impl<'g, 'w, R: AllocGlobal + Wait> Watching<'g, 'w, R> {
     /// Raises the position in the file, if there is one.
     fn raise(&self, position: u64) {
         let mut guard = self.least.lock(self.rt);
@@ -56,7 +56,7 @@ impl<'g, R: AllocGlobal + Wait> Watching<'g, R> {
     }
 }
 
-impl<'g, R: AllocGlobal + Wait> Gate for Watching<'g, R> {
+impl<'g, 'w, R: AllocGlobal + Wait> Gate for Watching<'g, 'w, R> {
     ghost use Rattle.std.specs.Prelude.{None};
 
     ghost told = { λ gate. None };

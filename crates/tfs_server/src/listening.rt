@@ -10,13 +10,13 @@ use tfs_serve::{AnyListener, AnyStream};
 /// A listener that a run borrows. When a wait for a connection times out, it checks whether a
 /// compaction is due.
 #[derive(Drop)]
-pub(crate) struct Listening<'l> {
+pub(crate) struct Listening<'l, 'w> {
     pub(crate) listener: &'l AnyListener,
-    pub(crate) watch: &'l Watch<'l>,
+    pub(crate) watch: &'l Watch<'w>,
     pub(crate) journal: Arc<ServedJournal>,
 }
 
-impl<'l> OpenListener for Listening<'l> {
+impl<'l, 'w> OpenListener for Listening<'l, 'w> {
     type Stream = AnyStream;
 
     fn accept(&self) -> io::Result<(AnyStream, SocketAddr)> {

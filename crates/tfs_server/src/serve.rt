@@ -88,7 +88,7 @@ pub fn serve_folder<R: AllocGlobal + Threads + Wait + Clock + Sync>(
     };
     let least = Mutex::new(least);
     let watch = Watch::new(host, lock, plan, in_place);
-    watch.open(in_place, table.base().position());
+    watch.open(rt, in_place, table.base().position());
     let mut folder_runs = FolderRuns {
         rt,
         host,
