@@ -80,7 +80,10 @@ impl<'t, 'w, R: AllocGlobal + Wait + Sync> Runs for FolderRuns<'t, 'w, R> {
 
     ghost reported = { λ t. t.reported.count };
 
-    fn gates(&self, table: &Table<JournalSink>) -> Result<Vec<Watching<'t, 'w, R>>, CompactionFault> {
+    fn gates(
+        &self,
+        table: &Table<JournalSink>,
+    ) -> Result<Vec<Watching<'t, 'w, R>>, CompactionFault> {
         match gates_of(self, table.sink().durable()) {
             Ok(gates) => Ok(gates),
             Err(_) => Err(CompactionFault::NoMemory),
