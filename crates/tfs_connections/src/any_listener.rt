@@ -2,6 +2,7 @@
 
 use crate::limits::{LOOK_MILLISECONDS, MAX_WAITING};
 use crate::transport::Connection;
+use crate::written::Text;
 use std::fs::{self, Files, Permissions};
 use std::io;
 use std::net::{IpAddr, Ipv4Addr, Net, OpenListener, SocketAddr, TcpListener, TcpStream};
@@ -62,10 +63,10 @@ impl Connection for AnyStream {
         }
     }
 
-    fn send(&self, text: &[u8]) -> io::Result<usize> {
+    fn send(&self, text: &[u8], written: &mut Text) -> io::Result<usize> {
         match self {
-            AnyStream::Tcp(stream) => stream.send(text),
-            AnyStream::Local(stream) => stream.send(text),
+            AnyStream::Tcp(stream) => stream.send(text, written),
+            AnyStream::Local(stream) => stream.send(text, written),
         }
     }
 

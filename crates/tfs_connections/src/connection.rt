@@ -87,12 +87,22 @@ pub struct Outgoing<'t, 'r, 'e, R: Clock, S: Write> {
 
 impl<'t, 'r, 'e, R: Clock, S: Write> Outgoing<'t, 'r, 'e, R, S> {
     /// Wraps a stream that hasn't failed.
-    pub fn new(timing: &'t Timing<'r, 'e, R>, stream: S) -> Outgoing<'t, 'r, 'e, R, S> {
+    pub fn new(timing: &'t Timing<'r, 'e, R>, stream: S) -> Outgoing<'t, 'r, 'e, R, S>
+        ensures stream { result.stream ≡ stream }
+    {
         Outgoing {
             timing,
             stream,
             has_failed: false,
         }
+    }
+
+    /// The stream.
+    pub(crate) fn into_stream(self) -> S
+        ensures stream { result ≡ self.entry.stream }
+    {
+        let Outgoing { stream, .. } = self;
+        stream
     }
 }
 

@@ -6,8 +6,10 @@ mod any_listener;
 mod connection;
 mod limits;
 mod load;
+mod reception;
 mod timing;
 mod transport;
+mod written;
 
 pub use accepting::{
     AcceptError, AcceptFault, Listener, Listening, PAUSE_MILLISECONDS, Remedy, let_wait,
@@ -21,5 +23,7 @@ pub use limits::{
     SLOW_BYTES_A_SECOND, SLOW_SECONDS, WORKERS_FOR_A_SLOW_CLIENT,
 };
 pub use load::Load;
+pub use reception::{Reception, Setting};
 pub use timing::Timing;
-pub use transport::{Connection, LentConnection};
+pub use transport::Connection;
+pub use written::{Text, Written};

@@ -1,7 +1,10 @@
 //! Connections over TCP and unix sockets.
 
+ghost use Rattle.std.specs.Prelude.{◌≡◌, []};
+
 use crate::any_listener::AnyStream;
 use crate::limits::LOOK_MILLISECONDS;
+use crate::written::Text;
 use std::io::{self, Read, Write};
 use std::net::TcpStream;
 use std::os::unix::net::UnixStream;
@@ -9,7 +12,9 @@ use std::time::Duration;
 
 /// A connection to a client.
 pub trait Connection {
+    ghost use Rattle.std.specs.Prelude.{Some};
     ghost use Rattle.std.specs.Io.{ReadsAtMost, WritesAtMost};
+    ghost use Rattle.std.specs.Io.KnownBytes.{WriteAppends};
 
     /// Sets a timeout of `LOOK_MILLISECONDS` on reads and writes, and has each write sent at once.
     fn limit(&self) -> io::Result<()>;
@@ -19,8 +24,9 @@ pub trait Connection {
         ensures bound { ReadsAtMost result buf.new };
 
     /// Writes once.
-    fn send(&self, text: &[u8]) -> io::Result<usize>
-        ensures bound { WritesAtMost result text.now };
+    fn send(&self, text: &[u8], written: &mut Text) -> io::Result<usize>
+        ensures bound { WritesAtMost result text.now }
+        ensures bytes { WriteAppends (Some written.old.bytes) (Some written.new.bytes) result text.now };
 
     /// Converts the connection to the type that workers take.
     fn into_any(self) -> AnyStream;
@@ -39,9 +45,11 @@ impl Connection for TcpStream {
         stream.read(buf)
     }
 
-    fn send(&self, text: &[u8]) -> io::Result<usize> {
+    fn send(&self, text: &[u8], written: &mut Text) -> io::Result<usize> {
         let mut stream = self;
-        stream.write(text)
+        let count = stream.write(text)?;
+        written.note(&text[..count]);
+        Ok(count)
     }
 
     fn into_any(self) -> AnyStream {
@@ -61,9 +69,11 @@ impl Connection for UnixStream {
         stream.read(buf)
     }
 
-    fn send(&self, text: &[u8]) -> io::Result<usize> {
+    fn send(&self, text: &[u8], written: &mut Text) -> io::Result<usize> {
         let mut stream = self;
-        stream.write(text)
+        let count = stream.write(text)?;
+        written.note(&text[..count]);
+        Ok(count)
     }
 
     fn into_any(self) -> AnyStream {
@@ -73,14 +83,20 @@ impl Connection for UnixStream {
 
 /// A reader and a writer over a borrowed connection.
 #[derive(Drop)]
-pub struct LentConnection<'c, C: Connection> {
+pub(crate) struct LentConnection<'c, C: Connection> {
     connection: &'c C,
+    pub(crate) written: Text,
 }
 
 impl<'c, C: Connection> LentConnection<'c, C> {
     /// Wraps a borrowed connection.
-    pub fn of(connection: &'c C) -> LentConnection<'c, C> {
-        LentConnection { connection }
+    pub(crate) fn of(connection: &'c C) -> LentConnection<'c, C>
+        ensures written { result.written.bytes ≡ [] }
+    {
+        LentConnection {
+            connection,
+            written: Text::new(),
+        }
     }
 }
 
@@ -91,8 +107,13 @@ impl<'c, C: Connection> Read for LentConnection<'c, C> {
 }
 
 impl<'c, C: Connection> Write for LentConnection<'c, C> {
+    ghost use Rattle.std.specs.Prelude.{Some};
+
+    // The bytes that the connection took.
+    ghost contents = { λ c. Some c.written.bytes };
+
     fn write(&mut self, text: &[u8]) -> io::Result<usize> {
-        self.connection.send(text)
+        self.connection.send(text, &mut self.written)
     }
 
     fn flush(&mut self) -> io::Result<()> {

@@ -1,11 +1,12 @@
 -- Steps of one desk that are steps of another, and what steps keep.
-use Rattle.std.proofs.Common.{◌≡◌, List, ℕ, [], ◌∷◌, Option, Result, Ok, Err, IfOk, IfErr, ◌∙◌, ap, inl, inr}
+use Rattle.std.proofs.Common.{◌≡◌, List, ℕ, [], ◌∷◌, Option, Some, None, Result, Ok, Err, IfOk, IfErr, MatchResult, refl, sym, ◌∙◌, ap, subst, inl, inr, arith}
 use Rattle.std.specs.Io.KnownBytes.{Appends, Consumes}
 use Rattle.tfs_calls.specs.declared.call.Call.{Call}
 use Rattle.tfs_calls.specs.Reply.{ReplyValue}
 use Rattle.tfs_framing.specs.Request.{RequestValue}
-use Rattle.tfs_conversation.specs.Conversation.{AnswersRequest, Exchange, Runs, Course, TakesCourse, Converses, BreaksOff, ComesInReads}
+use Rattle.tfs_conversation.specs.Conversation.{AnswersRequest, Exchange, Runs, Course, TakesCourse, Converses, BreaksOff, ComesInReads, HasTalked}
 use Rattle.tfs_conversation.specs.declared.ended.Ended.{Ended}
+use Rattle.tfs_conversation.specs.declared.ended.Ended.TheVariants.{Clean}
 use Rattle.tfs_http.specs.declared.fault.ServeFault.{ServeFault}
 
 -- Where each step of a desk is one of another over a view of it, the same holds of whole conversations.
@@ -87,3 +88,52 @@ call_keeps step part keeps old new from to into onto before after (Ok ended) c b
     runs_keep step part keeps old new c.5.course.exchanges c.5.takes.run
 call_keeps step part keeps old new from to into onto before after (Err fault) c b =
     runs_keep step part keeps old new b.5.course.exchanges b.5.takes.run
+
+-- A call that had a conversation, into a writer that held nothing, has written this text.
+pub has_talked : {S : Type 0} (step : S → Call → ReplyValue → S → Type 0) (old new : S) (from to : Option (List ℕ)) (text : List ℕ) (after : ℕ)
+    (result : Result Ended ServeFault)
+    → IfOk result (λ ended. (bytes : List ℕ) × (t : List ℕ) × Consumes from to bytes × Appends (Some []) (Some text) t
+    × ComesInReads bytes 0 after × Converses step old new bytes t ended)
+    → IfErr result (λ fault. (bytes : List ℕ) × (t : List ℕ) × Consumes from to bytes × Appends (Some []) (Some text) t
+    × ComesInReads bytes 0 after × BreaksOff step old new bytes t fault 0 after)
+    → HasTalked step old new text
+has_talked step old new from to text after (Ok ended) c b = record {
+  bytes = c.0;
+  reads = after;
+  came = c.4;
+  end = Ok ended;
+  talk = subst (λ (t : List ℕ). Converses step old new c.0 t ended) (sym c.3) c.5;
+}
+has_talked step old new from to text after (Err fault) c b = record {
+  bytes = b.0;
+  reads = after;
+  came = b.4;
+  end = Err fault;
+  talk = subst (λ (t : List ℕ). BreaksOff step old new b.0 t fault 0 after) (sym b.3) b.5;
+}
+
+-- A conversation of no bytes: nothing is written, and the desk stays.
+pub talked_nothing : {S : Type 0} (step : S → Call → ReplyValue → S → Type 0) (s : S) → HasTalked step s s []
+talked_nothing step s = record {
+  bytes = [];
+  reads = 0;
+  came = record { counted = omega arith; pace = omega arith };
+  end = Ok Clean;
+  talk = record {
+    course = record { exchanges = []; rest = []; refusal = None };
+    takes = record { has = record { messages = refl; refused = tt }; run = refl };
+    stop = (refl, refl, refl);
+    text_is = refl;
+  };
+}
+
+-- The exchanges of a conversation.
+pub talked_run : {S : Type 0} (step : S → Call → ReplyValue → S → Type 0) (old new : S) (text : List ℕ) → HasTalked step old new text
+    → (exchanges : List Exchange) × Runs step old exchanges new
+talked_run {S} step old new text t = by t.end t.talk
+  where
+    by : (end : Result Ended ServeFault)
+        → MatchResult end (λ ended. Converses step old new t.bytes text ended) (λ fault. BreaksOff step old new t.bytes text fault 0 t.reads)
+        → (exchanges : List Exchange) × Runs step old exchanges new
+    by (Ok ended) c = (c.course.exchanges, c.takes.run)
+    by (Err fault) b = (b.course.exchanges, b.takes.run)

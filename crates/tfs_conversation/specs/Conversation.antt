@@ -1,5 +1,5 @@
 -- Conversations: messages, the desk's answers, and the texts of the replies.
-use Rattle.std.specs.Prelude.{◌≡◌, ◌≢◌, ◌≤◌, ◌<◌, ◌-◌, ◌*◌, ◌⊎◌, ℕ, Option, Some, None, List, [], ◌∷◌, ◌++◌, length, map, flat_map, true, false}
+use Rattle.std.specs.Prelude.{◌≡◌, ◌≢◌, ◌≤◌, ◌<◌, ◌-◌, ◌*◌, ◌⊎◌, ℕ, Option, Some, None, List, [], ◌∷◌, ◌++◌, length, map, flat_map, true, false, Result, MatchResult}
 use Rattle.std.specs.Io.KnownBytes.{IsAtEnd}
 use Rattle.tfs_calls.specs.declared.call.Call.{Call}
 use Rattle.tfs_calls.specs.declared.refusal.Refusal.{Refusal}
@@ -134,3 +134,11 @@ pub record BreaksOff {S : Type 0} (step : Step S) (old new : S) (bytes text : Li
   pub takes : TakesCourse step old new bytes course
   pub text_is : course_text course ≡ text ++ lost
   pub comes_at : ComesAt fault course lost before after
+
+-- A conversation was had, and this text was written: that of all replies, or what a fault left of it.
+pub record HasTalked {S : Type 0} (step : Step S) (old new : S) (text : List ℕ) : Type 0 where
+  pub bytes : List ℕ
+  pub reads : ℕ
+  pub came : ComesInReads bytes 0 reads
+  pub end : Result Ended ServeFault
+  pub talk : MatchResult end (λ ended. Converses step old new bytes text ended) (λ fault. BreaksOff step old new bytes text fault 0 reads)

@@ -59,12 +59,15 @@ begins_answered m n (Read name) reply (inr a) = absurd a
 begins_answered m n (Impact name query) reply (inr a) = absurd a
 begins_answered m n (Change name raw) reply (inr a) = begins_as m.journal n.journal (ap (λ (t : TableModel). t.journal) a.2.2)
 
--- Where no copy is to be had, that is the reply, and nothing changes.
+-- Where no copy is to be had, that is the reply, and the session has seen and changed no more.
 pub lacks_copy : (opening : Journal) (old new : SessionView) (call : Call) (reply : ReplyValue) → LacksCopy opening old call reply new
-    → (reply ≡ refused no_copy) × (new ≡ old)
-lacks_copy opening old new (Read name) reply lacks = (lacks.answer, lacks.same)
-lacks_copy opening old new (Change name raw) reply lacks = (lacks.answer, lacks.same)
-lacks_copy opening old new (Impact name query) reply lacks = lacks
+    → (reply ≡ refused no_copy) × (new.journal ≡ old.journal) × (new.accepted ≡ old.accepted)
+lacks_copy opening old new (Read name) reply lacks =
+    (lacks.answer, ap (λ (v : SessionView). v.journal) lacks.same, ap (λ (v : SessionView). v.accepted) lacks.same)
+lacks_copy opening old new (Change name raw) reply lacks =
+    (lacks.answer, ap (λ (v : SessionView). v.journal) lacks.same, ap (λ (v : SessionView). v.accepted) lacks.same)
+lacks_copy opening old new (Impact name query) reply lacks =
+    (lacks.0, ap (λ (v : SessionView). v.journal) lacks.1, ap (λ (v : SessionView). v.accepted) lacks.1)
 
 -- A step of a session goes on.
 pub step_later : (opening : Journal) (old new : SessionView) (call : Call) (reply : ReplyValue) → SessionStep opening old call reply new
@@ -72,7 +75,9 @@ pub step_later : (opening : Journal) (old new : SessionView) (call : Call) (repl
 step_later opening old new call reply step = by step.1
   where
     by : LacksCopy opening old call reply new ⊎ AnswersOver old call reply new → IsLater old new
-    by (inl a) = subst (λ (v : SessionView). IsLater old v) (sym (lacks_copy opening old new call reply a).1) (later_itself old)
+    by (inl a) =
+        let same = lacks_copy opening old new call reply a in
+        let counted = same.2 in record { seen = begins_as old.journal new.journal same.1; accepted = omega (arith, counted) }
     by (inr a) = record {
       seen = begins_with_earlier new.journal a.before.journal old.journal
           (subst (λ (j : Journal). BeginsWith j a.before.journal) (sym a.seen) (begins_answered a.before a.after call reply a.answer))

@@ -6,8 +6,10 @@ pub mod Reaching
 pub mod Replying
 pub mod Returning
 pub mod Running
+pub mod Sent
 pub mod Standing
 pub mod Steps
+pub mod Stopping
 pub mod Telling
 pub mod Tallying
 pub mod Working

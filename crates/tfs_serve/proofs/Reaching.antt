@@ -1,11 +1,9 @@
 -- What each step of a desk keeps to, a whole conversation keeps to.
-use Rattle.std.proofs.Common.{List, ℕ, [], ◌∷◌, Result, Ok, Err, IfOk, IfErr, Option, sym, subst, inl, inr}
-use Rattle.std.specs.Io.KnownBytes.{Appends, Consumes}
+use Rattle.std.proofs.Common.{◌≡◌, List, ℕ, [], ◌∷◌, sym, subst, inl, inr}
 use Rattle.tfs_calls.specs.declared.call.Call.{Call}
 use Rattle.tfs_calls.specs.Reply.{ReplyValue}
-use Rattle.tfs_conversation.specs.Conversation.{AnswersRequest, Exchange, Runs, Converses, BreaksOff, ComesInReads}
-use Rattle.tfs_conversation.specs.declared.ended.Ended.{Ended}
-use Rattle.tfs_http.specs.declared.fault.ServeFault.{ServeFault}
+use Rattle.tfs_conversation.specs.Conversation.{AnswersRequest, Exchange, Runs, HasTalked}
+use Rattle.tfs_conversation.proofs.StepLemmas.{runs_keep, talked_run}
 
 -- A relation that each step keeps to, where nothing done and one after another keep to it too.
 module _ {S : Type 0} (step : S → Call → ReplyValue → S → Type 0) (reaches : S → S → Type 0) (itself : (s : S) → reaches s s)
@@ -21,12 +19,13 @@ module _ {S : Type 0} (step : S → Call → ReplyValue → S → Type 0) (reach
       between (inr (inl a)) = subst (λ (t : S). reaches old t) (sym a.1) (itself old)
       between (inr (inr a)) = steps old run.0 a.0 x.reply a.2
 
-  -- A call that had a conversation keeps to it.
-  pub call_reaches : (old new : S) (from to into onto : Option (List ℕ)) (before after : ℕ) (result : Result Ended ServeFault)
-      → IfOk result (λ ended. (bytes : List ℕ) × (text : List ℕ) × Consumes from to bytes × Appends into onto text
-      × ComesInReads bytes before after × Converses step old new bytes text ended)
-      → IfErr result (λ fault. (bytes : List ℕ) × (text : List ℕ) × Consumes from to bytes × Appends into onto text
-      × ComesInReads bytes before after × BreaksOff step old new bytes text fault before after)
-      → reaches old new
-  call_reaches old new from to into onto before after (Ok ended) c b = runs_reach old new c.5.course.exchanges c.5.takes.run
-  call_reaches old new from to into onto before after (Err fault) c b = runs_reach old new b.5.course.exchanges b.5.takes.run
+  -- A conversation keeps to it.
+  pub talk_reaches : (old new : S) (text : List ℕ) → HasTalked step old new text → reaches old new
+  talk_reaches old new text talk = let run = talked_run step old new text talk in runs_reach old new run.0 run.1
+
+-- What each step of a desk keeps, a conversation keeps.
+pub talk_keeps : {S U : Type 0} (step : S → Call → ReplyValue → S → Type 0) (part : S → U)
+    → ((old new : S) (call : Call) (reply : ReplyValue) → step old call reply new → part new ≡ part old)
+    → (old new : S) (text : List ℕ) → HasTalked step old new text → part new ≡ part old
+talk_keeps step part keeps old new text talk =
+    let run = talked_run step old new text talk in runs_keep step part keeps old new run.0 run.1

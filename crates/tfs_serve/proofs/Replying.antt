@@ -1,8 +1,11 @@
 -- Sessions that answer, over the journal that a run leaves.
-use Rattle.std.proofs.Common.{◌≡◌, ◌⊎◌, ◌+◌, ℕ, is_some, List, [], ◌∷◌, ◌++◌, Option, refl, sym, ap, subst, inl, inr, arith, append_assoc, append-nil}
+use Rattle.std.proofs.Common.{◌≡◌, ◌⊎◌, ◌+◌, ℕ, Bool, is_some, List, [], ◌∷◌, ◌++◌, Option, refl, sym, ap, subst, inl, inr, arith, append_assoc, append-nil}
 use Rattle.std.specs.List.{flat_map}
 use Rattle.std.proofs.lemmas.List.Sums.{sum_by-append}
 use Rattle.tfs_records.specs.Journal.{Journal, BaseValue, EntryValue, position_of}
+use Rattle.tfs_calls.specs.declared.call.Call.{Call}
+use Rattle.tfs_calls.specs.declared.call.Call.TheVariants.{Read, Change, Impact}
+use Rattle.tfs_calls.specs.Reply.{ReplyValue}
 use Rattle.tfs_table.specs.Lawful.{IsLawful}
 use Rattle.tfs_table.proofs.LawfulLemmas.{lawful_less}
 use Rattle.tfs_published.specs.Beginning.{BeginsWith}
@@ -11,11 +14,12 @@ use Rattle.tfs_shared.specs.View.{SessionView, new_session}
 use Rattle.tfs_serve.specs.Faults.{IsCaused}
 use Rattle.tfs_serve.specs.Gate.{Event}
 use Rattle.tfs_serve.specs.Session.{LacksCopy, SessionStep, AnswersOver, IsLater, accepted_by}
-use Rattle.tfs_serve.specs.Working.{Answer, Gives, GivesOn, HasWorked, end_of_work}
-use Rattle.tfs_serve.specs.Serving.{Replies, RepliesInTurn, accepted_in, answers_on, IsServed}
+use Rattle.tfs_serve.specs.Working.{Answer, Gives, GivesOn, AreReplied, HasWorked, end_of_work}
+use Rattle.tfs_serve.specs.Serving.{Replies, RepliesInTurn, MayLackCopy, accepted_in, answers_on, IsServed}
 use Rattle.tfs_connections.specs.declared.accepting.AcceptFault.{AcceptFault}
 use Rattle.tfs_serve.proofs.Later.{later_itself, later_then, begins_answered, lacks_copy, step_later}
 use Rattle.tfs_serve.proofs.Standing.{accepted_stand}
+use Rattle.tfs_serve.proofs.Tallying.{begins_lower}
 use Rattle.tfs_serve.proofs.Working.{gives_then}
 
 -- The first entries of a lawful journal are lawful.
@@ -40,15 +44,24 @@ gives_later opening old new [] gives = subst (λ (v : SessionView). IsLater old 
 gives_later opening old new (a ∷ more) gives =
     later_then old gives.0 new (step_later opening old gives.0 a.call a.reply gives.1) (gives_later opening gives.0 new more gives.2)
 
+-- Why a session lacks a copy.
+lacks_by : (opening : Journal) (old new : SessionView) (call : Call) (reply : ReplyValue) → LacksCopy opening old call reply new
+    → MayLackCopy opening old.journal call
+lacks_by opening old new (Read name) reply lacks =
+    let lower = lacks.ahead.lower in omega (arith, lower, begins_lower lacks.ahead.journal opening lacks.ahead.begins)
+lacks_by opening old new (Change name raw) reply lacks =
+    let lower = lacks.ahead.lower in omega (arith, lower, begins_lower lacks.ahead.journal opening lacks.ahead.begins)
+lacks_by opening old new (Impact name query) reply lacks = tt
+
 -- A step of a session that has seen no more than the last journal is a reply over it.
 step_replies : (opening last : Journal) (old new : SessionView) (a : Answer) → IsLawful last → BeginsWith last new.journal
-    → SessionStep opening old a.call a.reply new → Replies last old.journal a new.journal
+    → SessionStep opening old a.call a.reply new → Replies opening last old.journal a new.journal
 step_replies opening last old new a lawful stands step = by step.1
   where
-    by : LacksCopy opening old a.call a.reply new ⊎ AnswersOver old a.call a.reply new → Replies last old.journal a new.journal
+    by : LacksCopy opening old a.call a.reply new ⊎ AnswersOver old a.call a.reply new → Replies opening last old.journal a new.journal
     by (inl none) =
         let same = lacks_copy opening old new a.call a.reply none in
-        inl (same.0, ap (λ (v : SessionView). v.journal) same.1)
+        inl (same.0, same.1, lacks_by opening old new a.call a.reply none)
     by (inr over) = inr (record {
       before = over.before;
       after = over.after;
@@ -66,7 +79,7 @@ step_replies opening last old new a lawful stands step = by step.1
 
 -- Answers of a session are replies in turn.
 gives_replies : (opening last : Journal) (old new : SessionView) (answers : List Answer) → IsLawful last → BeginsWith last new.journal
-    → Gives opening old answers new → RepliesInTurn last old.journal answers new.journal
+    → Gives opening old answers new → RepliesInTurn opening last old.journal answers new.journal
 gives_replies opening last old new [] lawful stands gives = ap (λ (v : SessionView). v.journal) gives
 gives_replies opening last old new (a ∷ more) lawful stands gives =
     let later = gives_later opening gives.0 new more gives.2 in (
@@ -83,7 +96,7 @@ step_counts opening old new a step = by step.1
     by : LacksCopy opening old a.call a.reply new ⊎ AnswersOver old a.call a.reply new → new.accepted ≡ old.accepted + accepted_by a.reply
     by (inl none) =
         let lacks = lacks_copy opening old new a.call a.reply none in
-        let same = ap (λ (v : SessionView). v.accepted) lacks.1 in
+        let same = lacks.2 in
         let nothing = ap accepted_by lacks.0 in
         omega (arith, same, nothing)
     by (inr over) = over.accepted
@@ -112,29 +125,32 @@ pub all_given : (opening : Journal) (told now : Option (List Event)) (old new : 
 all_given opening told now old new end worked = gives_all opening old new worked.connections worked.gives
 
 -- A new session that has worked and has seen no more than the last journal has served.
-pub served : (opening last : Journal) (told now : Option (List Event)) (number : ℕ) (new : SessionView) (fault : Option AcceptFault) → IsLawful last
-    → BeginsWith last new.journal → IsCaused fault
-    → (worked : HasWorked opening told now (new_session opening number) new (end_of_work (is_some fault)))
+pub served : (opening last : Journal) (told now : Option (List Event)) (was : Bool) (number : ℕ) (new : SessionView) (fault : Option AcceptFault)
+    (written : List (List ℕ)) → IsLawful last → BeginsWith last new.journal → IsCaused fault
+    → (worked : HasWorked opening told now (new_session opening was number) new (end_of_work (is_some fault)))
+    → AreReplied worked.connections written
     → IsServed opening last worked.connections told (record {
       told = now;
       failed = is_some fault;
       fault = fault;
       seen = position_of new.journal;
       accepted = new.accepted;
+      written = written;
     })
-served opening last told now number new fault lawful stands caused worked = record {
+served opening last told now was number new fault written lawful stands caused worked replied = record {
   heard = worked.heard;
   view = new.journal;
   replies = replies;
-  stand = accepted_stand last opening new.journal all replies;
+  stand = accepted_stand opening last opening new.journal all replies;
   failed_is = refl;
   caused = caused;
   seen_is = refl;
   accepted_is = omega (arith, gives_counts opening first new all gives);
+  replied = replied;
 }
   where
     first : SessionView
-    first = new_session opening number
+    first = new_session opening was number
 
     all : List Answer
     all = answers_on worked.connections
@@ -142,5 +158,5 @@ served opening last told now number new fault lawful stands caused worked = reco
     gives : Gives opening first all new
     gives = all_given opening told now first new (end_of_work (is_some fault)) worked
 
-    replies : RepliesInTurn last opening all new.journal
+    replies : RepliesInTurn opening last opening all new.journal
     replies = gives_replies opening last first new all lawful stands gives

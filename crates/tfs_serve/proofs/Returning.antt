@@ -12,16 +12,18 @@ use Rattle.tfs_shared.specs.declared.gathering.Lack.TheVariants.{Missing, NoCopy
 
 -- A session of some number that has seen a journal, and made no changes.
 abbrev pub IsNew : Journal → SessionView → Type 0
-IsNew j s = (number : ℕ) × (s ≡ new_session j number)
+IsNew j s = (stopped : Bool) × (number : ℕ) × (s ≡ new_session j stopped number)
 
 -- New sessions are such sessions.
-pub all_new : (opening : Journal) (number : ℕ) (sessions : List SessionView) → AreNew opening number sessions → All (IsNew opening) sessions
-all_new opening number sessions new k d within = (k, new.each k d (omega (arith, within, new.many)))
+pub all_new : (opening : Journal) (stopped : Bool) (number : ℕ) (sessions : List SessionView) → AreNew opening stopped number sessions
+    → All (IsNew opening) sessions
+all_new opening stopped number sessions new k d within = (stopped, k, new.each k d (omega (arith, within, new.many)))
 
 -- Without the last one they are new sessions too, and the last one has the last number.
-pub without_last : (opening : Journal) (number : ℕ) (sessions ys : List SessionView) (x : SessionView) → AreNew opening number sessions
-    → sessions ≡ ys ++ x ∷ [] → AreNew opening (length ys) ys × (x ≡ new_session opening (length ys)) × (number ≡ length ys + 1)
-without_last opening number sessions ys x new is = (
+pub without_last : (opening : Journal) (stopped : Bool) (number : ℕ) (sessions ys : List SessionView) (x : SessionView)
+    → AreNew opening stopped number sessions → sessions ≡ ys ++ x ∷ []
+    → AreNew opening stopped (length ys) ys × (x ≡ new_session opening stopped (length ys)) × (number ≡ length ys + 1)
+without_last opening stopped number sessions ys x new is = (
   record {
     many = refl;
     each = λ k d within.
@@ -37,18 +39,18 @@ without_last opening number sessions ys x new is = (
     all = sym new.many ∙ ap length is ∙ length_push ys x
 
 -- What has sessions that are new, with the last number first.
-abbrev pub HaveNumbers : {W : Type 0} → (W → SessionView) → Journal → ℕ → List W → Type 0
-HaveNumbers {W} session opening all ws = (i : ℕ) (d : W) → i < length ws
-    → (number : ℕ) × (number + i + 1 ≡ all) × (session (get_or ws i d) ≡ new_session opening number)
+abbrev pub HaveNumbers : {W : Type 0} → (W → SessionView) → Journal → Bool → ℕ → List W → Type 0
+HaveNumbers {W} session opening stopped all ws = (i : ℕ) (d : W) → i < length ws
+    → (number : ℕ) × (number + i + 1 ≡ all) × (session (get_or ws i d) ≡ new_session opening stopped number)
 
 -- One more of these.
-pub numbers_more : {W : Type 0} (session : W → SessionView) (opening : Journal) (all : ℕ) (ws : List W) (w : W) (number : ℕ)
-    → HaveNumbers session opening all ws → session w ≡ new_session opening number → number + length ws + 1 ≡ all
-    → HaveNumbers session opening all (ws ++ w ∷ [])
-numbers_more session opening all ws w number have one next i d within = by (nat_lt i (length ws)) refl
+pub numbers_more : {W : Type 0} (session : W → SessionView) (opening : Journal) (stopped : Bool) (all : ℕ) (ws : List W) (w : W) (number : ℕ)
+    → HaveNumbers session opening stopped all ws → session w ≡ new_session opening stopped number → number + length ws + 1 ≡ all
+    → HaveNumbers session opening stopped all (ws ++ w ∷ [])
+numbers_more session opening stopped all ws w number have one next i d within = by (nat_lt i (length ws)) refl
   where
     by : (t : Bool) → nat_lt i (length ws) ≡ t
-        → (n : ℕ) × (n + i + 1 ≡ all) × (session (get_or (ws ++ w ∷ []) i d) ≡ new_session opening n)
+        → (n : ℕ) × (n + i + 1 ≡ all) × (session (get_or (ws ++ w ∷ []) i d) ≡ new_session opening stopped n)
     by true e =
         let inside : i < length ws = grind (arith, nat_tests, e) in
         let is = have i d inside in
@@ -61,7 +63,7 @@ numbers_more session opening all ws w number have one next i d within = by (nat_
 none_accepted : (j : Journal) (sessions : List SessionView) → All (IsNew j) sessions → sum_by (λ (s : SessionView). s.accepted) sessions ≡ 0
 none_accepted j [] new = refl
 none_accepted j (s ∷ rest) new =
-    let first = ap (λ (v : SessionView). v.accepted) (new 0 s (omega arith)).1 in
+    let first = ap (λ (v : SessionView). v.accepted) (new 0 s (omega arith)).2 in
     let others = none_accepted j rest (λ k d within. new (suc k) d (omega (arith, within))) in
     let parts = sum_by-append (λ (v : SessionView). v.accepted) (s ∷ []) rest in
     omega (arith, first, others, parts)
@@ -87,7 +89,7 @@ pub no_strangers : (opening : Journal) (sessions : List SessionView) (number : �
 no_strangers opening sessions number Missing all new missing ahead = let fewer = missing.0 refl in omega (arith, fewer, all)
 no_strangers opening sessions number NoCopy all new missing ahead =
     let one = ahead refl in
-    let is = sym one.3 ∙ (new one.0 one.1 one.2).1 in
+    let is = sym one.3 ∙ (new one.0 one.1 one.2).2 in
     let seen = ap (λ (v : SessionView). position_of v.journal) is in
     let base = ap (λ (b : BaseValue). b.position) one.4.begins.base in
     let entries = ap length one.4.begins.entries.1 in

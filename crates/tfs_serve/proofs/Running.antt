@@ -1,5 +1,5 @@
 -- A whole run, from what its workers did.
-use Rattle.std.proofs.Common.{◌≡◌, ◌+◌, ◌<◌, ◌≤◌, ℕ, zero, suc, is_some, List, length, map, get_or, sum_by, All, [], ◌∷◌, Option, refl, sym, ◌∙◌, ap, subst, arith, length-append}
+use Rattle.std.proofs.Common.{◌≡◌, ◌+◌, ◌<◌, ◌≤◌, ℕ, zero, suc, Bool, true, is_some, List, length, map, get_or, sum_by, All, [], ◌∷◌, Option, refl, sym, ◌∙◌, ap, subst, arith, length-append}
 use Rattle.std.specs.List.{flat_map}
 use Rattle.std.proofs.lemmas.List.{length-map, get_or-map}
 use Rattle.std.proofs.lemmas.List.Sums.{sum_by-cons}
@@ -8,15 +8,17 @@ use Rattle.tfs_records.specs.Journal.{Journal, BaseValue, position_of}
 use Rattle.tfs_table.specs.Lawful.{IsLawful}
 use Rattle.tfs_published.specs.Beginning.{BeginsWith}
 use Rattle.tfs_shared.specs.Signed.{AreSigned}
+use Rattle.tfs_shared.specs.Stops.{as_number}
 use Rattle.tfs_shared.specs.View.{SessionView, new_session}
 use Rattle.tfs_connections.specs.declared.accepting.AcceptFault.{AcceptFault}
 use Rattle.tfs_serve.specs.Faults.{IsCaused}
 use Rattle.tfs_serve.specs.Gate.{Event}
-use Rattle.tfs_serve.specs.Serving.{ServedView, IsServed, IsRun, accepted_in, answers_on}
+use Rattle.tfs_serve.specs.Serving.{ServedView, IsServed, IsRun, accepted_in, faults_in, answers_on}
 use Rattle.tfs_serve.specs.Told.{positions_told}
-use Rattle.tfs_serve.specs.Working.{Answer, HasWorked, end_of_work}
+use Rattle.tfs_serve.specs.Working.{Answer, AreReplied, HasReplied, end_of_work}
 use Rattle.tfs_serve.proofs.Replying.{served, all_given}
 use Rattle.tfs_serve.proofs.Returning.{HaveNumbers}
+use Rattle.tfs_serve.proofs.Stopping.{HasReported, faults_of_all, gives_reports, stops_as}
 use Rattle.tfs_serve.proofs.Tallying.{Tells, gives_tells, as_many_told}
 use Rattle.tfs_serve.proofs.Telling.{IsMadeAt, TellApart, TellsAlone, made_later, tell_apart, each_once}
 
@@ -68,40 +70,47 @@ abbrev told_on : List (List Answer) → List ℕ
 told_on connections = positions_told (answers_on connections)
 
 -- What is left of a worker.
-abbrev pub left_of : {W : Type 0} → (W → Option (List Event)) → (W → SessionView) → (W → Option AcceptFault) → W → ServedView
-left_of told session fault w = record {
+abbrev pub left_of : {W : Type 0} → (W → Option (List Event)) → (W → SessionView) → (W → Option AcceptFault) → (W → List (List ℕ)) → W → ServedView
+left_of told session fault written w = record {
   told = told w;
   failed = is_some (fault w);
   fault = fault w;
   seen = position_of (session w).journal;
   accepted = (session w).accepted;
+  written = written w;
 }
 
 -- Workers that began with new sessions, numbered down to the first, and have worked.
-module _ {W : Type 0} (told : W → Option (List Event)) (session : W → SessionView) (fault : W → Option AcceptFault) (opening last : Journal)
-    (old new : List W)
+module _ {W : Type 0} (told : W → Option (List Event)) (session : W → SessionView) (fault : W → Option AcceptFault) (written : W → List (List ℕ))
+    (opening last : Journal) (was is : Bool) (old new : List W)
   where
     abbrev left : W → ServedView
-    left = left_of told session fault
+    left = left_of told session fault written
 
     -- What a worker did, with its number.
     pub record HasServed (d : W) (i : ℕ) (connections : List (List Answer)) : Type 0 where
       pub served : IsServed opening last connections (told (get_or old i d)) (left (get_or new i d))
       pub number : ℕ
       pub number_is : number + i + 1 ≡ length old
-      pub tells : Tells opening (new_session opening number) (session (get_or new i d)) (told_on connections)
+      pub tells : Tells opening (new_session opening was number) (session (get_or new i d)) (told_on connections)
+      pub reported : HasReported (new_session opening was number) (session (get_or new i d)) (answers_on connections)
 
     abbrev pub AreNumbered : Type 0
     AreNumbered = (i : ℕ) (d : W) → i < length old
-        → (number : ℕ) × (number + i + 1 ≡ length old) × (session (get_or old i d) ≡ new_session opening number)
+        → (number : ℕ) × (number + i + 1 ≡ length old) × (session (get_or old i d) ≡ new_session opening was number)
 
     abbrev pub WorkedEach : Type 0
     WorkedEach = (i : ℕ) (d : W) → i < length old
-        → HasWorked opening (told (get_or old i d)) (told (get_or new i d)) (session (get_or old i d)) (session (get_or new i d))
-        (end_of_work (is_some (fault (get_or new i d))))
+        → HasReplied opening (told (get_or old i d)) (told (get_or new i d)) (session (get_or old i d)) (session (get_or new i d))
+        (end_of_work (is_some (fault (get_or new i d)))) [] (written (get_or new i d))
 
     abbrev pub AreCaused : Type 0
     AreCaused = (i : ℕ) (d : W) → i < length old → IsCaused (fault (get_or new i d))
+
+    -- The table is stopped by the faults of sessions, and if one has reported so.
+    abbrev pub HasStopped : Type 0
+    HasStopped = (sum_by (λ (s : SessionView). as_number s.faulted) (map session new) ≡ as_number is)
+        × All (λ (s : SessionView). s.stopped ≡ true → is ≡ true) (map session new)
 
     -- One worker.
     one_served : IsLawful last → AreNumbered → AreCaused → WorkedEach → length new ≡ length old
@@ -114,17 +123,20 @@ module _ {W : Type 0} (told : W → Option (List Event)) (session : W → Sessio
         let in_sessions : i < length (map session new) = omega (arith, in_new, length-map new session) in
         let has : BeginsWith last (session now).journal =
         subst (λ (s : SessionView). BeginsWith last s.journal) (get_or-map session new i d (session d) in_new) (begins i (session d) in_sessions) in
-        let did : HasWorked opening (told (get_or old i d)) (told now) (new_session opening number.0) (session now)
-        (end_of_work (is_some (fault now))) =
-        subst (λ (s : SessionView). HasWorked opening (told (get_or old i d)) (told now) s (session now) (end_of_work (is_some (fault now))))
-        number.2 (worked i d inside) in (
-          did.connections,
+        let did : HasReplied opening (told (get_or old i d)) (told now) (new_session opening was number.0) (session now)
+        (end_of_work (is_some (fault now))) [] (written now) =
+        subst (λ (s : SessionView). HasReplied opening (told (get_or old i d)) (told now) s (session now) (end_of_work (is_some (fault now))) []
+        (written now)) number.2 (worked i d inside) in
+        let given = all_given opening (told (get_or old i d)) (told now) (new_session opening was number.0) (session now)
+        (end_of_work (is_some (fault now))) did.worked in (
+          did.worked.connections,
           record {
-            served = served opening last (told (get_or old i d)) (told now) number.0 (session now) (fault now) lawful has (caused i d inside) did;
+            served = served opening last (told (get_or old i d)) (told now) was number.0 (session now) (fault now) (written now) lawful has
+                (caused i d inside) did.worked (subst (AreReplied did.worked.connections) (sym did.written) did.replied);
             number = number.0;
             number_is = number.1;
-            tells = gives_tells opening (new_session opening number.0) (session now) (answers_on did.connections)
-                (all_given opening (told (get_or old i d)) (told now) (new_session opening number.0) (session now) (end_of_work (is_some (fault now))) did);
+            tells = gives_tells opening (new_session opening was number.0) (session now) (answers_on did.worked.connections) given;
+            reported = gives_reports opening (new_session opening was number.0) (session now) (answers_on did.worked.connections) given;
           },
         )
 
@@ -160,8 +172,8 @@ module _ {W : Type 0} (told : W → Option (List Event)) (session : W → Sessio
     pub is_run : IsLawful last → BeginsWith last opening → AreNumbered → AreCaused → WorkedEach → length new ≡ length old
         → All (λ (s : SessionView). BeginsWith last s.journal) (map session new) → AreSigned opening last (map session new)
         → length last.entries ≡ length opening.entries + sum_by (λ (s : SessionView). s.accepted) (map session new)
-        → (d : W) → IsRun opening last (map told old) (map left new)
-    is_run lawful begins numbered caused worked same seen signed grows d = record {
+        → HasStopped → 1 ≤ length old → (d : W) → IsRun opening last was is (map told old) (map left new)
+    is_run lawful begins numbered caused worked same seen signed grows stops some d = record {
       lawful = lawful;
       begins = begins;
       connections = all.0;
@@ -176,6 +188,14 @@ module _ {W : Type 0} (told : W → Option (List Event)) (session : W → Sessio
       grows = grows ∙ ap (λ (n : ℕ). length opening.entries + n) accepted_same;
       once = λ p above within. each_once (position_of opening) (length signed.makers) told_all as_many apart.once
           (λ q some. let made = apart.made q some in made_within signed.makers q made.0 made.2) p above (omega (arith, within, signed.counted));
+      faulted = sym stops.0 ∙ faulted;
+      stopped = λ i inside.
+          let in_old : i < length old = omega (arith, inside, all.1) in
+          let in_new : i < length new = omega (arith, in_old, same) in
+          let now = session (get_or new i d) in
+          stops_as now.stopped is (answers_on (get_or all.0 i []))
+          (subst (λ (s : SessionView). s.stopped ≡ true → is ≡ true) (get_or-map session new i d (session d) in_new)
+          (stops.1 i (session d) (omega (arith, in_new, length-map new session)))) (all.2 i [] in_old).reported.stopped;
     }
       where
         many : length (map told old) ≡ length old
@@ -202,6 +222,19 @@ module _ {W : Type 0} (told : W → Option (List Event)) (session : W → Sessio
             let in_old : i < length old = omega (arith, in_new, same) in
             ap (λ (v : SessionView). v.accepted) (get_or-map session new i d s in_new) ∙ (all.2 i e in_old).served.accepted_is)
 
+        faulted : sum_by (λ (s : SessionView). as_number s.faulted) (map session new)
+            ≡ as_number was + sum_by (λ (c : List (List Answer)). faults_in (answers_on c)) all.0
+        faulted = faults_of_all was (λ (c : List (List Answer)). faults_in (answers_on c)) (map session new) all.0
+            (omega (arith, some, same, length-map new session)) (length-map new session ∙ same ∙ sym all.1) (λ i s e inside.
+            let in_new : i < length new = omega (arith, inside, length-map new session) in
+            let in_old : i < length old = omega (arith, in_new, same) in
+            let one = all.2 i e in_old in
+            let place = one.number_is in (
+              one.number,
+              omega (arith, place, same, length-map new session),
+              ap (λ (v : SessionView). as_number v.faulted) (get_or-map session new i d s in_new) ∙ one.reported.faulted,
+            ))
+
         accepted_same : sum_by (λ (s : SessionView). s.accepted) (map session new) ≡ sum_by (λ (s : ServedView). s.accepted) (map left new)
         accepted_same = sum_made session (λ (s : SessionView). s.accepted) new ∙ sym (sum_made left (λ (s : ServedView). s.accepted) new)
 
@@ -223,27 +256,31 @@ map_alike f g [] same = refl
 map_alike f g (x ∷ xs) same = ap (λ u. u ∷ map f xs) (same x) ∙ ap (λ l. g x ∷ l) (map_alike f g xs same)
 
 -- The run of workers for gates.
-pub run_of : {W G V : Type 0} (gate : W → G) (told : G → Option (List Event)) (session : W → SessionView) (fault : W → Option AcceptFault) (made : W → V)
-    (view : V → ServedView) (opening last : Journal) (gates : List G) (old new : List W) (all : List V)
-    → ((w : W) → left_of (λ (x : W). told (gate x)) session fault w ≡ view (made w))
+pub run_of : {W G V : Type 0} (gate : W → G) (told : G → Option (List Event)) (session : W → SessionView) (fault : W → Option AcceptFault)
+    (written : W → List (List ℕ)) (made : W → V) (view : V → ServedView) (opening last : Journal) (was is : Bool) (gates : List G) (old new : List W)
+    (all : List V)
+    → ((w : W) → left_of (λ (x : W). told (gate x)) session fault written w ≡ view (made w))
     → map gate old ≡ gates → all ≡ map made new → 1 ≤ length gates → IsLawful last → BeginsWith last opening
-    → HaveNumbers session opening (length gates) old
-    → AreCaused (λ (w : W). told (gate w)) session fault opening last old new
-    → WorkedEach (λ (w : W). told (gate w)) session fault opening last old new → length new ≡ length old
+    → HaveNumbers session opening was (length gates) old
+    → AreCaused (λ (w : W). told (gate w)) session fault written opening last was is old new
+    → WorkedEach (λ (w : W). told (gate w)) session fault written opening last was is old new → length new ≡ length old
     → All (λ (s : SessionView). BeginsWith last s.journal) (map session new) → AreSigned opening last (map session new)
     → length last.entries ≡ length opening.entries + sum_by (λ (s : SessionView). s.accepted) (map session new)
-    → IsRun opening last (map told gates) (map view all)
-run_of gate told session fault made view opening last gates old [] all views are_gates are_all some lawful begins numbered caused worked same seen
-    signed grows =
+    → HasStopped (λ (w : W). told (gate w)) session fault written opening last was is old new
+    → IsRun opening last was is (map told gates) (map view all)
+run_of gate told session fault written made view opening last was is gates old [] all views are_gates are_all some lawful begins numbered caused
+    worked same seen signed grows stops =
     absurd (omega (arith, some, same, ap length are_gates, length-map old gate))
-run_of {W} {G} {V} gate told session fault made view opening last gates old (w ∷ rest) all views are_gates are_all some lawful begins numbered caused
-    worked same seen signed grows =
-    subst (λ (gs : List G). IsRun opening last (map told gs) (map view all)) are_gates
-    (subst (λ (os : List (Option (List Event))). IsRun opening last os (map view all)) (sym (map_made gate told old))
-    (subst (λ (vs : List V). IsRun opening last (map (λ (x : W). told (gate x)) old) (map view vs)) (sym are_all)
-    (subst (λ (ss : List ServedView). IsRun opening last (map (λ (x : W). told (gate x)) old) ss)
-    (map_alike (left_of (λ (x : W). told (gate x)) session fault) (λ (x : W). view (made x)) (w ∷ rest) views ∙ sym (map_made made view (w ∷ rest)))
-    (is_run (λ (x : W). told (gate x)) session fault opening last old (w ∷ rest) lawful begins (λ i d inside.
+run_of {W} {G} {V} gate told session fault written made view opening last was is gates old (w ∷ rest) all views are_gates are_all some lawful begins
+    numbered caused worked same seen signed grows stops =
+    subst (λ (gs : List G). IsRun opening last was is (map told gs) (map view all)) are_gates
+    (subst (λ (os : List (Option (List Event))). IsRun opening last was is os (map view all)) (sym (map_made gate told old))
+    (subst (λ (vs : List V). IsRun opening last was is (map (λ (x : W). told (gate x)) old) (map view vs)) (sym are_all)
+    (subst (λ (ss : List ServedView). IsRun opening last was is (map (λ (x : W). told (gate x)) old) ss)
+    (map_alike (left_of (λ (x : W). told (gate x)) session fault written) (λ (x : W). view (made x)) (w ∷ rest) views
+    ∙ sym (map_made made view (w ∷ rest)))
+    (is_run (λ (x : W). told (gate x)) session fault written opening last was is old (w ∷ rest) lawful begins (λ i d inside.
     let x = numbered i d inside in
     let at = x.1 in
-    (x.0, omega (arith, at, ap length are_gates, length-map old gate), x.2)) caused worked same seen signed grows w))))
+    (x.0, omega (arith, at, ap length are_gates, length-map old gate), x.2)) caused worked same seen signed grows stops
+    (omega (arith, some, ap length are_gates, length-map old gate)) w))))

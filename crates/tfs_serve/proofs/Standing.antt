@@ -91,15 +91,16 @@ accepts last next m n (Change name raw) reply position (inr faults) leaves begin
     absurd (refuses journal_fault position (sym faults.2.1 ∙ is))
 
 -- One reply in turn.
-accepts_one : (last seen next : Journal) (a : Answer) (position : ℕ) → Replies last seen a next → a.reply ≡ done position
+accepts_one : (opening last seen next : Journal) (a : Answer) (position : ℕ) → Replies opening last seen a next → a.reply ≡ done position
     → IsAcceptedAt last a.call position
-accepts_one last seen next a position (inl none) is = absurd (refuses no_copy position (sym none.0 ∙ is))
-accepts_one last seen next a position (inr over) is =
+accepts_one opening last seen next a position (inl none) is = absurd (refuses no_copy position (sym none.0 ∙ is))
+accepts_one opening last seen next a position (inr over) is =
     accepts last next over.before over.after a.call a.reply position over.answer over.leaves over.stands is
 
 -- Each accepted change of replies in turn stands in the last journal.
-pub accepted_stand : (last seen end : Journal) (answers : List Answer) → RepliesInTurn last seen answers end → AcceptedStand last answers
-accepted_stand last seen end [] replies = All-nil (λ (a : Answer). (position : ℕ) → a.reply ≡ done position → IsAcceptedAt last a.call position)
-accepted_stand last seen end (a ∷ more) replies =
+pub accepted_stand : (opening last seen end : Journal) (answers : List Answer) → RepliesInTurn opening last seen answers end
+    → AcceptedStand last answers
+accepted_stand opening last seen end [] replies = All-nil (λ (a : Answer). (position : ℕ) → a.reply ≡ done position → IsAcceptedAt last a.call position)
+accepted_stand opening last seen end (a ∷ more) replies =
     All-cons (λ (b : Answer). (position : ℕ) → b.reply ≡ done position → IsAcceptedAt last b.call position) a more
-    (λ position is. accepts_one last seen replies.0 a position replies.1 is) (accepted_stand last replies.0 end more replies.2)
+    (λ position is. accepts_one opening last seen replies.0 a position replies.1 is) (accepted_stand opening last replies.0 end more replies.2)

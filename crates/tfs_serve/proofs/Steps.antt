@@ -18,7 +18,7 @@ use Rattle.tfs_shared.specs.Impact.{AnswersImpact, HasFewTexts}
 use Rattle.tfs_shared.specs.Locked.{AnswersChange, AnswersRead, HasNoCopy}
 use Rattle.tfs_shared.specs.Signed.{IsSigned, makers_told}
 use Rattle.tfs_published.specs.Beginning.{BeginsWith}
-use Rattle.tfs_shared.specs.View.{SessionView}
+use Rattle.tfs_shared.specs.View.{SessionView, CountsStop, missed}
 use Rattle.tfs_published.proofs.Beginnings.{begins_with_itself}
 use Rattle.tfs_serve.specs.Session.{LacksCopy, AnswersOver, KeepsCount, accepted_by}
 
@@ -28,26 +28,29 @@ Answered opening old call reply new = LacksCopy opening old call reply new ⊎ A
 
 -- A reply that tells no change keeps count.
 pub counts_none : (opening : Journal) (old new : SessionView) (reply : ReplyValue) → IsSigned opening old new [] → makers_told old.number reply ≡ []
-    → KeepsCount opening old reply new
-counts_none opening old new reply signed none = record {
+    → CountsStop old new reply → KeepsCount opening old reply new
+counts_none opening old new reply signed none stops = record {
   signed = subst (λ (l : List ℕ). IsSigned opening old new l) (sym none) signed;
   numbered = λ position is. absurd (cc (sym (ap (makers_told old.number) is) ∙ none));
+  stops = stops;
 }
 
 -- A change that was accepted keeps count.
 pub counts_one : (opening : Journal) (old new : SessionView) (number : ℕ) → IsSigned opening old new (old.number ∷ [])
-    → (number ≡ position_of new.journal) × (position_of old.journal < number) → KeepsCount opening old (done number) new
-counts_one opening old new number signed at = record {
+    → (number ≡ position_of new.journal) × (position_of old.journal < number) → CountsStop old new (done number)
+    → KeepsCount opening old (done number) new
+counts_one opening old new number signed at stops = record {
   signed = signed;
   numbered = λ position is.
       let same : number ≡ position = cc is in
       subst (λ (n : ℕ). (n ≡ position_of new.journal) × (position_of old.journal < n)) same at;
+  stops = stops;
 }
 
 -- The answer to a query.
 pub impact_step : (opening : Journal) (old new : SessionView) (name : List ℕ) (query : Query) (reply : ReplyValue)
     → ((m : TableModel) (call : Call) → answer_of m call ≢ refused out_of_memory)
-    → ((reply ≡ refused no_copy) × (new ≡ old)) ⊎ AnswersImpact new.journal name query reply → BeginsWith new.journal old.journal
+    → ((reply ≡ refused no_copy) × (new ≡ missed old)) ⊎ AnswersImpact new.journal name query reply → BeginsWith new.journal old.journal
     → new.accepted ≡ old.accepted → accepted_by reply ≡ 0 → Answered opening old (Impact name query) reply new
 impact_step opening old new name query reply had (inl a) later same none = inl a
 impact_step opening old new name query reply had (inr a) later same none = inr (record {
@@ -148,7 +151,7 @@ change_step opening old new name raw act reply law read (inr a) counted = inr (r
   lawful = a.lawful;
   fresh = a.fresh;
   answer = law a.before a.after a.answer;
-  memory = λ lacks takes. (λ none. cc (read, none), refl);
+  memory = λ lacks takes. (λ none. cc (read, none), a.running lacks);
   seen = a.seen;
   accepted = counted;
 })

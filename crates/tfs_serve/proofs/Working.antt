@@ -1,14 +1,17 @@
 -- Sessions that work, of whose answers their gates hear.
-use Rattle.std.proofs.Common.{◌≡◌, List, [], ◌∷◌, ◌++◌, Option, Some, None, true, refl, sym, ◌∙◌, ap, subst, append_assoc, append-nil}
+use Rattle.std.proofs.Common.{◌≡◌, ℕ, inl, inr, List, [], ◌∷◌, ◌++◌, Option, Some, None, Result, Ok, Err, MatchResult, true, false, refl, sym, ◌∙◌, ap, subst, append_assoc, append-nil}
 use Rattle.std.specs.List.{flat_map}
 use Rattle.std.proofs.lemmas.Grind.{flat_map-append}
 use Rattle.tfs_calls.specs.declared.call.Call.{Call}
 use Rattle.tfs_calls.specs.Reply.{ReplyValue}
+use Rattle.tfs_conversation.specs.Conversation.{AnswersRequest, Exchange, Runs, Converses, BreaksOff, HasTalked}
+use Rattle.tfs_conversation.specs.declared.ended.Ended.{Ended}
+use Rattle.tfs_http.specs.declared.fault.ServeFault.{ServeFault}
 use Rattle.tfs_records.specs.Journal.{Journal}
 use Rattle.tfs_shared.specs.View.{SessionView}
 use Rattle.tfs_serve.specs.Gate.{Event, asked, before, after, Hears}
 use Rattle.tfs_serve.specs.Session.{SessionStep}
-use Rattle.tfs_serve.specs.Working.{Answer, heard_of, heard_of_connection, Gives, GivesOn, HasAnswered, HasWorked}
+use Rattle.tfs_serve.specs.Working.{Answer, heard_of, heard_of_connection, Gives, GivesOn, GivesFirst, IsReplied, AreReplied, HasAnswered, HasConversed, HasWorked, HasReplied}
 
 -- A gate that hears nothing stays.
 hears_nothing : (t : Option (List Event)) → Hears t t []
@@ -36,27 +39,85 @@ gives_on_then : (o : Journal) (a b c : SessionView) (connections : List (List An
 gives_on_then o a b c [] answers p q = (c, subst (λ (v : SessionView). Gives o v answers c) p q, refl)
 gives_on_then o a b c (x ∷ xs) answers p q = (p.0, p.1, gives_on_then o p.0 b c xs answers p.2 q)
 
--- No call was answered.
-pub answered_nothing : (o : Journal) (t : Option (List Event)) (s : SessionView) → HasAnswered o t t s s
-answered_nothing o t s = record { answers = []; heard = hears_nothing t; gives = refl }
+-- Steps of a desk over a session and a gate.
+module _ {S : Type 0} (step : S → Call → ReplyValue → S → Type 0) (o : Journal) (session : S → SessionView) (told : S → Option (List Event))
+    (steps : (old new : S) (call : Call) (reply : ReplyValue) → step old call reply new
+    → SessionStep o (session old) call reply (session new) × Hears (told old) (told new) (before call ∷ after reply ∷ [])) where
+  -- The desk has answered calls, and gave these replies.
+  pub record HasRun (old new : S) (exchanges : List Exchange) : Type 0 where
+    pub answered : HasAnswered o (told old) (told new) (session old) (session new)
+    pub gives : Runs GivesFirst answered.answers exchanges []
 
--- Calls were answered, and more of them.
-pub answered_then : (o : Journal) (t u v : Option (List Event)) (a b c : SessionView) → HasAnswered o t u a b → HasAnswered o u v b c
-    → HasAnswered o t v a c
-answered_then o t u v a b c p q = record {
-  answers = p.answers ++ q.answers;
-  heard = heard_as t v _ _ (sym (flat_map-append heard_of p.answers q.answers)) (hears_then t u v _ _ p.heard q.heard);
-  gives = gives_then o a b c p.answers q.answers p.gives q.gives;
-}
+  -- The desk has stayed before it answered.
+  run_on : (old between new : S) (x : Exchange) (xs : List Exchange) → between ≡ old
+      → ((answers : List Answer) → AnswersRequest GivesFirst answers x.request x.reply answers) → HasRun between new xs → HasRun old new (x ∷ xs)
+  run_on old between new x xs is same run = subst (λ (s : S). HasRun s new (x ∷ xs)) is (record {
+    answered = run.answered;
+    gives = (run.answered.answers, same run.answered.answers, run.gives);
+  })
 
--- One call was answered.
-pub answered_one : (o : Journal) (t u : Option (List Event)) (a b : SessionView) (call : Call) (reply : ReplyValue)
-    → SessionStep o a call reply b → Hears t u (before call ∷ after reply ∷ []) → HasAnswered o t u a b
-answered_one o t u a b call reply step heard = record {
-  answers = record { call = call; reply = reply } ∷ [];
-  heard = heard;
-  gives = (b, step, refl);
-}
+  -- Exchanges in turn are those of the answers that were given.
+  pub has_run : (old new : S) (xs : List Exchange) → Runs step old xs new → HasRun old new xs
+  has_run old new [] run = record {
+    answered = record { answers = []; heard = subst (λ (s : S). Hears (told old) (told s) []) (sym run) (hears_nothing (told old)); gives = ap session run };
+    gives = refl;
+  }
+  has_run old new (x ∷ xs) run = by run.1 (has_run run.0 new xs run.2)
+    where
+      by : AnswersRequest step old x.request x.reply run.0 → HasRun run.0 new xs → HasRun old new (x ∷ xs)
+      by (inl a) rest = run_on old run.0 new x xs a.3 (λ answers. inl (a.0, a.1, a.2, refl)) rest
+      by (inr (inl a)) rest = run_on old run.0 new x xs a.1 (λ answers. inr (inl (a.0, refl, a.2))) rest
+      by (inr (inr a)) rest =
+          let one = steps old run.0 a.0 x.reply a.2 in
+          record {
+            answered = record {
+              answers = record { call = a.0; reply = x.reply } ∷ rest.answered.answers;
+              heard = hears_then (told old) (told run.0) (told new) _ _ one.1 rest.answered.heard;
+              gives = (session run.0, one.0, rest.answered.gives);
+            };
+            gives = (rest.answered.answers, inr (inr (a.0, a.1, refl)), rest.gives);
+          }
+
+  -- A conversation over the desk: the session has answered calls, and what was written are its replies.
+  pub conversed : (old new : S) (text : List ℕ) → HasTalked step old new text → HasConversed o (told old) (told new) (session old) (session new) text
+  conversed old new text t = by t.end t.talk
+    where
+      by : (end : Result Ended ServeFault)
+          → MatchResult end (λ ended. Converses step old new t.bytes text ended) (λ fault. BreaksOff step old new t.bytes text fault 0 t.reads)
+          → HasConversed o (told old) (told new) (session old) (session new) text
+      by (Ok ended) c = let run = has_run old new c.course.exchanges c.takes.run in record {
+        answered = run.answered;
+        replied = record {
+          bytes = t.bytes;
+          reads = t.reads;
+          came = t.came;
+          end = Ok ended;
+          talk = record { course = c.course; takes = record { has = c.takes.has; run = run.gives }; stop = c.stop; text_is = c.text_is };
+        };
+      }
+      by (Err fault) b = let run = has_run old new b.course.exchanges b.takes.run in record {
+        answered = run.answered;
+        replied = record {
+          bytes = t.bytes;
+          reads = t.reads;
+          came = t.came;
+          end = Err fault;
+          talk = record {
+            course = b.course;
+            lost = b.lost;
+            takes = record { has = b.takes.has; run = run.gives };
+            text_is = b.text_is;
+            comes_at = b.comes_at;
+          };
+        };
+      }
+
+-- What was written to connections, and to one more.
+replied_then : (connections : List (List Answer)) (texts : List (List ℕ)) (answers : List Answer) (text : List ℕ) → AreReplied connections texts
+    → IsReplied answers text → AreReplied (connections ++ answers ∷ []) (texts ++ text ∷ [])
+replied_then [] texts answers text p q = subst (λ (l : List (List ℕ)). AreReplied (answers ∷ []) (l ++ text ∷ [])) (sym p) (q, refl)
+replied_then (a ∷ connections) [] answers text p q = absurd p
+replied_then (a ∷ connections) (t ∷ texts) answers text p q = (p.0, replied_then connections texts answers text p.1 q)
 
 -- One more connection was admitted, and calls were answered on it.
 pub worked_on : (o : Journal) (t u v w : Option (List Event)) (a b c : SessionView) → HasWorked o t u a b [] → Hears u v (asked true ∷ [])
@@ -81,7 +142,48 @@ worked_on o t u v w a b c p admitted q = record {
         ∙ sym (flat_map-append heard_of_connection p.connections (q.answers ∷ []))
         ∙ sym (append-nil (flat_map heard_of_connection (p.connections ++ q.answers ∷ [])))
 
--- One more connection was admitted that wasn't taken.
-pub worked_without : (o : Journal) (t u v : Option (List Event)) (a b : SessionView) → HasWorked o t u a b [] → Hears u v (asked true ∷ [])
-    → HasWorked o t v a b []
-worked_without o t u v a b p admitted = worked_on o t u v v a b b p admitted (answered_nothing o v b)
+-- One more connection was admitted, and what was written to it are the replies on it.
+pub replied_on : (o : Journal) (t u v w : Option (List Event)) (a b c : SessionView) (from mid to : List (List ℕ)) (text : List ℕ)
+    → HasReplied o t u a b [] from mid → Hears u v (asked true ∷ []) → HasConversed o v w b c text → to ≡ mid ++ text ∷ []
+    → HasReplied o t w a c [] from to
+unfolding worked_on
+replied_on o t u v w a b c from mid to text p admitted q is = record {
+  worked = worked_on o t u v w a b c p.worked admitted q.answered;
+  texts = p.texts ++ text ∷ [];
+  written = is ∙ ap (λ (l : List (List ℕ)). l ++ text ∷ []) p.written ∙ append_assoc from p.texts (text ∷ []);
+  replied = replied_then p.worked.connections p.texts q.answered.answers text p.replied q.replied;
+}
+
+-- The gate admits no more.
+pub replied_all : (o : Journal) (t u v : Option (List Event)) (a b : SessionView) (from to : List (List ℕ))
+    → HasReplied o t u a b [] from to → Hears u v (asked false ∷ []) → HasReplied o t v a b (asked false ∷ []) from to
+replied_all o t u v a b from to p closed = record {
+  worked = record {
+    connections = p.worked.connections;
+    heard = heard_as t v _ _ (append_assoc (flat_map heard_of_connection p.worked.connections) [] (asked false ∷ []))
+        (hears_then t u v _ _ p.worked.heard closed);
+    gives = p.worked.gives;
+  };
+  texts = p.texts;
+  written = p.written;
+  replied = p.replied;
+}
+
+-- Nothing was done.
+pub replied_nothing : (o : Journal) (t : Option (List Event)) (s : SessionView) (written : List (List ℕ)) → HasReplied o t t s s [] written written
+replied_nothing o t s written = record {
+  worked = record { connections = []; heard = hears_nothing t; gives = refl };
+  texts = [];
+  written = sym (append-nil written);
+  replied = refl;
+}
+
+-- What was written since there was none is all that there is.
+pub replied_since : (o : Journal) (t u : Option (List Event)) (a b : SessionView) (end : List Event) (from to texts : List (List ℕ)) → from ≡ []
+    → texts ≡ to → HasReplied o t u a b end from to → HasReplied o t u a b end [] texts
+replied_since o t u a b end from to texts none is p = record {
+  worked = p.worked;
+  texts = p.texts;
+  written = is ∙ p.written ∙ ap (λ (l : List (List ℕ)). l ++ p.texts) none;
+  replied = p.replied;
+}

@@ -1,11 +1,13 @@
 -- The outcome of a run in short: all replies follow one journal.
-use Rattle.std.specs.Prelude.{◌≡◌, ◌⊎◌, All, List}
+use Rattle.std.specs.Prelude.{◌≡◌, ◌⊎◌, ◌+◌, All, Bool, List}
 use Rattle.tfs_records.specs.Journal.{Journal}
 use Rattle.tfs_calls.specs.Refusal.{no_copy}
 use Rattle.tfs_calls.specs.Reply.{refused}
 use Rattle.tfs_calls.specs.Transition.{TableModel, Answers}
 use Rattle.tfs_table.specs.Lawful.{IsLawful}
 use Rattle.tfs_published.specs.Beginning.{BeginsWith}
+use Rattle.tfs_shared.specs.Stops.{as_number}
+use Rattle.tfs_serve.specs.Serving.{StopsLast, faults_in}
 use Rattle.tfs_serve.specs.Standing.{AcceptedStand}
 use Rattle.tfs_serve.specs.Told.{positions_told, AreToldOnce}
 use Rattle.tfs_serve.specs.Working.{Answer}
@@ -21,9 +23,11 @@ pub record FollowsJournal (last : Journal) (a : Answer) : Type 0 where
 -- The last journal is lawful, and begins with the opening one. Each reply, except `NoCopy`, follows
 -- it. Each accepted change is in it at the reported position, and each position beyond the opening
 -- one is reported by exactly one reply.
-pub record FollowOneJournal (opening last : Journal) (answers : List Answer) : Type 0 where
+pub record FollowOneJournal (opening last : Journal) (was is : Bool) (answers : List Answer) : Type 0 where
   pub lawful : IsLawful last
   pub begins : BeginsWith last opening
   pub follow : All (λ (a : Answer). (a.reply ≡ refused no_copy) ⊎ FollowsJournal last a) answers
   pub stand : AcceptedStand last answers
   pub once : AreToldOnce opening last (positions_told answers)
+  pub faulted : as_number is ≡ as_number was + faults_in answers
+  pub stopped : StopsLast is answers

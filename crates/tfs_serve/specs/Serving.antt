@@ -1,18 +1,22 @@
 -- The replies of a worker over the journal that a run leaves.
-use Rattle.std.specs.Prelude.{◌≡◌, ◌⊎◌, ◌+◌, ◌<◌, ℕ, Bool, List, [], ◌∷◌, ◌++◌, length, get_or, flat_map, sum_by, Option, is_some}
+use Rattle.std.specs.Prelude.{◌≡◌, ◌⊎◌, ◌+◌, ◌<◌, ℕ, All, Bool, true, List, [], ◌∷◌, ◌++◌, length, get_or, flat_map, sum_by, Option, is_some}
 use Rattle.tfs_records.specs.Journal.{Journal, position_of}
+use Rattle.tfs_calls.specs.declared.call.Call.{Call}
+use Rattle.tfs_calls.specs.declared.call.Call.TheVariants.{Read, Change, Impact}
 use Rattle.tfs_calls.specs.Refusal.{no_copy, out_of_memory}
 use Rattle.tfs_calls.specs.Reply.{refused}
 use Rattle.tfs_calls.specs.Transition.{TableModel, Answers}
+use Rattle.tfs_conversation.specs.Desk.{CallMayLackMemory}
 use Rattle.tfs_table.specs.Lawful.{IsLawful}
 use Rattle.tfs_published.specs.Beginning.{BeginsWith}
+use Rattle.tfs_shared.specs.Stops.{as_number, reports_fault, reports_stop}
 use Rattle.tfs_connections.specs.declared.accepting.AcceptFault.{AcceptFault}
 use Rattle.tfs_serve.specs.Faults.{IsCaused}
 use Rattle.tfs_serve.specs.Gate.{Event, Hears}
-use Rattle.tfs_serve.specs.Session.{MayLackMemory, accepted_by}
+use Rattle.tfs_serve.specs.Session.{accepted_by}
 use Rattle.tfs_serve.specs.Standing.{AcceptedStand}
 use Rattle.tfs_serve.specs.Told.{positions_told, AreToldOnce}
-use Rattle.tfs_serve.specs.Working.{Answer, heard_of_connection, end_of_work}
+use Rattle.tfs_serve.specs.Working.{Answer, AreReplied, heard_of_connection, end_of_work}
 use Rattle.tfs_serve.specs.declared.run.Served.{Served}
 
 -- The reply is the transition of a table over a lawful prefix of the last journal, which begins
@@ -23,25 +27,41 @@ pub record RepliesOver (last seen : Journal) (a : Answer) (next : Journal) : Typ
   pub after : TableModel
   pub fresh : BeginsWith before.journal seen
   pub answer : Answers before a.call a.reply after
-  pub memory : a.reply ≡ refused out_of_memory → MayLackMemory before.journal a.call
+  pub memory : a.reply ≡ refused out_of_memory → CallMayLackMemory before a.call
   pub leaves : after.journal ≡ next
   pub stood : BeginsWith last before.journal
   pub stands : BeginsWith last next
   pub was_lawful : IsLawful before.journal
   pub is_lawful : IsLawful next
 
+-- The calls that may lack a copy: impact queries; and changes and reads by who has seen more than the opening journal.
+abbrev pub MayLackCopy : Journal → Journal → Call → Type 0
+MayLackCopy opening seen (Read name) = position_of opening < position_of seen
+MayLackCopy opening seen (Change name raw) = position_of opening < position_of seen
+MayLackCopy opening seen (Impact name query) = Unit {0}
+
 -- One reply: over such a journal, or `NoCopy`, and then nothing more has been seen.
-abbrev pub Replies : Journal → Journal → Answer → Journal → Type 0
-Replies last seen a next = ((a.reply ≡ refused no_copy) × (next ≡ seen)) ⊎ RepliesOver last seen a next
+abbrev pub Replies : Journal → Journal → Journal → Answer → Journal → Type 0
+Replies opening last seen a next =
+    ((a.reply ≡ refused no_copy) × (next ≡ seen) × MayLackCopy opening seen a.call) ⊎ RepliesOver last seen a next
 
 -- The replies of one worker in order, each after what had been seen up to the previous one.
-abbrev pub RepliesInTurn : Journal → Journal → List Answer → Journal → Type 0
-RepliesInTurn last seen [] end = end ≡ seen
-RepliesInTurn last seen (a ∷ more) end = (next : Journal) × Replies last seen a next × RepliesInTurn last next more end
+abbrev pub RepliesInTurn : Journal → Journal → Journal → List Answer → Journal → Type 0
+RepliesInTurn opening last seen [] end = end ≡ seen
+RepliesInTurn opening last seen (a ∷ more) end =
+    (next : Journal) × Replies opening last seen a next × RepliesInTurn opening last next more end
 
 -- The number of changes that replies report as accepted.
 abbrev pub accepted_in : List Answer → ℕ
 accepted_in = sum_by (λ a. accepted_by a.reply)
+
+-- How many replies report that the sink has failed.
+abbrev pub faults_in : List Answer → ℕ
+faults_in = sum_by (λ a. as_number (reports_fault a.reply))
+
+-- A table is stopped if a reply reports it.
+abbrev pub StopsLast : Bool → List Answer → Type 0
+StopsLast stopped = All (λ a. reports_stop a.reply ≡ true → stopped ≡ true)
 
 -- The answers on all connections, in order.
 abbrev pub answers_on : List (List Answer) → List Answer
@@ -56,6 +76,7 @@ pub record ServedView : Type 0 where
   pub fault : Option AcceptFault
   pub seen : ℕ
   pub accepted : ℕ
+  pub written : List (List ℕ)
 
 -- The view of an outcome, given the events that gates of its type hear.
 abbrev pub served_view : {G : Type 0} → (G → Option (List Event)) → Served G → ServedView
@@ -65,6 +86,7 @@ served_view told served = record {
   fault = served.fault;
   seen = served.seen;
   accepted = served.accepted;
+  written = served.written.value.texts;
 }
 
 -- A worker of a run from an opening journal to a last one, which answered on these connections. Its
@@ -75,18 +97,19 @@ pub record IsServed (opening last : Journal) (connections : List (List Answer)) 
   where
     pub heard : Hears told served.told (flat_map heard_of_connection connections ++ end_of_work served.failed)
     pub view : Journal
-    pub replies : RepliesInTurn last opening (answers_on connections) view
+    pub replies : RepliesInTurn opening last opening (answers_on connections) view
     pub stand : AcceptedStand last (answers_on connections)
     pub failed_is : served.failed ≡ is_some served.fault
     pub caused : IsCaused served.fault
     pub seen_is : served.seen ≡ position_of view
     pub accepted_is : served.accepted ≡ accepted_in (answers_on connections)
+    pub replied : AreReplied connections served.written
 
 -- A run from an opening journal to a last one, with a worker for each gate, given the events that
 -- the gates had heard before. The last journal is lawful and begins with the opening one. Each
 -- worker has served its connections. Beyond the opening entries there are as many as changes were
 -- reported as accepted, and each of their positions is reported by exactly one reply.
-pub record IsRun (opening last : Journal) (told : List (Option (List Event))) (served : List ServedView) : Type 0 where
+pub record IsRun (opening last : Journal) (was is : Bool) (told : List (Option (List Event))) (served : List ServedView) : Type 0 where
   pub lawful : IsLawful last
   pub begins : BeginsWith last opening
   pub connections : List (List (List Answer))
@@ -95,3 +118,5 @@ pub record IsRun (opening last : Journal) (told : List (Option (List Event))) (s
       → IsServed opening last (get_or connections i []) (get_or told i t) (get_or served i s)
   pub grows : length last.entries ≡ length opening.entries + sum_by (λ (s : ServedView). s.accepted) served
   pub once : AreToldOnce opening last (flat_map (λ (answers : List (List Answer)). positions_told (answers_on answers)) connections)
+  pub faulted : as_number is ≡ as_number was + sum_by (λ (answers : List (List Answer)). faults_in (answers_on answers)) connections
+  pub stopped : (i : ℕ) → i < length connections → StopsLast is (answers_on (get_or connections i []))

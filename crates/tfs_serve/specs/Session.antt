@@ -5,13 +5,13 @@ use Rattle.tfs_calls.specs.declared.call.Call.{Call}
 use Rattle.tfs_calls.specs.declared.call.Call.TheVariants.{Read, Change, Impact}
 use Rattle.tfs_calls.specs.Refusal.{no_copy, out_of_memory}
 use Rattle.tfs_calls.specs.Reply.{ReplyValue, done, state, impact, refused}
-use Rattle.tfs_calls.specs.Transition.{TableModel, Answers, open_model}
+use Rattle.tfs_calls.specs.Transition.{TableModel, Answers}
 use Rattle.tfs_conversation.specs.Desk.{CallMayLackMemory}
 use Rattle.tfs_table.specs.Lawful.{IsLawful}
 use Rattle.tfs_published.specs.Beginning.{BeginsWith}
 use Rattle.tfs_shared.specs.Locked.{HasNoCopy}
 use Rattle.tfs_shared.specs.Signed.{IsSigned, makers_told}
-use Rattle.tfs_shared.specs.View.{SessionView}
+use Rattle.tfs_shared.specs.View.{SessionView, CountsStop, missed}
 
 -- The number of changes that a reply reports as accepted: 1 or 0.
 abbrev pub accepted_by : ReplyValue → ℕ
@@ -19,10 +19,6 @@ accepted_by (done position) = 1
 accepted_by (state d) = 0
 accepted_by (impact d chosen position) = 0
 accepted_by (refused refusal) = 0
-
--- The call may be refused for lack of memory over a table with this journal that isn't stopped.
-abbrev pub MayLackMemory : Journal → Call → Type 0
-MayLackMemory j call = CallMayLackMemory (open_model j) call
 
 -- The reply is the transition of a table whose lawful journal begins with all that the session had
 -- seen. The session then has seen the journal after the transition.
@@ -32,7 +28,7 @@ pub record AnswersOver (old : SessionView) (call : Call) (reply : ReplyValue) (n
   pub lawful : IsLawful before.journal
   pub fresh : BeginsWith before.journal old.journal
   pub answer : Answers before call reply after
-  pub memory : reply ≡ refused out_of_memory → MayLackMemory before.journal call
+  pub memory : reply ≡ refused out_of_memory → CallMayLackMemory before call
   pub seen : new.journal ≡ after.journal
   pub accepted : new.accepted ≡ old.accepted + accepted_by reply
 
@@ -41,7 +37,7 @@ pub record AnswersOver (old : SessionView) (call : Call) (reply : ReplyValue) (n
 abbrev pub LacksCopy : Journal → SessionView → Call → ReplyValue → SessionView → Type 0
 LacksCopy opening old (Read name) reply new = HasNoCopy opening old new reply
 LacksCopy opening old (Change name raw) reply new = HasNoCopy opening old new reply
-LacksCopy opening old (Impact name query) reply new = (reply ≡ refused no_copy) × (new ≡ old)
+LacksCopy opening old (Impact name query) reply new = (reply ≡ refused no_copy) × (new ≡ missed old)
 
 -- A step keeps count: each change beyond the opening journal that the session then has seen has a
 -- maker, and the last one is its own if one was accepted. The reported position is the position of
@@ -49,6 +45,7 @@ LacksCopy opening old (Impact name query) reply new = (reply ≡ refused no_copy
 pub record KeepsCount (opening : Journal) (old : SessionView) (reply : ReplyValue) (new : SessionView) : Type 0 where
   pub signed : IsSigned opening old new (makers_told old.number reply)
   pub numbered : (position : ℕ) → reply ≡ done position → (position ≡ position_of new.journal) × (position_of old.journal < position)
+  pub stops : CountsStop old new reply
 
 -- One step of a desk over a session of a table that was shared with an opening journal: an answer
 -- over a journal with all that the session had seen, or `NoCopy`.

@@ -1,8 +1,9 @@
 -- The work of a worker: it asks its gate for connections, and answers the calls on each connection
 -- that the gate admits.
-use Rattle.std.specs.Prelude.{◌≡◌, Bool, true, false, List, [], ◌∷◌, ◌++◌, flat_map, Option, if◌then◌else◌}
+use Rattle.std.specs.Prelude.{◌≡◌, ℕ, Bool, true, false, List, [], ◌∷◌, ◌++◌, flat_map, Option, if◌then◌else◌}
 use Rattle.tfs_calls.specs.declared.call.Call.{Call}
 use Rattle.tfs_calls.specs.Reply.{ReplyValue}
+use Rattle.tfs_conversation.specs.Conversation.{HasTalked}
 use Rattle.tfs_records.specs.Journal.{Journal}
 use Rattle.tfs_shared.specs.View.{SessionView}
 use Rattle.tfs_serve.specs.Gate.{Event, asked, before, after, Hears}
@@ -45,6 +46,33 @@ pub record HasWorked (opening : Journal) (told now : Option (List Event)) (old n
   pub connections : List (List Answer)
   pub heard : Hears told now (flat_map heard_of_connection connections ++ end)
   pub gives : GivesOn opening old connections new
+
+-- The step of a desk that has these answers to give, and no others: it gives the first.
+abbrev pub GivesFirst : List Answer → Call → ReplyValue → List Answer → Type 0
+GivesFirst answers call reply left = answers ≡ record { call = call; reply = reply } ∷ left
+
+-- The text written to a connection is that of a conversation in which just these answers were given: of each message in turn the reply of the
+-- next one, or a refusal of which the desk doesn't hear, and after a fault less.
+abbrev pub IsReplied : List Answer → List ℕ → Type 0
+IsReplied answers text = HasTalked GivesFirst answers [] text
+
+-- The same on one connection after another.
+abbrev pub AreReplied : List (List Answer) → List (List ℕ) → Type 0
+AreReplied [] texts = texts ≡ []
+AreReplied (answers ∷ connections) [] = ⊥
+AreReplied (answers ∷ connections) (text ∷ texts) = IsReplied answers text × AreReplied connections texts
+
+-- A session has answered calls on a connection, and this text was written to it.
+pub record HasConversed (opening : Journal) (told now : Option (List Event)) (old new : SessionView) (text : List ℕ) : Type 0 where
+  pub answered : HasAnswered opening told now old new
+  pub replied : IsReplied answered.answers text
+
+-- A session has worked, and what was written to its connections, behind what was written before, are its replies.
+pub record HasReplied (opening : Journal) (told now : Option (List Event)) (old new : SessionView) (end : List Event) (from to : List (List ℕ)) : Type 0 where
+  pub worked : HasWorked opening told now old new end
+  pub texts : List (List ℕ)
+  pub written : to ≡ from ++ texts
+  pub replied : AreReplied worked.connections texts
 
 -- The last event of a worker's gate: it was asked for a connection and said no, unless the listener
 -- failed.

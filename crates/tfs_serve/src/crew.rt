@@ -5,7 +5,7 @@ ghost use Rattle.tfs_published.specs.Beginning.{BeginsWith};
 ghost use Rattle.tfs_shared.specs.View.{AreNew, new_session};
 ghost use Rattle.tfs_serve.specs.Faults.{IsCaused};
 ghost use Rattle.tfs_serve.specs.Serving.{IsRun, served_view};
-ghost use Rattle.tfs_serve.specs.Working.{HasWorked, end_of_work};
+ghost use Rattle.tfs_serve.specs.Working.{HasReplied, end_of_work};
 
 use crate::gate::Gate;
 use crate::leaving::{gathered, split_members};
@@ -14,10 +14,11 @@ use crate::run::{Run, Served};
 use crate::runtime::Runtime;
 use std::alloc::{AllocError, Global};
 use std::net::OpenListener;
+use std::snapshot::Snapshot;
 use std::sync::Wait;
 use std::thread::Threads;
 use std::time::Clock;
-use tfs_connections::{AnyStream, Connection, LentListener};
+use tfs_connections::{AnyStream, Connection, LentListener, Written};
 use tfs_records::Sink;
 use tfs_shared::{Naming, Session, Shared};
 use tfs_table::Table;
@@ -37,6 +38,7 @@ pub(crate) struct Crew<J: Naming, G: Gate> {
     pub(crate) gates: Vec<G>,
     pub(crate) sessions: Vec<Session<J>>,
     pub(crate) room: Room<J, G>,
+    pub(crate) stopped: bool,
 }
 
 impl<J: Naming, G: Gate + Drop> Room<J, G> {
@@ -70,24 +72,25 @@ pub(crate) fn attend<
     listener: L,
 ) -> Result<Run<K, G, L>, Table<K>>
     requires some { 1 ≤ length crew.gates.items }
-    requires new { AreNew J.opening (length crew.gates.items) crew.sessions.items }
+    requires new { AreNew J.opening crew.stopped (length crew.gates.items) crew.sessions.items }
     requires empty { (crew.room.members.items ≡ []) × (crew.room.sessions.items ≡ []) × (crew.room.served.items ≡ []) }
     requires room { (length crew.gates.items ≤ vec_capacity crew.room.members) × (length crew.gates.items ≤ vec_capacity crew.room.sessions)
         × (length crew.gates.items ≤ vec_capacity crew.room.served) }
-    ensures run { IfOk result (λ run. IsRun J.opening run.table.journal (map G.told crew.gates.items) (map (served_view G.told) run.served.items)) }
+    ensures run { IfOk result (λ run. IsRun J.opening run.table.journal crew.stopped run.table.stopped (map G.told crew.gates.items) (map (served_view G.told) run.served.items)) }
     ensures kept { IfErr result (λ table. BeginsWith table.journal J.opening) }
 {
     let Crew {
         gates,
         sessions,
         room,
+        stopped,
     } = crew;
     let Room {
         members,
         sessions: room,
         served,
     } = room;
-    let members = make_members(members, gates, sessions);
+    let members = make_members(members, gates, sessions, stopped);
     let members = run_members(runtime, &LentListener::of(&listener), members, &shared);
     let (sessions, served) = split_members(members, room, served);
     match gathered(runtime.rt, shared, sessions) {
@@ -105,12 +108,13 @@ fn make_members<J: Naming, G: Gate + Drop>(
     room: Vec<Member<J, G>>,
     gates: Vec<G>,
     sessions: Vec<Session<J>>,
+    stopped: bool,
 ) -> Vec<Member<J, G>>
     requires room { (room.items ≡ []) × (length gates.items ≤ vec_capacity room) }
-    requires new { AreNew J.opening (length gates.items) sessions.items }
+    requires new { AreNew J.opening stopped (length gates.items) sessions.items }
     ensures gates { map (λ member. member.gate) result.items ≡ gates.items }
     ensures sessions { (i : ℕ) (d : _) → i < length result.items
-        → (number : ℕ) × (number + i + 1 ≡ length gates.items) × ((slice_index_or result.items i d).session ≡ new_session J.opening number) }
+        → (number : ℕ) × (number + i + 1 ≡ length gates.items) × ((slice_index_or result.items i d).session ≡ new_session J.opening stopped number) }
 {
     let mut sessions = sessions;
     let mut members = room;
@@ -121,6 +125,7 @@ fn make_members<J: Naming, G: Gate + Drop>(
                 gate,
                 session,
                 fault: None,
+                written: Snapshot::of(&Written::new()),
             })
             .unwrap();
     }
@@ -143,9 +148,9 @@ fn run_members<
     ensures len { length result.items ≡ length members.items }
     ensures caused { (i : ℕ) (d : _) → i < length members.items → IsCaused (slice_index_or result.items i d).fault }
     ensures worked { (i : ℕ) (d : _) → i < length members.items
-        → HasWorked J.opening (G.told (slice_index_or members.items i d).gate) (G.told (slice_index_or result.items i d).gate)
+        → HasReplied J.opening (G.told (slice_index_or members.items i d).gate) (G.told (slice_index_or result.items i d).gate)
         (slice_index_or members.items i d).session (slice_index_or result.items i d).session
-        (end_of_work (is_some (slice_index_or result.items i d).fault)) }
+        (end_of_work (is_some (slice_index_or result.items i d).fault)) [] (slice_index_or result.items i d).written.value.texts }
 {
     let mut members = members;
     work_until(runtime, listener, members.as_mut_slice(), shared);

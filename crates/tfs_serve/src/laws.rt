@@ -1,6 +1,6 @@
 //! Laws about the replies and the journal that a run leaves.
 
-ghost use Rattle.std.specs.Prelude.{List, Option, flat_map};
+ghost use Rattle.std.specs.Prelude.{Bool, List, Option, flat_map};
 ghost use Rattle.tfs_records.specs.Journal.{Journal};
 ghost use Rattle.tfs_serve.specs.Following.{FollowOneJournal};
 ghost use Rattle.tfs_serve.specs.Gate.{Event};
@@ -12,13 +12,14 @@ ghost use Rattle.tfs_serve.specs.Working.{Answer};
 /// reports.
 #[tactic(auto, using(crate::proofs::Standing::accepted_stand))]
 pub fn accepted_changes_stand_in_the_last_journal()
-    ensures stand { (last seen end : Journal) (answers : List Answer) → RepliesInTurn last seen answers end → AcceptedStand last answers }
+    ensures stand { (opening last seen end : Journal) (answers : List Answer) → RepliesInTurn opening last seen answers end
+        → AcceptedStand last answers }
 {}
 
 /// All replies of a run follow one lawful journal, which the run leaves. Each reply, except
 /// `NoCopy`, is the model's answer over a lawful prefix of it. Each accepted change is in it at the
 /// reported position. Each position beyond the opening one was reported by exactly one reply.
 pub fn all_replies_follow_one_journal()
-    ensures follow { (opening last : Journal) (told : List (Option (List Event))) (served : List ServedView)
-        → (run : IsRun opening last told served) → FollowOneJournal opening last (flat_map answers_on run.connections) }
+    ensures follow { (opening last : Journal) (was is : Bool) (told : List (Option (List Event))) (served : List ServedView)
+        → (run : IsRun opening last was is told served) → FollowOneJournal opening last was is (flat_map answers_on run.connections) }
 {}

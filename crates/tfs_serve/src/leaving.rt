@@ -1,17 +1,19 @@
 //! The end of a run: the table and the outcomes of its workers.
 
-ghost use Rattle.std.specs.Prelude.{◌≡◌, ◌+◌, ◌≤◌, All, [], is_some, length, map, sum_by, vec_capacity, IfOk, IfErr};
+ghost use Rattle.std.specs.Prelude.{◌≡◌, ◌+◌, ◌≤◌, All, Bool, true, [], is_some, length, map, sum_by, vec_capacity, IfOk, IfErr};
 ghost use Rattle.tfs_records.specs.Journal.{position_of};
 ghost use Rattle.tfs_table.specs.Lawful.{IsLawful};
 ghost use Rattle.tfs_published.specs.Beginning.{BeginsWith};
 ghost use Rattle.tfs_shared.specs.Signed.{AreSigned};
+ghost use Rattle.tfs_shared.specs.Stops.{as_number};
 ghost use Rattle.tfs_shared.specs.View.{AreNew};
 
 use crate::gate::Gate;
 use crate::member::Member;
 use crate::run::Served;
+use std::snapshot::Snapshot;
 use std::sync::Wait;
-use tfs_connections::AcceptFault;
+use tfs_connections::{AcceptFault, Written};
 use tfs_records::Sink;
 use tfs_shared::{Naming, Session, Shared, Strangers, gather};
 use tfs_table::Table;
@@ -22,7 +24,7 @@ pub(crate) fn take_back<J: Naming, K: Sink, R: Wait>(
     shared: Shared<J, K>,
     sessions: Vec<Session<J>>,
 ) -> Table<K>
-    requires new { AreNew J.opening J.sessions sessions.items }
+    requires new { (stopped : Bool) × AreNew J.opening stopped J.sessions sessions.items }
     ensures journal { result.journal ≡ J.opening }
 {
     match gather(rt, shared, sessions) {
@@ -44,6 +46,8 @@ pub(crate) fn gathered<J: Naming, K: Sink, R: Wait>(
     ensures signed { IfOk result (λ table. AreSigned J.opening table.journal sessions.items) }
     ensures counted { IfOk result (λ table. length table.journal.entries
         ≡ length J.opening.entries + sum_by (λ session. session.accepted) sessions.items) }
+    ensures faulted { IfOk result (λ table. sum_by (λ session. as_number session.faulted) sessions.items ≡ as_number table.stopped) }
+    ensures stopped { IfOk result (λ table. All (λ session. session.stopped ≡ true → table.stopped ≡ true) sessions.items) }
     ensures kept { IfErr result (λ table. BeginsWith table.journal J.opening) }
 {
     match gather(rt, shared, sessions) {
@@ -78,6 +82,7 @@ pub(crate) fn split_members<J: Naming, G: Gate + Drop>(
       fault = member.fault;
       seen = position_of member.session.journal;
       accepted = member.session.accepted;
+      written = member.written;
     }) members.items }
 {
     let mut sessions = sessions;
@@ -87,8 +92,9 @@ pub(crate) fn split_members<J: Naming, G: Gate + Drop>(
             gate,
             session,
             fault,
+            written,
         } = member;
-        let served = served_by(&session, gate, fault);
+        let served = served_by(&session, gate, fault, written);
         sessions.push(session).unwrap();
         all.push(served).unwrap();
     }
@@ -100,6 +106,7 @@ fn served_by<J: Naming, G: Gate>(
     session: &Session<J>,
     gate: G,
     fault: Option<AcceptFault>,
+    written: Snapshot<Written>,
 ) -> Served<G>
     ensures value { result ≡ record {
       gate = gate;
@@ -107,6 +114,7 @@ fn served_by<J: Naming, G: Gate>(
       fault = fault;
       seen = position_of session.now.journal;
       accepted = session.now.accepted;
+      written = written;
     } }
 {
     Served {
@@ -115,5 +123,6 @@ fn served_by<J: Naming, G: Gate>(
         fault,
         seen: session.seen(),
         accepted: session.accepted(),
+        written,
     }
 }

@@ -1,19 +1,20 @@
 //! The members of a run's crew.
 
-ghost use Rattle.std.specs.Prelude.{ℕ, ◌<◌, is_some, length, slice_index_or};
+ghost use Rattle.std.specs.Prelude.{ℕ, ◌<◌, [], is_some, length, slice_index_or};
 ghost use Rattle.tfs_serve.specs.Faults.{IsCaused};
-ghost use Rattle.tfs_serve.specs.Working.{HasWorked, end_of_work};
+ghost use Rattle.tfs_serve.specs.Working.{HasReplied, end_of_work};
 
 use crate::gate::Gate;
 use crate::runtime::Runtime;
 use crate::serving::work_over;
 use crate::session_desk::Service;
 use std::net::OpenListener;
+use std::snapshot::Snapshot;
 use std::sync::{Mutex, Wait};
 use std::thread;
 use std::thread::Threads;
 use std::time::Clock;
-use tfs_connections::{AcceptFault, AnyStream, Load};
+use tfs_connections::{AcceptFault, AnyStream, Load, Reception, Written};
 use tfs_records::Sink;
 use tfs_shared::{Naming, Session, Shared};
 
@@ -24,6 +25,7 @@ pub(crate) struct Member<J: Naming, G: Gate> {
     pub(crate) gate: G,
     pub(crate) session: Session<J>,
     pub(crate) fault: Option<AcceptFault>,
+    pub(crate) written: Snapshot<Written>,
 }
 
 impl<J: Naming, G: Gate> Member<J, G> {
@@ -34,13 +36,15 @@ impl<J: Naming, G: Gate> Member<J, G> {
         listener: &L,
     )
         ensures caused { IsCaused self.new.fault }
-        ensures worked { HasWorked J.opening (G.told self.old.gate) (G.told self.new.gate) self.old.session self.new.session
-            (end_of_work (is_some self.new.fault)) }
+        ensures worked { HasReplied J.opening (G.told self.old.gate) (G.told self.new.gate) self.old.session self.new.session
+            (end_of_work (is_some self.new.fault)) [] self.new.written.value.texts }
     {
-        match work_over(service, listener, &mut self.gate, &mut self.session) {
+        let mut reception = Reception::new(listener);
+        match work_over(service, &mut reception, &mut self.gate, &mut self.session) {
             Ok(()) => self.fault = None,
             Err(fault) => self.fault = Some(fault),
         }
+        self.written = Snapshot::of(&reception.into_written());
     }
 }
 
@@ -55,9 +59,9 @@ pub(crate) fn work_until<
 >(runtime: &Runtime<'_, R>, listener: &L, members: &mut [Member<J, G>], shared: &Shared<J, K>)
     ensures caused { (i : ℕ) (d : _) → i < length members.old → IsCaused (slice_index_or members.new i d).fault }
     ensures worked { (i : ℕ) (d : _) → i < length members.old
-        → HasWorked J.opening (G.told (slice_index_or members.old i d).gate) (G.told (slice_index_or members.new i d).gate)
+        → HasReplied J.opening (G.told (slice_index_or members.old i d).gate) (G.told (slice_index_or members.new i d).gate)
         (slice_index_or members.old i d).session (slice_index_or members.new i d).session
-        (end_of_work (is_some (slice_index_or members.new i d).fault)) }
+        (end_of_work (is_some (slice_index_or members.new i d).fault)) [] (slice_index_or members.new i d).written.value.texts }
 {
     let (rt, alloc) = (runtime.rt, runtime.alloc);
     let (ended, muted) = (runtime.ended, runtime.muted);
@@ -70,8 +74,8 @@ pub(crate) fn work_until<
         16,
         &|number: usize, member: &mut Member<J, G>|
             ensures caused { IsCaused member.exit.now.fault }
-            ensures worked { HasWorked J.opening (G.told member.entry.now.gate) (G.told member.exit.now.gate) member.entry.now.session
-                member.exit.now.session (end_of_work (is_some member.exit.now.fault)) }
+            ensures worked { HasReplied J.opening (G.told member.entry.now.gate) (G.told member.exit.now.gate) member.entry.now.session
+                member.exit.now.session (end_of_work (is_some member.exit.now.fault)) [] member.exit.now.written.value.texts }
         {
             let turn = if number % 2 == 0 { &even } else { &odd };
             let service = Service {

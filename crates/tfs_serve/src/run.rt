@@ -1,6 +1,6 @@
 //! Whole runs: a table is shared, served on connections, and gathered.
 
-ghost use Rattle.std.specs.Prelude.{◌≡◌, ◌≢◌, ◌+◌, ◌≤◌, ◌<◌, ℕ, [], length, map, slice_index_or, vec_capacity, IfOk, IfErr};
+ghost use Rattle.std.specs.Prelude.{◌≡◌, ◌≢◌, ◌+◌, ◌≤◌, ◌<◌, ℕ, Bool, [], length, map, slice_index_or, vec_capacity, IfOk, IfErr};
 ghost use Rattle.tfs_records.specs.Journal.{position_of};
 ghost use Rattle.tfs_published.specs.Beginning.{BeginsWith};
 ghost use Rattle.tfs_shared.specs.View.{AreNew, new_session};
@@ -16,12 +16,13 @@ use crate::runtime::Runtime;
 use std::alloc::Global;
 use std::marker::Brand;
 use std::net::{OpenListener, TcpStream};
+use std::snapshot::Snapshot;
 use std::sync::Wait;
 use std::sync::atomic::AtomicBool;
 use std::sync::ledger::Blank;
 use std::thread::Threads;
 use std::time::Clock;
-use tfs_connections::{AcceptFault, Connection};
+use tfs_connections::{AcceptFault, Connection, Written};
 use tfs_records::Sink;
 use tfs_shared::{Cause, Naming, Opened, Session, Shared, share};
 use tfs_table::Table;
@@ -36,6 +37,7 @@ pub struct Served<G: Gate> {
     pub fault: Option<AcceptFault>,
     pub seen: u64,
     pub accepted: u64,
+    pub written: Snapshot<Written>,
 }
 
 /// Returns the fault of the first worker whose listener failed, if there is one.
@@ -121,7 +123,7 @@ pub fn serve<
 ) -> Result<Run<K, G, L>, Unserved<K, E>>
     requires number { (1 ≤ length gates.items) × (length gates.items ≤ 16) }
     requires callable { F.IsAlwaysCallable listen }
-    ensures run { IfOk result (λ run. IsRun table.journal run.table.journal (map G.told gates.items) (map (served_view G.told) run.served.items)) }
+    ensures run { IfOk result (λ run. IsRun table.journal run.table.journal table.stopped run.table.stopped (map G.told gates.items) (map (served_view G.told) run.served.items)) }
     ensures kept { IfErr result (λ unserved. BeginsWith unserved.table.journal table.journal) }
     ensures back { IfErr result (λ unserved. unserved.why ≢ NoCopy → unserved.table.journal ≡ table.journal) }
 {
@@ -152,7 +154,7 @@ pub fn serve_until<
 ) -> Result<Run<K, G, L>, Unserved<K, E>>
     requires number { (1 ≤ length gates.items) × (length gates.items ≤ 16) }
     requires callable { F.IsAlwaysCallable listen }
-    ensures run { IfOk result (λ run. IsRun table.journal run.table.journal (map G.told gates.items) (map (served_view G.told) run.served.items)) }
+    ensures run { IfOk result (λ run. IsRun table.journal run.table.journal table.stopped run.table.stopped (map G.told gates.items) (map (served_view G.told) run.served.items)) }
     ensures kept { IfErr result (λ unserved. BeginsWith unserved.table.journal table.journal) }
     ensures back { IfErr result (λ unserved. unserved.why ≢ NoCopy → unserved.table.journal ≡ table.journal) }
 {
@@ -183,14 +185,15 @@ fn serve_named<
     requires callable { F.IsAlwaysCallable asked.listen }
     requires named { (length asked.gates.items ≡ J.sessions) × (J.parts ≡ J.sessions) × (blanks.blank.name ≡ J.name)
         × (blanks.blank.parts ≡ J.parts) × (blanks.opened ≡ J.book) × (table.journal ≡ J.opening) }
-    ensures run { IfOk result (λ run. IsRun J.opening run.table.journal (map G.told asked.gates.items) (map (served_view G.told) run.served.items)) }
+    ensures run { IfOk result (λ run. IsRun J.opening run.table.journal table.stopped run.table.stopped (map G.told asked.gates.items) (map (served_view G.told) run.served.items)) }
     ensures kept { IfErr result (λ unserved. BeginsWith unserved.table.journal J.opening) }
     ensures back { IfErr result (λ unserved. unserved.why ≢ NoCopy → unserved.table.journal ≡ J.opening) }
 {
     let Blanks { blank, opened } = blanks;
     let (rt, alloc, number) = (runtime.rt, runtime.alloc, asked.gates.len());
+    let stopped = table.stopped();
     match share::<J, K, R>(rt, alloc, table, number, blank, opened) {
-        Ok((shared, sessions)) => serve_shared(runtime, shared, sessions, asked),
+        Ok((shared, sessions)) => serve_shared(runtime, shared, sessions, asked, stopped),
         Err(unshared) => {
             let why = obstacle_of(unshared.why);
             let table = unshared.table;
@@ -214,11 +217,12 @@ fn serve_shared<
     shared: Shared<J, K>,
     sessions: Vec<Session<J>>,
     asked: Asked<G, F>,
+    stopped: bool,
 ) -> Result<Run<K, G, L>, Unserved<K, E>>
     requires number { (1 ≤ length asked.gates.items) × (length asked.gates.items ≡ J.sessions) }
     requires callable { F.IsAlwaysCallable asked.listen }
-    requires new { AreNew J.opening J.sessions sessions.items }
-    ensures run { IfOk result (λ run. IsRun J.opening run.table.journal (map G.told asked.gates.items) (map (served_view G.told) run.served.items)) }
+    requires new { AreNew J.opening stopped J.sessions sessions.items }
+    ensures run { IfOk result (λ run. IsRun J.opening run.table.journal stopped run.table.stopped (map G.told asked.gates.items) (map (served_view G.told) run.served.items)) }
     ensures kept { IfErr result (λ unserved. BeginsWith unserved.table.journal J.opening) }
     ensures back { IfErr result (λ unserved. unserved.why ≢ NoCopy → unserved.table.journal ≡ J.opening) }
 {
@@ -233,6 +237,7 @@ fn serve_shared<
                 gates,
                 sessions,
                 room,
+                stopped,
             };
             match attend(runtime, shared, crew, listener) {
                 Ok(run) => Ok(run),
@@ -257,7 +262,7 @@ fn give_back<J: Naming, K: Sink, E, R: Wait>(
     sessions: Vec<Session<J>>,
     why: Obstacle<E>,
 ) -> Unserved<K, E>
-    requires new { AreNew J.opening J.sessions sessions.items }
+    requires new { (stopped : Bool) × AreNew J.opening stopped J.sessions sessions.items }
     ensures journal { result.table.journal ≡ J.opening }
 {
     let table = take_back(rt, shared, sessions);

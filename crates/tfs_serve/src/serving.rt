@@ -1,10 +1,11 @@
 //! The work of one session: one connection after another.
 
-ghost use Rattle.std.specs.Prelude.{◌≡◌, OnOk, OnErr, IfErr, [], ◌∷◌, false};
+ghost use Rattle.std.specs.Prelude.{◌≡◌, ◌++◌, ℕ, List, OnOk, OnErr, IfErr, [], ◌∷◌, false};
 ghost use Rattle.tfs_connections.specs.Accepting.{IsFinal, error_of};
+ghost use Rattle.tfs_connections.specs.Talking.{written_at};
 ghost use Rattle.tfs_serve.specs.Gate.{IsAdmitted, IsClosed, asked};
 ghost use Rattle.tfs_serve.specs.Session.{IsLater};
-ghost use Rattle.tfs_serve.specs.Working.{HasAnswered, HasWorked};
+ghost use Rattle.tfs_serve.specs.Working.{HasConversed, HasReplied, HasWorked};
 
 use crate::gate::Gate;
 use crate::gated::Gated;
@@ -13,10 +14,7 @@ use json::Scratch;
 use std::net::{OpenListener, TcpStream};
 use std::sync::Wait;
 use std::time::Clock;
-use tfs_connections::{
-    AcceptFault, Connection, Incoming, LentConnection, Listening, Outgoing, Timing, take_connection,
-};
-use tfs_conversation::{Outlet, Reads, Source, converse};
+use tfs_connections::{AcceptFault, Connection, Reception, Setting};
 use tfs_records::Sink;
 use tfs_shared::{Naming, Session};
 
@@ -40,11 +38,12 @@ pub fn work<L: OpenListener<Stream = TcpStream>, J: Naming, K: Sink, G: Gate, R:
     ensures worked { OnOk result (HasWorked J.opening (G.told gate.old) (G.told gate.new) session.old session.new (asked false ∷ [])) }
     ensures broken { OnErr result (HasWorked J.opening (G.told gate.old) (G.told gate.new) session.old session.new []) }
 {
-    work_over(service, listener, gate, session)
+    let mut reception = Reception::new(listener);
+    work_over(service, &mut reception, gate, session)
 }
 
 /// Works as [`work`] does, over a listener of any transport.
-#[tactic(auto, using(crate::proofs::Later::later_itself, crate::proofs::Later::later_then))]
+#[tactic(auto, using(crate::proofs::Later::later_itself, crate::proofs::Later::later_then, crate::proofs::Working::replied_nothing))]
 pub(crate) fn work_over<
     L: OpenListener<Stream = S>,
     J: Naming,
@@ -54,7 +53,7 @@ pub(crate) fn work_over<
     S: Connection + Drop,
 >(
     service: &Service<'_, J, K, R>,
-    listener: &L,
+    reception: &mut Reception<'_, L>,
     gate: &mut G,
     session: &mut Session<J>,
 ) -> Result<(), AcceptFault>
@@ -62,78 +61,72 @@ pub(crate) fn work_over<
     ensures ends { IfErr result (λ fault. IsFinal (error_of fault)) }
     ensures admitted { OnErr result (IsAdmitted (G.told gate.new)) }
     ensures later { IsLater session.old session.new }
-    ensures worked { OnOk result (HasWorked J.opening (G.told gate.old) (G.told gate.new) session.old session.new (asked false ∷ [])) }
-    ensures broken { OnErr result (HasWorked J.opening (G.told gate.old) (G.told gate.new) session.old session.new []) }
+    ensures worked { OnOk result (HasReplied J.opening (G.told gate.old) (G.told gate.new) session.old session.new (asked false ∷ [])
+        (written_at reception.old) (written_at reception.new)) }
+    ensures broken { OnErr result (HasReplied J.opening (G.told gate.old) (G.told gate.new) session.old session.new []
+        (written_at reception.old) (written_at reception.new)) }
 {
-    let mut listening = Listening::new(listener);
     let mut scratch = Scratch::new(service.alloc);
     for _ in service.rt.forever() {
         if !gate.admit() {
             return Ok(());
         }
-        match take_connection(service.rt, &mut listening, service.ended, service.load) {
-            Ok(stream) => serve(service, stream, gate, session, &mut scratch),
-            Err(fault) => return Err(fault),
+        if let Err(fault) = converse_next(service, reception, gate, session, &mut scratch) {
+            return Err(fault);
         }
     }
     unreachable!()
 }
 
-/// Holds a conversation on a connection, if there is one. States of at most 1 MiB are read with the
-/// memory of `scratch`.
-fn serve<S: Connection + Drop, J: Naming, K: Sink, G: Gate, R: Wait + Clock>(
+/// Has a conversation over the session on the next connection, with states read over the room of a scratch.
+fn converse_next<
+    L: OpenListener<Stream = S>,
+    J: Naming,
+    K: Sink,
+    G: Gate,
+    R: Wait + Clock,
+    S: Connection + Drop,
+>(
     service: &Service<'_, J, K, R>,
-    stream: Option<S>,
+    reception: &mut Reception<'_, L>,
     gate: &mut G,
     session: &mut Session<J>,
     scratch: &mut Scratch,
-)
+) -> Result<(), AcceptFault>
+    ensures ends { IfErr result (λ fault. IsFinal (error_of fault)) }
+    ensures kept { OnErr result (G.told gate.new ≡ G.told gate.old) }
     ensures later { IsLater session.old session.new }
-    ensures answered { HasAnswered J.opening (G.told gate.old) (G.told gate.new) session.old session.new }
+    ensures conversed { (text : List ℕ) × (written_at reception.new ≡ written_at reception.old ++ text ∷ [])
+        × HasConversed J.opening (G.told gate.old) (G.told gate.new) session.old session.new text }
 {
-    let Some(stream) = stream else {
-        return;
-    };
-    if stream.limit().is_err() {
-        return;
-    }
-    let timing = Timing::new(service.rt, service.ended, service.muted, service.load);
     let desk = LentDesk {
         service,
         session,
         scratch,
     };
-    serve_in_time(&timing, &stream, &mut Gated { desk, gate });
-    timing.end_slow();
+    converse_over(&service.setting(), reception, &mut Gated { desk, gate })
 }
 
-/// Holds a conversation over the desk on a connection, whose time limits begin now.
-fn serve_in_time<S: Connection, J: Naming, K: Sink, G: Gate, R: Wait, C: Clock>(
-    timing: &Timing<'_, '_, C>,
-    stream: &S,
+/// Has a conversation over the desk on the next connection; the desk keeps its loan.
+fn converse_over<
+    L: OpenListener<Stream = S>,
+    J: Naming,
+    K: Sink,
+    G: Gate,
+    R: Wait + Clock,
+    S: Connection + Drop,
+>(
+    setting: &Setting<'_, R>,
+    reception: &mut Reception<'_, L>,
     desk: &mut Gated<'_, LentDesk<'_, '_, '_, J, K, R>, G>,
-)
+) -> Result<(), AcceptFault>
+    ensures ends { IfErr result (λ fault. IsFinal (error_of fault)) }
+    ensures kept { OnErr result (G.told desk.new.gate.now ≡ G.told desk.old.gate.now) }
     ensures loan { desk.new.desk.session.ghost_name ≡ desk.old.desk.session.ghost_name }
     ensures gate { desk.new.gate.ghost_name ≡ desk.old.gate.ghost_name }
     ensures later { IsLater desk.old.desk.session.now desk.new.desk.session.now }
-    ensures answered { HasAnswered J.opening (G.told desk.old.gate.now) (G.told desk.new.gate.now) desk.old.desk.session.now desk.new.desk.session.now }
+    ensures conversed { (text : List ℕ) × (written_at reception.new ≡ written_at reception.old ++ text ∷ [])
+        × HasConversed J.opening (G.told desk.old.gate.now) (G.told desk.new.gate.now) desk.old.desk.session.now desk.new.desk.session.now text }
 {
-    let mut reader = Incoming::new(timing, LentConnection::of(stream));
-    let mut writer = Outgoing::new(timing, LentConnection::of(stream));
-    converse_once(&mut reader, &mut writer, desk);
-}
-
-/// Holds a conversation over the desk, whose session and gate stay the borrowed ones.
-fn converse_once<I: Source, O: Outlet, J: Naming, K: Sink, G: Gate, R: Wait>(
-    reader: &mut I,
-    writer: &mut O,
-    desk: &mut Gated<'_, LentDesk<'_, '_, '_, J, K, R>, G>,
-)
-    ensures loan { desk.new.desk.session.ghost_name ≡ desk.old.desk.session.ghost_name }
-    ensures gate { desk.new.gate.ghost_name ≡ desk.old.gate.ghost_name }
-    ensures later { IsLater desk.old.desk.session.now desk.new.desk.session.now }
-    ensures answered { HasAnswered J.opening (G.told desk.old.gate.now) (G.told desk.new.gate.now) desk.old.desk.session.now desk.new.desk.session.now }
-{
-    let mut reads = Reads::new();
-    let _ = converse(desk.desk.service.alloc, reader, writer, desk, &mut reads);
+    reception.converse(setting, desk)
 }

@@ -8,6 +8,7 @@ ghost use Rattle.tfs_calls.specs.Reply.{reply_value, state, refused};
 ghost use Rattle.tfs_calls.specs.declared.call.Call.TheVariants.{Read as CallRead, Change, Impact};
 ghost use Rattle.tfs_shared.specs.Locked.{AnswersRead, HasNoCopy};
 ghost use Rattle.tfs_shared.specs.Signed.{IsSigned};
+ghost use Rattle.tfs_shared.specs.View.{CountsNothing};
 ghost use Rattle.tfs_serve.specs.Session.{SessionStep};
 
 use json::Scratch;
@@ -18,7 +19,7 @@ use tfs_calls::{
     Call, Draft, Query, Raw, Refusal, Reply, a_change_is_answered_as_its_act_is,
     answers_of_the_model_are_undisturbed,
 };
-use tfs_connections::Load;
+use tfs_connections::{Load, Setting};
 use tfs_conversation::Desk;
 use tfs_records::Sink;
 use tfs_rules::Name;
@@ -43,6 +44,19 @@ pub struct Service<'s, J: Naming, K: Sink, R: Wait> {
     pub ended: &'s AtomicBool,
     pub muted: &'s AtomicBool,
     pub load: &'s Load,
+}
+
+impl<'s, J: Naming, K: Sink, R: Wait> Service<'s, J, K, R> {
+    /// What its conversations are served with.
+    pub(crate) fn setting(&self) -> Setting<'s, R> {
+        Setting {
+            rt: self.rt,
+            alloc: self.alloc,
+            ended: self.ended,
+            muted: self.muted,
+            load: self.load,
+        }
+    }
 }
 
 /// A desk that answers from a shared table through a borrowed session. Changes wait for the table's
@@ -130,7 +144,7 @@ fn state_of<J: Naming, K: Sink, R: Wait>(
         (λ refusal. HasNoCopy J.opening session.old session.new (refused (refusal_value refusal))
         ⊎ AnswersRead name.now session.old session.new (refused (refusal_value refusal))) }
     ensures signed { IsSigned J.opening session.old session.new [] }
-    ensures accepted { session.new.accepted ≡ session.old.accepted }
+    ensures counted { CountsNothing session.old session.new }
 {
     match session.published_state(name) {
         Some(Ok(doc)) => Ok(doc),

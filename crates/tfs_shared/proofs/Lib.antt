@@ -3,3 +3,4 @@ pub mod Crossing
 pub mod Refusing
 pub mod Shares
 pub mod Signing
+pub mod Stopping

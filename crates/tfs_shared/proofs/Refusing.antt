@@ -29,6 +29,7 @@ lacks_memory name act old new j lawful fresh seen = record {
   lawful = lawful;
   fresh = fresh;
   answer = inl (inr (refl, refl));
+  running = λ lacks. refl;
   seen = seen;
 }
 
@@ -41,6 +42,7 @@ is_stopped name act old new j lawful fresh seen = record {
   lawful = lawful;
   fresh = fresh;
   answer = inl (inl (refl, refl));
+  running = λ lacks. absurd (cc lacks);
   seen = seen;
 }
 

@@ -1,13 +1,76 @@
 -- The accepted changes of sessions.
-use Rattle.std.proofs.Common.{◌≡◌, ℕ, zero, suc, ◌+◌, ◌<◌, nat_lt, true, false, List, [], ◌∷◌, ◌++◌, length, get_or, sum_by, refl, sym, ◌∙◌, subst, arith}
+use Rattle.std.proofs.Common.{◌≡◌, ℕ, zero, suc, ◌+◌, ◌*◌, ◌<◌, ◌≤◌, nat_lt, Bool, true, false, List, [], ◌∷◌, ◌++◌, length, get_or, sum_by, refl, sym, ◌∙◌, ap, subst, arith}
 use Rattle.std.proofs.lemmas.Bool.Decides.{nat_tests}
-use Rattle.std.proofs.lemmas.List.Sums.{sum_by-append}
-use Rattle.tfs_shared.specs.View.{SessionView}
+use Rattle.std.proofs.lemmas.List.Sums.{sum_by-append, sum_by-cons, get_or-le-sum_by}
+use Rattle.tfs_shared.specs.Stops.{as_number, accepted_of, faults_of, stops_of}
+use Rattle.tfs_shared.specs.View.{SessionView, counted_for}
 
 -- One session more.
 pub accepted_more : (sessions : List SessionView) (last : SessionView)
     → sum_by (λ (s : SessionView). s.accepted) (sessions ++ last ∷ []) ≡ sum_by (λ (s : SessionView). s.accepted) sessions + last.accepted
 accepted_more sessions last = omega (arith, sum_by-append (λ (s : SessionView). s.accepted) sessions (last ∷ []))
+
+-- What the ledger counts for one session more.
+pub counted_more : (sessions : List SessionView) (last : SessionView)
+    → sum_by counted_for (sessions ++ last ∷ []) ≡ sum_by counted_for sessions + counted_for last
+counted_more sessions last = omega (arith, sum_by-append counted_for sessions (last ∷ []))
+
+-- What the ledger counts for all sessions.
+counted_all : (sessions : List SessionView) → sum_by counted_for sessions ≡ sum_by (λ (s : SessionView). s.accepted) sessions
+    + 2097152 * sum_by (λ (s : SessionView). as_number s.faulted) sessions + 67108864 * sum_by (λ (s : SessionView). as_number s.stopped) sessions
+counted_all [] = refl
+counted_all (s ∷ rest) =
+    let others = counted_all rest in
+    omega (
+      arith,
+      others,
+      sum_by-cons counted_for s rest,
+      sum_by-cons (λ (v : SessionView). v.accepted) s rest,
+      sum_by-cons (λ (v : SessionView). as_number v.faulted) s rest,
+      sum_by-cons
+          (λ (v : SessionView). as_number v.stopped) s rest,
+    )
+
+-- Of two numbers for one thing each is one at most.
+one_most : (b : Bool) → as_number b ≤ 1
+one_most true = omega arith
+one_most false = omega arith
+
+-- Each session has one fault at most.
+few_faulted : (sessions : List SessionView) → sum_by (λ (s : SessionView). as_number s.faulted) sessions ≤ length sessions
+few_faulted [] = omega arith
+few_faulted (s ∷ rest) =
+    omega (arith, one_most s.faulted, few_faulted rest, sum_by-cons (λ (v : SessionView). as_number v.faulted) s rest)
+
+-- What the total of at most 16 sessions says of each count.
+pub record AreCounted (sessions : List SessionView) (total : ℕ) : Type 0 where
+  pub accepted : accepted_of total ≡ sum_by (λ (s : SessionView). s.accepted) sessions
+  pub faulted : faults_of total ≡ sum_by (λ (s : SessionView). as_number s.faulted) sessions
+  pub stopped : stops_of total ≡ sum_by (λ (s : SessionView). as_number s.stopped) sessions
+
+-- They are its digits, if these sessions have all parts of the ledger.
+pub all_counted : (sessions : List SessionView) (all parts amount total : ℕ) → parts ≡ length sessions → parts ≤ all → all ≤ length sessions
+    → all ≤ 16 → (parts ≡ all → amount ≡ total) → amount ≡ sum_by counted_for sessions
+    → sum_by (λ (s : SessionView). s.accepted) sessions ≤ 65536 * length sessions → AreCounted sessions total
+all_counted sessions all parts amount total have apart enough most whole is few =
+    let same = whole (omega (arith, have, apart, enough)) in
+    let counts = counted_all sessions in
+    let faults = few_faulted sessions in
+    record {
+      accepted = omega (arith, have, apart, most, same, is, few, counts, faults);
+      faulted = omega (arith, have, apart, most, same, is, few, counts, faults);
+      stopped = omega (arith, have, apart, most, same, is, few, counts, faults);
+    }
+
+-- There are such sessions.
+pub not_none : (sessions : List SessionView) (all : ℕ) → sessions ≡ [] → 1 ≤ all → all ≤ length sessions → ⊥
+not_none sessions all none some enough = let nothing = ap length none in omega (arith, nothing, some, enough)
+
+-- A session that has reported that the table is stopped counts as one.
+pub one_stopped : (sessions : List SessionView) (k : ℕ) (d : SessionView) → k < length sessions → (get_or sessions k d).stopped ≡ true
+    → 1 ≤ sum_by (λ (s : SessionView). as_number s.stopped) sessions
+one_stopped sessions k d within is =
+    let one = ap as_number is in omega (arith, one, get_or-le-sum_by (λ (s : SessionView). as_number s.stopped) sessions k d within)
 
 -- An element is the same whatever would stand for one that isn't there.
 any_default : {X : Type 0} (xs : List X) (k : ℕ) (d e : X) → k < length xs → get_or xs k d ≡ get_or xs k e

@@ -1,5 +1,5 @@
 -- Who made the changes that sessions have seen.
-use Rattle.std.proofs.Common.{◌≡◌, ◌+◌, ◌<◌, ℕ, nat_lt, true, false, List, [], ◌∷◌, ◌++◌, length, get_or, All, Result, Ok, Err, OnOk, OnErr, refl, sym, ◌∙◌, ap, subst, arith, append-nil}
+use Rattle.std.proofs.Common.{◌≡◌, ◌+◌, ◌<◌, ℕ, nat_lt, Bool, true, false, List, [], ◌∷◌, ◌++◌, length, get_or, All, Result, Ok, Err, OnOk, OnErr, refl, sym, ◌∙◌, ap, subst, arith, append-nil}
 use Rattle.std.proofs.lemmas.Bool.Decides.{nat_tests}
 use Rattle.std.proofs.lemmas.List.{get_or_append_left, get_or_push, length_push}
 use mathlib.Core.List.{IsPrefix}
@@ -45,10 +45,17 @@ signs_change (Err refusal) opening j k old new before after maker made kept own 
     signs opening old new before [] number fresh (seen ∙ kept.1 ∙ sym (append-nil before)) begins entries
 
 -- A session that counts has seen what it had.
-pub signs_counted : (opening : Journal) (old seen new : SessionView) (last : List ℕ) (accepted : ℕ)
-    → new ≡ record { number = seen.number; journal = seen.journal; makers = seen.makers; accepted = accepted }
-    → IsSigned opening old seen last → IsSigned opening old new last
-signs_counted opening old seen new last accepted is signed =
+pub signs_counted : (opening : Journal) (old seen new : SessionView) (last : List ℕ) (accepted : ℕ) (faulted stopped : Bool) (misses : ℕ)
+    → new ≡ record {
+      number = seen.number;
+      journal = seen.journal;
+      makers = seen.makers;
+      accepted = accepted;
+      faulted = faulted;
+      stopped = stopped;
+      misses = misses;
+    } → IsSigned opening old seen last → IsSigned opening old new last
+signs_counted opening old seen new last accepted faulted stopped misses is signed =
     subst (λ (v : SessionView). IsSigned opening old v last) (sym is)
     (record { number = signed.number; before = signed.before; fresh = signed.fresh; made = signed.made; counted = signed.counted })
 
@@ -61,20 +68,21 @@ signed_all opening last makers sessions begins entries seen =
     record { makers = makers; counted = omega (arith, base, entries); seen = seen }
 
 -- No session yet.
-pub none_new : (opening : Journal) (sessions : List SessionView) → sessions ≡ [] → AreNew opening 0 sessions
-none_new opening sessions none = record { many = ap length none; each = λ k d within. absurd (omega (arith, within)) }
+pub none_new : (opening : Journal) (stopped : Bool) (sessions : List SessionView) → sessions ≡ [] → AreNew opening stopped 0 sessions
+none_new opening stopped sessions none = record { many = ap length none; each = λ k d within. absurd (omega (arith, within)) }
 
 -- One new session more.
-pub one_new_more : (opening : Journal) (made : ℕ) (sessions after : List SessionView) (s : SessionView) → AreNew opening made sessions
-    → after ≡ sessions ++ s ∷ [] → s ≡ new_session opening made → AreNew opening (made + 1) after
-one_new_more opening made sessions after s new is one = record {
+pub one_new_more : (opening : Journal) (stopped : Bool) (made : ℕ) (sessions after : List SessionView) (s : SessionView)
+    → AreNew opening stopped made sessions → after ≡ sessions ++ s ∷ [] → s ≡ new_session opening stopped made
+    → AreNew opening stopped (made + 1) after
+one_new_more opening stopped made sessions after s new is one = record {
   many = ap length is ∙ omega (arith, new.many, length_push sessions s);
-  each = λ k d within. subst (λ (l : List SessionView). get_or l k d ≡ new_session opening k) (sym is) (
-      elim (nat_lt k made) as (λ t. nat_lt k made ≡ t → get_or (sessions ++ s ∷ []) k d ≡ new_session opening k) [
+  each = λ k d within. subst (λ (l : List SessionView). get_or l k d ≡ new_session opening stopped k) (sym is) (
+      elim (nat_lt k made) as (λ t. nat_lt k made ≡ t → get_or (sessions ++ s ∷ []) k d ≡ new_session opening stopped k) [
         | true ↦ λ e. get_or_append_left sessions (s ∷ []) d k (grind (arith, nat_tests, e, new.many))
             ∙ new.each k d (grind (arith, nat_tests, e))
         | false ↦ λ e.
             let at : k ≡ made = grind (arith, nat_tests, e, within) in
-            get_or_push sessions s d k (new.many ∙ sym at) ∙ (one ∙ ap (new_session opening) (sym at))
+            get_or_push sessions s d k (new.many ∙ sym at) ∙ (one ∙ ap (new_session opening stopped) (sym at))
       ] refl);
 }

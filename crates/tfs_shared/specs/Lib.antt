@@ -2,4 +2,5 @@ pub mod LockedState
 pub mod Impact
 pub mod Locked
 pub mod Signed
+pub mod Stops
 pub mod View

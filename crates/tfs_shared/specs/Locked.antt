@@ -1,5 +1,5 @@
 -- The answers of locked calls.
-use Rattle.std.specs.Prelude.{◌≡◌, ◌≢◌, ◌⊎◌, ℕ, ◌<◌, List, None}
+use Rattle.std.specs.Prelude.{◌≡◌, ◌≢◌, ◌⊎◌, ℕ, ◌<◌, List, None, false}
 use Rattle.tfs_rules.specs.Act.{ActValue}
 use Rattle.tfs_rules.specs.History.{state_of}
 use Rattle.tfs_records.specs.Journal.{Journal, position_of, acts_of}
@@ -33,6 +33,7 @@ pub record AnswersChange (name : List ℕ) (act : ActValue) (old new : SessionVi
   pub lawful : IsLawful before.journal
   pub fresh : BeginsWith before.journal old.journal
   pub answer : AnswersAct before name act reply after
+  pub running : reply ≡ refused out_of_memory → before.stopped ≡ false
   pub seen : new.journal ≡ after.journal
 
 -- The reply to a read: the model's answer over a lawful journal that begins with all that the

@@ -1,18 +1,19 @@
 -- The data under the lock of a shared table.
-use Rattle.std.specs.Prelude.{◌≡◌, ℕ, ◌+◌, length, false, None}
+use Rattle.std.specs.Prelude.{◌≡◌, ℕ, ◌+◌, ◌≤◌, length, true, false, None}
 use Rattle.tfs_records.specs.Journal.{Journal, EntryValue}
 use Rattle.tfs_calls.specs.Refusal.{out_of_memory, journal_fault}
 use Rattle.tfs_calls.specs.Reply.{ReplyValue, refused}
 use Rattle.tfs_calls.specs.Transition.{MayLackMemory}
 use Rattle.tfs_table.specs.Table.{TableValue, IsFaultAt, model_of}
 use Rattle.tfs_published.specs.Publisher.{PublisherView}
+use Rattle.tfs_shared.specs.Stops.{as_number, accepted_of, faults_of, stops_of}
 
 -- The view of callers: the table, its publisher, and the number of changes accepted since the table
 -- was shared.
 pub record LockedStateView : Type 0 where
   pub table : TableValue
   pub publisher : PublisherView
-  pub accepted : ℕ
+  pub total : ℕ
 
 -- The published journal is the table's and, unless the table is stopped, no other change is staged.
 pub record ArePublished (table : TableValue) (publisher : PublisherView) : Type 0 where
@@ -23,7 +24,9 @@ pub record ArePublished (table : TableValue) (publisher : PublisherView) : Type 
 -- entries it has as many entries as accepted changes.
 pub record IsLockedState (opening : Journal) (locked_state : LockedStateView) : Type 0 where
   pub published : ArePublished locked_state.table locked_state.publisher
-  pub counted : length locked_state.table.journal.entries ≡ length opening.entries + locked_state.accepted
+  pub counted : length locked_state.table.journal.entries ≡ length opening.entries + accepted_of locked_state.total
+  pub faulted : faults_of locked_state.total ≡ as_number locked_state.table.stopped
+  pub stopped : 1 ≤ stops_of locked_state.total → locked_state.table.stopped ≡ true
 
 -- The causes of the refusals that the journal doesn't determine. `JournalFault`: the sink failed at
 -- the record of this change, after some first bytes of it were written, perhaps none or all.

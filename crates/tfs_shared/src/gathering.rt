@@ -1,10 +1,11 @@
 //! The end of sharing: the table is taken back from its sessions.
 
-ghost use Rattle.std.specs.Prelude.{◌≡◌, ◌+◌, ◌<◌, ◌≤◌, ◌↔◌, All, Any, length, sum_by, IfOk, IfErr};
+ghost use Rattle.std.specs.Prelude.{◌≡◌, ◌+◌, ◌<◌, ◌≤◌, ◌↔◌, All, Any, true, length, sum_by, IfOk, IfErr};
 ghost use Rattle.tfs_published.specs.Beginning.{BeginsWith};
 ghost use Rattle.tfs_shared.specs.declared.gathering.Lack.TheVariants.{Missing, NoCopy};
 ghost use Rattle.tfs_shared.specs.Locked.{IsAhead};
 ghost use Rattle.tfs_shared.specs.Signed.{AreSigned};
+ghost use Rattle.tfs_shared.specs.Stops.{as_number};
 
 use crate::session::Session;
 use crate::shared::Shared;
@@ -43,6 +44,8 @@ pub fn gather<J: Naming, K: Sink, R: Wait>(
     ensures signed { IfOk result (λ table. AreSigned J.opening table.journal sessions.items) }
     ensures counted { IfOk result (λ table. length table.journal.entries
         ≡ length J.opening.entries + sum_by (λ session. session.accepted) sessions.items) }
+    ensures faulted { IfOk result (λ table. sum_by (λ session. as_number session.faulted) sessions.items ≡ as_number table.stopped) }
+    ensures stopped { IfOk result (λ table. All (λ session. session.stopped ≡ true → table.stopped ≡ true) sessions.items) }
     ensures missing { IfErr result (λ strangers. (strangers.why ≡ Missing) ↔ (length sessions.items < J.sessions)) }
     ensures ahead { IfErr result (λ strangers. strangers.why ≡ NoCopy → Any (IsAhead J.opening) sessions.items) }
     ensures back { IfErr result (λ strangers. (strangers.shared ≡ shared) × (strangers.sessions ≡ sessions)) }

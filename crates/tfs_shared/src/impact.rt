@@ -9,6 +9,7 @@ ghost use Rattle.tfs_shared.specs.Signed.{IsSigned};
 ghost use Rattle.tfs_state.specs.Document.{Document};
 ghost use Rattle.tfs_shared.specs.Impact.{AnswersImpact, AnswersQuery};
 ghost use Rattle.tfs_published.specs.Beginning.{BeginsWith};
+ghost use Rattle.tfs_shared.specs.View.{CountsNothing, missed};
 
 use crate::session::Session;
 use crate::shared::Shared;
@@ -36,14 +37,17 @@ impl<J: Naming> Session<J> {
         name: &Name,
         query: &Query,
     ) -> Result<Impact, Refusal>
-        ensures answer { ((impact_reply result ≡ refused no_copy) × (self.new ≡ self.old))
+        ensures answer { ((impact_reply result ≡ refused no_copy) × (self.new ≡ missed self.old))
             ⊎ AnswersImpact self.new.journal name.now query.now (impact_reply result) }
         ensures later { BeginsWith self.new.journal self.old.journal }
         ensures signed { IsSigned J.opening self.old self.new [] }
-        ensures accepted { self.new.accepted ≡ self.old.accepted }
+        ensures counted { CountsNothing self.old self.new }
     {
         match self.look(name) {
-            None => Err(Refusal::NoCopy),
+            None => {
+                self.miss();
+                Err(Refusal::NoCopy)
+            }
             Some(Lookup::NoState) => Err(Refusal::NoState),
             Some(Lookup::Lost) => Err(refusal_of_lost(query)),
             Some(Lookup::Kept(version)) => ask(shared.alloc(), version, query, self.seen()),

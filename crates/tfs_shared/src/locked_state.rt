@@ -15,6 +15,8 @@ ghost use Rattle.tfs_shared.specs.LockedState.{IsLockedState, HasCause};
 ghost use mathlib.Core.List.{IsPrefix};
 ghost use Rattle.tfs_shared.specs.Signed.{AreSigned, IsSigned, makers_told};
 ghost use Rattle.tfs_shared.specs.Locked.{AnswersChange, AnswersRead, HasNoCopy, IsAhead};
+ghost use Rattle.tfs_shared.specs.Stops.{as_number, weight};
+ghost use Rattle.tfs_shared.specs.View.{CountsNothing, CountsStop};
 ghost use Rattle.tfs_published.specs.Beginning.{BeginsWith};
 
 use crate::locked::change;
@@ -43,9 +45,9 @@ impl<J: Naming, K: Sink> Model for LockedState<J, K> {
 
     ghost Value = { LockedStateView };
 
-    ghost view = { λ h. record { table = h.table; publisher = h.publisher; accepted = h.book.total } };
+    ghost view = { λ h. record { table = h.table; publisher = h.publisher; total = h.book.total } };
 
-    ghost invariant = { λ h. IsLockedState J.opening (record { table = h.table; publisher = h.publisher; accepted = h.book.total }) };
+    ghost invariant = { λ h. IsLockedState J.opening (record { table = h.table; publisher = h.publisher; total = h.book.total }) };
 }
 
 impl<J: Naming, K: Sink> LockedState<J, K> {
@@ -54,7 +56,7 @@ impl<J: Naming, K: Sink> LockedState<J, K> {
         requires opening { table.journal ≡ J.opening }
         requires published { publisher.journal ≡ J.opening }
         requires idle { publisher.next ≡ None }
-        requires empty { book.total ≡ 0 }
+        requires unused { book.total ≡ weight 0 table.stopped false }
         ensures table { result.table ≡ table }
     {
         LockedState {
@@ -97,6 +99,7 @@ impl<J: Naming, K: Sink> LockedState<J, K> {
         ensures signed { IsSigned J.opening session.old session.new (makers_told session.old.number (change_reply result)) }
         ensures accepted { OnOk result (session.new.accepted ≡ session.old.accepted + 1) }
         ensures refused { OnErr result (session.new.accepted ≡ session.old.accepted) }
+        ensures stops { CountsStop session.old session.new (change_reply result) }
     {
         // The published journal is the table's, which is lawful, and each change beyond the opening
         // journal has a maker.
@@ -107,6 +110,7 @@ impl<J: Naming, K: Sink> LockedState<J, K> {
             return Err(Refusal::NoCopy);
         }
         let maker = session.number();
+        let was_stopped = self.table.stopped();
         let answer = change(rt, &mut self.table, &mut self.publisher, prepared, maker);
         session.see(&self.publisher);
         session.is_kept();
@@ -114,6 +118,10 @@ impl<J: Naming, K: Sink> LockedState<J, K> {
             // There are at most 65,536 entries, so the count doesn't overflow.
             self.table.is_kept();
             session.count(&mut self.book);
+        } else if was_stopped {
+            session.stop(&mut self.book);
+        } else if self.table.stopped() {
+            session.fault(&mut self.book);
         }
         answer
     }
@@ -130,14 +138,15 @@ impl<J: Naming, K: Sink> LockedState<J, K> {
     /// the published journal. Returns `NoCopy` if the session had seen more, and then nothing
     /// changes.
     #[tactic(auto, using(crate::proofs::Signing::signs_none, crate::proofs::Signing::signs_nothing))]
-    pub(crate) fn lack_memory(&self, session: &mut Session<J>) -> Refusal
+    pub(crate) fn lack_memory(&mut self, session: &mut Session<J>) -> Refusal
         ensures answered { (name : List ℕ) (act : ActValue) → HasNoCopy J.opening session.old session.new (refused (refusal_value result))
             ⊎ AnswersChange name act session.old session.new (refused (refusal_value result)) }
-        ensures over { ((refusal_value result ≡ no_copy) × (position_of self.now.table.journal < position_of session.old.journal))
-            ⊎ (((refusal_value result ≡ journal_stopped) × (self.now.table.stopped ≡ true))
-            ⊎ ((refusal_value result ≡ out_of_memory) × (self.now.table.stopped ≡ false))) }
+        ensures over { ((refusal_value result ≡ no_copy) × (position_of self.old.table.journal < position_of session.old.journal))
+            ⊎ (((refusal_value result ≡ journal_stopped) × (self.old.table.stopped ≡ true))
+            ⊎ ((refusal_value result ≡ out_of_memory) × (self.old.table.stopped ≡ false))) }
         ensures signed { IsSigned J.opening session.old session.new [] }
         ensures accepted { session.new.accepted ≡ session.old.accepted }
+        ensures stops { CountsStop session.old session.new (refused (refusal_value result)) }
     {
         // The published journal is the table's, which is lawful, and each change beyond the opening
         // journal has a maker.
@@ -149,6 +158,7 @@ impl<J: Naming, K: Sink> LockedState<J, K> {
         session.see(&self.publisher);
         session.is_kept();
         if self.table.stopped() {
+            session.stop(&mut self.book);
             return Refusal::JournalStopped;
         }
         Refusal::OutOfMemory
@@ -168,7 +178,7 @@ impl<J: Naming, K: Sink> LockedState<J, K> {
             ⊎ ((refused (refusal_value refusal) ≡ answer_of (open_model self.now.table.journal) (Read name.now))
             ⊎ ((refusal_value refusal ≡ out_of_memory) × (state_of (acts_of name.now self.now.table.journal) ≢ None)))) }
         ensures signed { IsSigned J.opening session.old session.new [] }
-        ensures accepted { session.new.accepted ≡ session.old.accepted }
+        ensures counted { CountsNothing session.old session.new }
     {
         // The published journal is the table's, which is lawful, and each change beyond the opening
         // journal has a maker.
@@ -228,12 +238,14 @@ impl<J: Naming, K: Sink> LockedState<J, K> {
     /// Returns the table. Ends the readers of the sessions, which are all sessions of the table,
     /// and then closes the publisher.
     pub(crate) fn end<R: Wait>(self, rt: &R, sessions: Vec<Session<J>>) -> Table<K>
-        requires some { 1 ≤ J.parts }
+        requires some { (1 ≤ J.parts) × (J.parts ≤ 16) }
         requires all { J.parts ≤ length sessions.items }
         ensures table { result ≡ self.table }
         ensures whole { length sessions.items ≡ J.parts }
         ensures counted { length result.journal.entries
             ≡ length J.opening.entries + sum_by (λ session. session.accepted) sessions.items }
+        ensures faulted { sum_by (λ session. as_number session.faulted) sessions.items ≡ as_number result.stopped }
+        ensures stopped { All (λ session. session.stopped ≡ true → result.stopped ≡ true) sessions.items }
     {
         let LockedState {
             table,

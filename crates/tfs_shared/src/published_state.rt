@@ -6,6 +6,7 @@ ghost use Rattle.tfs_calls.specs.Refusal.{refusal_value, out_of_memory};
 ghost use Rattle.tfs_calls.specs.Reply.{state, refused};
 ghost use Rattle.tfs_shared.specs.Signed.{IsSigned};
 ghost use Rattle.tfs_shared.specs.Locked.{AnswersRead};
+ghost use Rattle.tfs_shared.specs.View.{CountsNothing};
 
 use crate::session::Session;
 use std::sync::Arc;
@@ -26,7 +27,7 @@ impl<J: Naming> Session<J> {
             (λ refusal. AnswersRead name.now self.old self.new (refused (refusal_value refusal)))) }
         ensures kept { IfNone result (self.new ≡ self.old) }
         ensures signed { IsSigned J.opening self.old self.new [] }
-        ensures accepted { self.new.accepted ≡ self.old.accepted }
+        ensures counted { CountsNothing self.old self.new }
     {
         match self.look(name)? {
             Lookup::NoState => Some(Err(Refusal::NoState)),

@@ -1,6 +1,6 @@
 //! The sessions of a shared table.
 
-ghost use Rattle.std.specs.Prelude.{◌≡◌, ◌⊎◌, ◌+◌, ◌<◌, [], length, true, false, IfSome, IfNone, IfOk, OnOk, OnErr, MatchResult};
+ghost use Rattle.std.specs.Prelude.{◌≡◌, ◌⊎◌, ◌+◌, ◌<◌, ◌≤◌, [], length, true, false, IfSome, IfNone, IfOk, OnOk, OnErr, MatchResult};
 ghost use Rattle.std.specs.Arc.{arc_value};
 ghost use Rattle.tfs_rules.specs.History.{state_of};
 ghost use Rattle.tfs_records.specs.Journal.{position_of, acts_of};
@@ -12,6 +12,8 @@ ghost use Rattle.tfs_published.specs.Lookup.{IsLookup};
 ghost use mathlib.Core.List.{IsPrefix};
 ghost use Rattle.tfs_shared.specs.Signed.{IsSigned, makers_told};
 ghost use Rattle.tfs_shared.specs.Locked.{AnswersChange, AnswersRead, HasNoCopy};
+ghost use Rattle.tfs_shared.specs.Stops.{weight};
+ghost use Rattle.tfs_shared.specs.View.{CountsNothing, CountsStop, accepts_one, missed, reports};
 ghost use Rattle.tfs_published.specs.Beginning.{BeginsWith};
 
 use crate::shared::Shared;
@@ -26,6 +28,12 @@ use tfs_rules::Name;
 use tfs_state::Doc;
 use tfs_table::{DeferredDrop, Prepared};
 
+/// What the ledger counts for the fault of a session, beyond the accepted changes of all sessions.
+pub(crate) const FAULT: u64 = 2_097_152;
+
+/// What the ledger counts for a session that reports a stopped table, beyond the faults of all sessions.
+const STOP: u64 = 67_108_864;
+
 /// A caller's handle to a shared table. Contracts see its number, the journal that it has seen, the
 /// makers of that journal's changes, and the number of its own accepted changes.
 #[derive(Drop)]
@@ -34,32 +42,55 @@ pub struct Session<J: Naming> {
     reader: Reader<J>,
     share: Share<J>,
     accepted: u64,
+    faulted: bool,
+    stopped: bool,
+    misses: u64,
 }
 
 impl<J: Naming> Model for Session<J> {
-    ghost use Rattle.std.specs.Prelude.{◌≡◌};
+    ghost use Rattle.std.specs.Prelude.{◌≡◌, ◌≤◌};
+    ghost use Rattle.tfs_shared.specs.Stops.{weight};
     ghost use Rattle.tfs_shared.specs.View.{SessionView};
 
     ghost Value = { SessionView };
 
-    ghost view = { λ s. record { number = s.number; journal = s.reader.journal; makers = s.reader.makers; accepted = s.accepted } };
+    ghost view = { λ s. record {
+      number = s.number;
+      journal = s.reader.journal;
+      makers = s.reader.makers;
+      accepted = s.accepted;
+      faulted = s.faulted;
+      stopped = s.stopped;
+      misses = s.misses;
+    } };
 
-    ghost invariant = { λ s. (s.share.parts ≡ 1) × (s.share.amount ≡ s.accepted) };
+    ghost invariant = { λ s. (s.share.parts ≡ 1) × (s.share.amount ≡ weight s.accepted s.faulted s.stopped) × (s.accepted ≤ 65536) };
 }
 
 impl<J: Naming> Session<J> {
     /// Creates the session with this number. It has seen what its reader has, and has made no
     /// changes.
-    pub(crate) fn new(number: u64, reader: Reader<J>, share: Share<J>) -> Session<J>
+    pub(crate) fn new(number: u64, reader: Reader<J>, share: Share<J>, faulted: bool) -> Session<J>
         requires parts { share.parts ≡ 1 }
-        requires amount { share.amount ≡ 0 }
-        ensures value { result ≡ record { number = number; journal = reader.journal; makers = reader.makers; accepted = 0 } }
+        requires amount { share.amount ≡ weight 0 faulted false }
+        ensures value { result ≡ record {
+          number = number;
+          journal = reader.journal;
+          makers = reader.makers;
+          accepted = 0;
+          faulted = faulted;
+          stopped = false;
+          misses = 0;
+        } }
     {
         Session {
             number,
             reader,
             share,
             accepted: 0,
+            faulted,
+            stopped: false,
+            misses: 0,
         }
     }
 
@@ -118,9 +149,10 @@ impl<J: Naming> Session<J> {
         ensures signed { IsSigned J.opening self.old self.new (makers_told self.old.number (change_reply result)) }
         ensures accepted { OnOk result (self.new.accepted ≡ self.old.accepted + 1) }
         ensures refused { OnErr result (self.new.accepted ≡ self.old.accepted) }
+        ensures stops { CountsStop self.old self.new (change_reply result) }
     {
         let Ok((prepared, deferred)) = with_deferred_drop(shared.alloc(), name, draft) else {
-            let locked_state = shared.lock(rt);
+            let mut locked_state = shared.lock(rt);
             let refusal = locked_state.lack_memory(self);
             MutexGuard::unlock(locked_state);
             return Err(refusal);
@@ -152,7 +184,7 @@ impl<J: Naming> Session<J> {
             (λ refusal. HasNoCopy J.opening self.old self.new (refused (refusal_value refusal))
             ⊎ AnswersRead name.now self.old self.new (refused (refusal_value refusal))) }
         ensures signed { IsSigned J.opening self.old self.new [] }
-        ensures accepted { self.new.accepted ≡ self.old.accepted }
+        ensures counted { CountsNothing self.old self.new }
     {
         let locked_state = shared.lock(rt);
         let answer = locked_state.state(self, name);
@@ -176,6 +208,9 @@ impl<J: Naming> Session<J> {
           journal = publisher.now.journal;
           makers = publisher.now.makers;
           accepted = self.old.accepted;
+          faulted = self.old.faulted;
+          stopped = self.old.stopped;
+          misses = self.old.misses;
         } }
     {
         publisher.show(&mut self.reader);
@@ -184,13 +219,17 @@ impl<J: Naming> Session<J> {
     /// Returns its share of the ledger, and releases its reader.
     pub(crate) fn into_share(self) -> Share<J>
         ensures parts { result.parts ≡ 1 }
-        ensures amount { result.amount ≡ self.accepted }
+        ensures amount { result.amount ≡ weight self.accepted self.faulted self.stopped }
+        ensures few { self.accepted ≤ 65536 }
     {
         let Session {
             number: _,
             reader: _reader,
             share,
             accepted: _,
+            faulted: _,
+            stopped: _,
+            misses: _,
         } = self;
         share
     }
@@ -198,17 +237,44 @@ impl<J: Naming> Session<J> {
     /// Counts an accepted change of this session, here and in the book.
     pub(crate) fn count(&mut self, book: &mut Book<J>)
         requires room { book.old.total < 65536 }
-        ensures value { self.new ≡ record {
-          number = self.old.number;
-          journal = self.old.journal;
-          makers = self.old.makers;
-          accepted = self.old.accepted + 1;
-        } }
+        ensures value { self.new ≡ accepts_one self.old }
         ensures total { book.new.total ≡ book.old.total + 1 }
     {
         book.audit(&mut self.share);
         book.add(&mut self.share, 1);
         self.accepted += 1;
+    }
+
+    /// Counts the fault of the sink at a change of its own, here and in the book of all. No session has reported a stopped table.
+    pub(crate) fn fault(&mut self, book: &mut Book<J>)
+        requires room { book.old.total < 2097152 }
+        ensures none { (self.old.faulted ≡ false) × (self.old.stopped ≡ false) }
+        ensures value { self.new ≡ reports self.old true }
+        ensures total { book.new.total ≡ book.old.total + 69206016 }
+    {
+        book.audit(&mut self.share);
+        book.add(&mut self.share, FAULT + STOP);
+        self.faulted = true;
+        self.stopped = true;
+    }
+
+    /// Counts once, here and in the book of all, that it reports a stopped table.
+    pub(crate) fn stop(&mut self, book: &mut Book<J>)
+        ensures value { self.new ≡ reports self.old self.old.faulted }
+        ensures total { (book.new.total ≡ book.old.total) ⊎ (book.new.total ≡ book.old.total + 67108864) }
+    {
+        if self.stopped {
+            return;
+        }
+        book.add(&mut self.share, STOP);
+        self.stopped = true;
+    }
+
+    /// Counts a query that was handed no copy.
+    pub(crate) fn miss(&mut self)
+        ensures value { self.new ≡ missed self.old }
+    {
+        self.misses = self.misses.wrapping_add(1);
     }
 
     /// Looks up a name in a snapshot that begins with all that the session has seen. Afterwards the
@@ -221,7 +287,7 @@ impl<J: Naming> Session<J> {
         ensures signed { IsSigned J.opening self.old self.new [] }
         ensures lawful { IsLawful self.new.journal }
         ensures kept { IfNone result (self.new ≡ self.old) }
-        ensures accepted { self.new.accepted ≡ self.old.accepted }
+        ensures counted { CountsNothing self.old self.new }
     {
         let lookup = self.reader.look(name);
         // Each change beyond the opening journal has a maker.

@@ -30,7 +30,7 @@ impl<J: Naming, K: Sink> Model for Shared<J, K> {
     ghost view = { λ s. s.number };
 
     ghost invariant = { λ s. (s.number ≡ J.sessions) × (s.opened ≡ position_of J.opening)
-        × (J.parts ≡ J.sessions) × (1 ≤ J.sessions) };
+        × (J.parts ≡ J.sessions) × (1 ≤ J.sessions) × (J.sessions ≤ 16) };
 }
 
 impl<J: Naming, K: Sink> Shared<J, K> {
@@ -44,7 +44,7 @@ impl<J: Naming, K: Sink> Shared<J, K> {
         requires number { number ≡ J.sessions }
         requires opened { opened ≡ position_of J.opening }
         requires parts { J.parts ≡ J.sessions }
-        requires some { 1 ≤ J.sessions }
+        requires some { (1 ≤ J.sessions) × (J.sessions ≤ 16) }
         ensures value { result ≡ number }
     {
         Shared {

@@ -1,10 +1,11 @@
 //! The start of sharing: a table is split among sessions.
 
-ghost use Rattle.std.specs.Prelude.{◌≡◌, ◌≤◌, [], IfOk, IfErr};
+ghost use Rattle.std.specs.Prelude.{◌≡◌, ◌≤◌, [], false, IfOk, IfErr};
+ghost use Rattle.tfs_shared.specs.Stops.{weight};
 ghost use Rattle.tfs_shared.specs.View.{AreNew};
 
 use crate::locked_state::LockedState;
-use crate::session::Session;
+use crate::session::{FAULT, Session};
 use crate::shared::Shared;
 use std::alloc::Global;
 use std::sync::Wait;
@@ -46,15 +47,19 @@ pub fn share<J: Naming, K: Sink, R: Wait>(
     requires book { opened ≡ J.book }
     requires opening { table.journal ≡ J.opening }
     ensures shared { IfOk result (λ made. made.0 ≡ number) }
-    ensures sessions { IfOk result (λ made. AreNew J.opening number made.1.items) }
+    ensures sessions { IfOk result (λ made. AreNew J.opening table.stopped number made.1.items) }
     ensures back { IfErr result (λ unshared. unshared.table ≡ table) }
 {
-    let (book, all) = blank.open::<J>();
+    let (mut book, mut all) = blank.open::<J>();
+    let stopped = table.stopped();
+    if stopped {
+        book.add(&mut all, FAULT);
+    }
     let Ok(publisher) = Publisher::new(rt, alloc, &table, opened, number) else {
         let why = Cause::NoMemory;
         return Err(Unshared { table, why });
     };
-    match sessions_of(alloc, &publisher, number, all) {
+    match sessions_of(alloc, &publisher, number, all, stopped) {
         Ok(sessions) => {
             let opened = table.position();
             let locked_state = LockedState::new(table, publisher, book);
@@ -74,22 +79,24 @@ fn sessions_of<J: Naming>(
     publisher: &Publisher<J>,
     number: usize,
     all: Share<J>,
+    stopped: bool,
 ) -> Result<Vec<Session<J>>, Cause>
     requires parts { all.parts ≡ number }
-    requires amount { all.amount ≡ 0 }
+    requires amount { all.amount ≡ weight 0 stopped false }
     requires opening { (publisher.now.journal ≡ J.opening) × (publisher.now.makers ≡ []) }
-    ensures value { IfOk result (λ sessions. AreNew J.opening number sessions.items) }
+    ensures value { IfOk result (λ sessions. AreNew J.opening stopped number sessions.items) }
 {
     let mut rest = all;
     let Ok(mut sessions) = Vec::with_capacity(alloc, number) else {
         return Err(Cause::NoMemory);
     };
     for made in 0..number {
-        let share = rest.split_off(1, 0);
+        let faulted = stopped && made == 0;
+        let share = rest.split_off(1, if faulted { FAULT } else { 0 });
         let Some(reader) = publisher.reader() else {
             return Err(Cause::NoPlace);
         };
-        let Ok(()) = sessions.push(Session::new(made as u64, reader, share)) else {
+        let Ok(()) = sessions.push(Session::new(made as u64, reader, share, faulted)) else {
             return Err(Cause::NoMemory);
         };
     }

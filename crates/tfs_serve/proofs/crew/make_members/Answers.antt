@@ -11,7 +11,7 @@ loop-gate-preserved g c =
     let session = c.unwrap-session.result in
     let rest = c.pop.new.self.items in
     let is = c.pop.ensures.items ∙ ap (λ o. rest ++ option_to_list o) c.unwrap-session.ensures in
-    let parts = without_last opening _ _ rest session c.loop-gate.invariant.new is in
+    let parts = without_last opening _ _ _ rest session c.loop-gate.invariant.new is in
     let full = pushed c.push.result is_ok _ c.loop-gate.members.items _ c.push.ensures.items (ap is_ok c.unwrap.ensures) in
     let left = c.loop-gate.invariant.left in
     let room = c.loop-gate.invariant.room in
@@ -20,7 +20,7 @@ loop-gate-preserved g c =
     let made = ap length c.loop-gate.invariant.gates in
     record {
       gates = ap (map _) full ∙ map-append _ c.loop-gate.members.items _ ∙ ap (λ l. l ++ c.in-Some.gate ∷ []) c.loop-gate.invariant.gates;
-      sessions = subst (HaveNumbers (λ member. member.session) opening _) (sym full) (numbers_more (λ member. member.session) opening _
+      sessions = subst (HaveNumbers (λ member. member.session) opening _ _) (sym full) (numbers_more (λ member. member.session) opening _ _
           c.loop-gate.members.items _ (length rest) c.loop-gate.invariant.sessions parts.1
           (omega (arith, left, many, made, length_push rest session, length-map c.loop-gate.members.items (λ m. m.gate))));
       room = omega (arith, room, capacity);

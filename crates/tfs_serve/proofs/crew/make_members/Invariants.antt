@@ -7,8 +7,8 @@ use Rattle.tfs_serve.proofs.crew.make_members.Given as goal
 abbrev pub invariant-loop-gate : goal.invariant-loop-gate
 invariant-loop-gate g l = record {
   gates : map (λ member. member.gate) l.members.items ≡ l.yielded;
-  sessions : HaveNumbers (λ member. member.session) g.J.Naming.opening (length l.fn.gates.items) l.members.items;
+  sessions : HaveNumbers (λ member. member.session) g.J.Naming.opening l.fn.stopped (length l.fn.gates.items) l.members.items;
   room : length l.fn.gates.items ≤ vec_capacity l.members;
   left : length l.sessions.items + length l.yielded ≡ length l.fn.gates.items;
-  new : AreNew g.J.Naming.opening (length l.sessions.items) l.sessions.items;
+  new : AreNew g.J.Naming.opening l.fn.stopped (length l.sessions.items) l.sessions.items;
 }

@@ -12,6 +12,7 @@ invariant-loop-member g l = record {
     fault = member.fault;
     seen = position_of member.session.journal;
     accepted = member.session.accepted;
+    written = member.written;
   }) l.yielded;
   sessions_room : length l.fn.members.items ≤ vec_capacity l.sessions;
   served_room : length l.fn.members.items ≤ vec_capacity l.all;

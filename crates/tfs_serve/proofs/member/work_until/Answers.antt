@@ -1,16 +1,17 @@
 -- The closure may be called by several threads: all that it borrows may be used by several. Each session has worked.
-use Rattle.std.proofs.Common.{slice_index_or, is_some, subst}
+use Rattle.std.proofs.Common.{[], slice_index_or, is_some, subst}
 use denote.Builtin.{unit}
 use denote.Exit.{no}
 use denote.Param.{param}
-use denote.Param.Send.{sendable, param_sync, arg_sync, shr_sync}
+use denote.Param.Send.{sendable, param_send, param_sync, arg_send, arg_sync, shr_sync}
 use Rattle.std.proofs.sync.atomic.AtomicBool.TheSendSync as atomic
 use Rattle.std.proofs.sync.Mutex.TheSendSync as mutex
 use Rattle.std.proofs.alloc.Global.TheSendSync as global
 use Rattle.tfs_shared.proofs.Crossing.{shared_sync}
 use Rattle.tfs_serve.specs.Faults.{IsCaused}
-use Rattle.tfs_serve.specs.Working.{HasWorked, end_of_work}
+use Rattle.tfs_serve.specs.Working.{HasReplied, end_of_work}
 use Rattle.tfs_serve.proofs.Captures.{nine_sync}
+use Rattle.tfs_serve.proofs.Sent.{member_send}
 use Rattle.tfs_connections.proofs.load.Load.TheSendSync as load
 use Rattle.tfs_serve.proofs.member.work_until.Goals as goal
 
@@ -31,7 +32,12 @@ returns g c = record {
       let at = (c.for_each_mut.ensures i d inside).1 in
       let told = g.G.Gate.told in
       let new = slice_index_or c.for_each_mut.new.s i d in
-      subst (λ m. HasWorked g.J.Naming.opening (told m.gate) (told new.gate) m.session new.session (end_of_work (is_some new.fault))) at.argument_is
-      (subst (λ m. HasWorked g.J.Naming.opening (told at.argument.now.gate) (told m.gate) at.argument.now.session m.session (end_of_work (is_some m.fault)))
-      at.left at.call.1);
+      subst (λ m. HasReplied g.J.Naming.opening (told m.gate) (told new.gate) m.session new.session (end_of_work (is_some new.fault)) [] new.written.value.texts)
+      at.argument_is
+      (subst (λ m. HasReplied g.J.Naming.opening (told at.argument.now.gate) (told m.gate) at.argument.now.session m.session (end_of_work (is_some m.fault))
+      [] m.written.value.texts) at.left at.call.1);
 }
+
+pub for_each_mut-requires-send-T : goal.for_each_mut-requires-send-T
+for_each_mut-requires-send-T g c κs within = param_send 1 _
+    (arg_send _ no _ (member_send (param 1 g.row.J) (param 3 g.row.G) g.J.Naming g.J.Ledger c.type_bounds.send-J c.type_bounds.sync-J c.type_bounds.send-G))

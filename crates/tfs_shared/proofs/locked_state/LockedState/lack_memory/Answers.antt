@@ -14,8 +14,8 @@ returns-then-stopped-clause-answered g c name act =
     let lawful = subst (λ (v : LockedStateView). IsLawful v.table.journal) (sym c.self.view_is) c.is_kept.ensures.table.lawful in
     let published = c.self.invariant.published.journal in
     let fresh = subst (λ (j : Journal). BeginsWith j c.args.session.now.journal) published (c.if-not-is_covered.ensures.yes refl).0 in
-    inr (is_stopped name act c.args.session.now c.see.new.self table.journal lawful fresh
-    (ap (λ (v : SessionView). v.journal) c.see.ensures.value ∙ published))
+    inr (is_stopped name act c.args.session.now c.stop.new.self table.journal lawful fresh
+    (ap (λ (v : SessionView). v.journal) c.stop.ensures.value ∙ ap (λ (v : SessionView). v.journal) c.see.ensures.value ∙ published))
 
 pub returns-clause-answered : goal.returns-clause-answered
 returns-clause-answered g c name act =

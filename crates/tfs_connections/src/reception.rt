@@ -1,0 +1,117 @@
+//! Conversations on the connections of a listener, one after another.
+
+ghost use Rattle.std.specs.Prelude.{◌≡◌, ◌++◌, ◌∷◌, ℕ, List, [], IfErr, OnErr};
+ghost use Rattle.tfs_connections.specs.Accepting.{IsFinal, error_of};
+ghost use Rattle.tfs_connections.specs.Talking.{written_at};
+ghost use Rattle.tfs_conversation.specs.Conversation.{HasTalked};
+
+use crate::accepting::{AcceptFault, Listening, take_connection};
+use crate::connection::{Incoming, Outgoing};
+use crate::load::Load;
+use crate::timing::Timing;
+use crate::transport::{Connection, LentConnection};
+use crate::written::{Text, Written};
+use std::alloc::Global;
+use std::net::OpenListener;
+use std::sync::Wait;
+use std::sync::atomic::AtomicBool;
+use std::time::Clock;
+use tfs_conversation::{Desk, Reads, converse};
+
+/// What conversations are served with: the runtime, the allocator, what asks conversations to end, what forbids all writes, and how busy
+/// the workers are.
+#[derive(Drop)]
+pub struct Setting<'s, R> {
+    pub rt: &'s R,
+    pub alloc: Global,
+    pub ended: &'s AtomicBool,
+    pub muted: &'s AtomicBool,
+    pub load: &'s Load,
+}
+
+/// Takes connections from a listener that is lent, and has a conversation on each; nobody else has them. For proofs it keeps what was
+/// written to each.
+#[derive(Drop)]
+pub struct Reception<'l, L: OpenListener> {
+    listening: Listening<'l, L>,
+    written: Written,
+}
+
+impl<'l, L: OpenListener> Reception<'l, L> {
+    /// No connection was taken.
+    pub fn new(listener: &'l L) -> Reception<'l, L>
+        ensures written { written_at result ≡ [] }
+    {
+        Reception {
+            listening: Listening::new(listener),
+            written: Written::new(),
+        }
+    }
+
+    /// What was written to each connection.
+    pub fn into_written(self) -> Written
+        ensures texts { result.texts ≡ written_at self.entry }
+    {
+        let Reception { written, .. } = self;
+        written
+    }
+}
+
+impl<'l, L: OpenListener<Stream = S>, S: Connection + Drop> Reception<'l, L> {
+    /// Waits for the next connection, and has a conversation over a desk on it. The bytes that are written to it are those of the
+    /// conversation. Where conversations are to end before there is one, or it was gone before it was taken, that is a conversation of no bytes.
+    pub fn converse<D: Desk, R: Wait + Clock>(
+        &mut self,
+        setting: &Setting<'_, R>,
+        desk: &mut D,
+    ) -> Result<(), AcceptFault>
+        ensures ends { IfErr result (λ fault. IsFinal (error_of fault)) }
+        ensures kept { OnErr result (desk.new ≡ desk.old) }
+        ensures talked { (text : List ℕ) × (written_at self.new ≡ written_at self.old ++ text ∷ []) × HasTalked D.step desk.old desk.new text }
+    {
+        let next = take_connection(setting.rt, &mut self.listening, setting.ended, setting.load);
+        let (text, result) = match next {
+            Ok(stream) => (converse_on(setting, stream, desk), Ok(())),
+            Err(fault) => (Text::new(), Err(fault)),
+        };
+        self.written = self.written.with(&text);
+        result
+    }
+}
+
+/// Has a conversation over a desk on a connection, if there is one. Returns what was written.
+fn converse_on<S: Connection + Drop, D: Desk, R: Wait + Clock>(
+    setting: &Setting<'_, R>,
+    stream: Option<S>,
+    desk: &mut D,
+) -> Text
+    ensures talked { HasTalked D.step desk.old desk.new result.bytes }
+{
+    let Some(stream) = stream else {
+        return Text::new();
+    };
+    if stream.limit().is_err() {
+        return Text::new();
+    }
+    let timing = Timing::new(setting.rt, setting.ended, setting.muted, setting.load);
+    let text = converse_in_time(setting.alloc, &timing, &stream, desk);
+    timing.end_slow();
+    text
+}
+
+/// Has a conversation over a desk on a connection, whose time begins. Returns what was written.
+fn converse_in_time<S: Connection, D: Desk, C: Clock>(
+    alloc: Global,
+    timing: &Timing<'_, '_, C>,
+    stream: &S,
+    desk: &mut D,
+) -> Text
+    ensures talked { HasTalked D.step desk.old desk.new result.bytes }
+{
+    let mut reader = Incoming::new(timing, LentConnection::of(stream));
+    let mut writer = Outgoing::new(timing, LentConnection::of(stream));
+    let mut reads = Reads::new();
+    let _ = converse(alloc, &mut reader, &mut writer, desk, &mut reads);
+    let LentConnection { written, .. } = writer.into_stream();
+    written
+}
