@@ -5,6 +5,7 @@ use Rattle.std.proofs.lemmas.Grind.{flat_map-append}
 use Rattle.std.proofs.lemmas.List.Sums.{sum_by-cons, sum_by_push}
 use Rattle.tfs_records.specs.Journal.{Journal, position_of}
 use Rattle.tfs_calls.specs.Reply.{ReplyValue, done, state, impact, refused}
+use Rattle.tfs_calls.specs.Transition.{TableModel}
 use Rattle.tfs_published.specs.Beginning.{BeginsWith}
 use Rattle.tfs_published.proofs.Beginnings.{begins_with_itself, begins_with_earlier}
 use Rattle.tfs_serve.specs.Gate.{Event}
@@ -51,29 +52,31 @@ all_told opening last (w ∷ workers) (t ∷ told) (s ∷ served) few same each 
     let sums = sum_by-cons (λ (v : ServedView). v.accepted) s served in omega (arith, one, more, here, lengths, sums)
 
 -- A run has as many positions as its workers report changes as accepted.
-term_told : (opening : Journal) (t : ReturnedRun) → IsReturnedRun opening t → length t.positions ≡ accepted_of t.served
+term_told : (opening : TableModel) (t : ReturnedRun) → IsReturnedRun opening t → length t.positions ≡ accepted_of t.served
 term_told opening t run =
     let run = run.run in
-    ap length run.positions ∙ all_told opening t.last run.connections run.told t.served run.each.0 run.each.1 run.workers
+    ap length run.positions ∙ all_told opening.journal t.last.journal run.connections run.told t.served run.each.0 run.each.1 run.workers
 
 -- It has a position more for each of them.
-term_grows : (opening : Journal) (t : ReturnedRun) → IsReturnedRun opening t → position_of t.last ≡ position_of opening + accepted_of t.served
+term_grows : (opening : TableModel) (t : ReturnedRun) → IsReturnedRun opening t
+    → position_of t.last.journal ≡ position_of opening.journal + accepted_of t.served
 term_grows opening t run =
     let base = ap (λ b. b.position) run.run.begins.base in
     let grows = run.run.grows in omega (arith, base, grows)
 
 -- Each is reported once.
-term_once : (opening : Journal) (t : ReturnedRun) → IsReturnedRun opening t → AreToldOnce opening t.last t.positions
+term_once : (opening : TableModel) (t : ReturnedRun) → IsReturnedRun opening t → AreToldOnce opening.journal t.last.journal t.positions
 term_once opening t run p above within = ap (times p) run.positions ∙ run.run.once p above within
 
 -- What a last journal leads to has its position.
-leads_stays : (last next : Journal) → LeadsTo last next → position_of next ≡ position_of last
-leads_stays last next (inl rebased) = rebased.position
-leads_stays last next (inr same) = ap position_of same
+leads_stays : (last next : TableModel) → LeadsTo last next → position_of next.journal ≡ position_of last.journal
+leads_stays last next (inl compact) = compact.rebased.position
+leads_stays last next (inr same) = ap (λ (m : TableModel). position_of m.journal) same
 
 -- So do runs one after another.
-goes_by_grows : (first now : Journal) (runs : List ReturnedRun) → GoesBy first runs now → position_of now ≡ position_of first + accepted_by_all runs
-goes_by_grows first now [] goes = let same = ap position_of goes in omega (arith, same)
+goes_by_grows : (first now : TableModel) (runs : List ReturnedRun) → GoesBy first runs now
+    → position_of now.journal ≡ position_of first.journal + accepted_by_all runs
+goes_by_grows first now [] goes = let same = ap (λ (m : TableModel). position_of m.journal) goes in omega (arith, same)
 goes_by_grows first now (t ∷ runs) goes =
     let grows = term_grows first t goes.1 in
     let stays = leads_stays t.last goes.0 goes.2 in
@@ -81,7 +84,7 @@ goes_by_grows first now (t ∷ runs) goes =
     let all = sum_by-cons (λ (u : ReturnedRun). accepted_of u.served) t runs in omega (arith, grows, stays, more, all)
 
 -- They report as many positions as changes.
-goes_by_told : (first now : Journal) (runs : List ReturnedRun) → GoesBy first runs now → length (positions_of_all runs) ≡ accepted_by_all runs
+goes_by_told : (first now : TableModel) (runs : List ReturnedRun) → GoesBy first runs now → length (positions_of_all runs) ≡ accepted_by_all runs
 goes_by_told first now [] goes = refl
 goes_by_told first now (t ∷ runs) goes =
     let one = term_told first t goes.1 in
@@ -90,16 +93,17 @@ goes_by_told first now (t ∷ runs) goes =
     let all = sum_by-cons (λ (u : ReturnedRun). accepted_of u.served) t runs in omega (arith, one, more, lengths, all)
 
 -- Between the two journals are as many positions as changes were reported.
-pub goes_on_grows : (first now : Journal) (accepted : ℕ) → GoesOn first now accepted → position_of now ≡ position_of first + accepted
+pub goes_on_grows : (first now : TableModel) (accepted : ℕ) → GoesOn first now accepted
+    → position_of now.journal ≡ position_of first.journal + accepted
 goes_on_grows first now accepted goes =
     let counts = goes.counts in
     let grows = goes_by_grows first now goes.runs goes.goes in omega (arith, counts, grows)
 
 -- One more run.
-goes_by_then : (first opening next : Journal) (t : ReturnedRun) (runs : List ReturnedRun) → GoesBy first runs opening → IsReturnedRun opening t → LeadsTo t.last next
+goes_by_then : (first opening next : TableModel) (t : ReturnedRun) (runs : List ReturnedRun) → GoesBy first runs opening → IsReturnedRun opening t → LeadsTo t.last next
     → GoesBy first (runs ++ t ∷ []) next
 goes_by_then first opening next t [] goes run leads =
-    (next, subst (λ (j : Journal). IsReturnedRun j t) goes run, leads, refl)
+    (next, subst (λ (m : TableModel). IsReturnedRun m t) goes run, leads, refl)
 goes_by_then first opening next t (u ∷ runs) goes run leads =
     (goes.0, goes.1, goes.2, goes_by_then goes.0 opening next t runs goes.3 run leads)
 
@@ -109,20 +113,20 @@ positions_then t runs =
     flat_map-append (λ (u : ReturnedRun). u.positions) runs (t ∷ []) ∙ ap (λ (l : List ℕ). positions_of_all runs ++ l) (append-nil t.positions)
 
 -- No run yet.
-pub goes_not_yet : (first now : Journal) → now ≡ first → GoesOn first now 0
+pub goes_not_yet : (first now : TableModel) → now ≡ first → GoesOn first now 0
 goes_not_yet first now same = record {
   runs = [];
   goes = same;
   counts = refl;
-  once = λ p above within. let stays = ap position_of same in absurd (omega (arith, above, within, stays));
+  once = λ p above within. let stays = ap (λ (m : TableModel). position_of m.journal) same in absurd (omega (arith, above, within, stays));
 }
 
 -- Without a run a journal leads to itself.
-pub goes_nowhere : (j : Journal) → GoesOn j j 0
-goes_nowhere j = goes_not_yet j j refl
+pub goes_nowhere : (m : TableModel) → GoesOn m m 0
+goes_nowhere m = goes_not_yet m m refl
 
 -- A run after others.
-pub goes_on_then : (first opening next : Journal) (accepted : ℕ) (t : ReturnedRun) → GoesOn first opening accepted → IsReturnedRun opening t → LeadsTo t.last next
+pub goes_on_then : (first opening next : TableModel) (accepted : ℕ) (t : ReturnedRun) → GoesOn first opening accepted → IsReturnedRun opening t → LeadsTo t.last next
     → GoesOn first next (accepted + accepted_of t.served)
 goes_on_then first opening next accepted t goes run leads =
     let counts = goes.counts in
@@ -136,7 +140,7 @@ goes_on_then first opening next accepted t goes run leads =
       goes = goes_by_then first opening next t goes.runs goes.goes run leads;
       counts = omega (arith, counts, more);
       once = λ p above within. ap (times p) (positions_then t goes.runs)
-          ∙ told_then (position_of first) (position_of opening) (position_of t.last) (positions_of_all goes.runs) t.positions
+          ∙ told_then (position_of first.journal) (position_of opening.journal) (position_of t.last.journal) (positions_of_all goes.runs) t.positions
           (omega (arith, before, told)) (omega (arith, grows, here)) goes.once (term_once opening t run) p above (omega (arith, within, stays));
     }
 
@@ -145,9 +149,9 @@ pub begins_itself : (j : Journal) → BeginsWith j j
 begins_itself = begins_with_itself
 
 -- What begins the opening journal of a run begins its last one.
-pub term_begins : (placed opening last : Journal) (served : List ServedView) → IsReturnedRunOf opening last served → BeginsWith opening placed
-    → BeginsWith last placed
-term_begins placed opening last served run begins = begins_with_earlier last opening placed run.1.run.begins begins
+pub term_begins : (placed : Journal) (opening last : TableModel) (served : List ServedView) → IsReturnedRunOf opening last served
+    → BeginsWith opening.journal placed → BeginsWith last.journal placed
+term_begins placed opening last served run begins = begins_with_earlier last.journal opening.journal placed run.1.run.begins begins
 
 -- A journal that is the last one begins with the one in place, if that is the same too.
 pub same_begins : (last end before after : Journal) → end ≡ last → after ≡ before → BeginsWith last before → BeginsWith end after
@@ -155,8 +159,8 @@ same_begins last end before after same placed begins =
     subst (λ (j : Journal). BeginsWith j after) (sym same) (subst (λ (p : Journal). BeginsWith last p) (sym placed) begins)
 
 -- The opening journal of a run is an end.
-pub ends_at : (first opening end : Journal) (accepted before after : ℕ) → GoesOn first opening accepted → BeginsWith end opening
-    → after ≡ before + accepted → EndsOn first end before after
+pub ends_at : (first opening : TableModel) (end : Journal) (accepted before after : ℕ) → GoesOn first opening accepted
+    → BeginsWith end opening.journal → after ≡ before + accepted → EndsOn first end before after
 ends_at first opening end accepted before after goes begins counts = record {
   opening = opening;
   accepted = accepted;
@@ -179,15 +183,15 @@ begins_below j earlier begins =
     let shorter = prefix_is_shorter earlier.entries j.entries begins.entries in omega (arith, base, shorter)
 
 -- The last journal has all changes that were reported as accepted.
-pub holds_all : (first end : Journal) (before after : ℕ) → EndsOn first end before after → HoldsAll first end before after
+pub holds_all : (first : TableModel) (end : Journal) (before after : ℕ) → EndsOn first end before after → HoldsAll first.journal end before after
 holds_all first end before after ends =
     let counts = ends.counts in
     let grows = goes_on_grows first ends.opening ends.accepted ends.goes in
-    let below = begins_below end ends.opening ends.begins in omega (arith, counts, grows, below)
+    let below = begins_below end ends.opening.journal ends.begins in omega (arith, counts, grows, below)
 
 -- It has no others if it is the opening one of the next run.
-pub holds_just : (first opening end : Journal) (accepted before after : ℕ) → GoesOn first opening accepted → end ≡ opening
-    → after ≡ before + accepted → HoldsJust first end before after
+pub holds_just : (first opening : TableModel) (end : Journal) (accepted before after : ℕ) → GoesOn first opening accepted
+    → end ≡ opening.journal → after ≡ before + accepted → HoldsJust first.journal end before after
 holds_just first opening end accepted before after goes same counts =
     let grows = goes_on_grows first opening accepted goes in
     let stays = ap position_of same in omega (arith, counts, grows, stays)
@@ -206,7 +210,7 @@ pub counts_then : (before accepted more added now mid after : ℕ) → now ≡ b
 counts_then before accepted more added now mid after counts counted same stays = omega (arith, counts, counted, same, stays)
 
 -- After one more run, which led to a journal.
-pub grows_then : (first opening last next : Journal) (served : List ServedView) (accepted before added now mid after : ℕ)
+pub grows_then : (first opening last next : TableModel) (served : List ServedView) (accepted before added now mid after : ℕ)
     → GoesOn first opening accepted → IsReturnedRunOf opening last served → LeadsTo last next → now ≡ before + accepted → mid ≡ now + added
     → accepted_of served ≡ added → after ≡ mid
     → (all : ℕ) × GoesOn first next all × (after ≡ before + all)
@@ -217,14 +221,16 @@ grows_then first opening last next served accepted before added now mid after go
 )
 
 -- Runs end with a journal to which they led.
-pub ends_now : (first now : Journal) (before after : ℕ) → ((all : ℕ) × GoesOn first now all × (after ≡ before + all)) → EndsOn first now before after
-ends_now first now before after grown = ends_at first now now grown.0 before after grown.1 (begins_with_itself now) grown.2
+pub ends_now : (first now : TableModel) (before after : ℕ) → ((all : ℕ) × GoesOn first now all × (after ≡ before + all))
+    → EndsOn first now.journal before after
+ends_now first now before after grown = ends_at first now now.journal grown.0 before after grown.1 (begins_with_itself now.journal) grown.2
 
 -- The journal to which runs led has all changes that they reported, and no others.
-pub holds_now : (first now : Journal) (before after : ℕ) → ((all : ℕ) × GoesOn first now all × (after ≡ before + all)) → HoldsJust first now before after
-holds_now first now before after grown = holds_just first now now grown.0 before after grown.1 refl grown.2
+pub holds_now : (first now : TableModel) (before after : ℕ) → ((all : ℕ) × GoesOn first now all × (after ≡ before + all))
+    → HoldsJust first.journal now.journal before after
+holds_now first now before after grown = holds_just first now now.journal grown.0 before after grown.1 refl grown.2
 
 -- A run is a run.
-pub term_of : (opening last : Journal) (told : List (Option (List Event))) (served : List ServedView) → IsRun opening last told served
-    → IsReturnedRunOf opening last served
+pub term_of : (opening last : TableModel) (told : List (Option (List Event))) (served : List ServedView)
+    → IsRun opening.journal last.journal opening.stopped last.stopped told served → IsReturnedRunOf opening last served
 term_of opening last told served run = (positions_on run.connections, record { told = told; run = run; positions = refl })

@@ -1,6 +1,7 @@
 -- Successive runs, between which the journal is rebased.
-use Rattle.std.specs.Prelude.{◌≡◌, ◌⊎◌, ◌+◌, ◌≤◌, ℕ, List, [], ◌∷◌, Option, flat_map, sum_by}
+use Rattle.std.specs.Prelude.{◌≡◌, ◌⊎◌, ◌+◌, ◌≤◌, ℕ, false, List, [], ◌∷◌, Option, flat_map, sum_by}
 use Rattle.tfs_records.specs.Journal.{Journal, position_of}
+use Rattle.tfs_calls.specs.Transition.{TableModel}
 use Rattle.tfs_table.specs.Rebase.{IsRebased}
 use Rattle.tfs_published.specs.Beginning.{BeginsWith}
 use Rattle.tfs_serve.specs.Gate.{Event}
@@ -8,10 +9,10 @@ use Rattle.tfs_serve.specs.Serving.{ServedView, IsRun, answers_on}
 use Rattle.tfs_serve.specs.Told.{positions_told, AreToldOnce}
 use Rattle.tfs_serve.specs.Working.{Answer}
 
--- A run that returned: the journal that it left, the outcomes of its workers, and the positions
--- that these reported, each with an accepted change.
+-- A run that returned: the journal that it left, whether its table is stopped, the outcomes of its
+-- workers, and the positions that these reported, each with an accepted change.
 pub record ReturnedRun : Type 0 where
-  pub last : Journal
+  pub last : TableModel
   pub served : List ServedView
   pub positions : List ℕ
 
@@ -20,24 +21,30 @@ abbrev pub positions_on : List (List (List Answer)) → List ℕ
 positions_on = flat_map (λ answers. positions_told (answers_on answers))
 
 -- A run from an opening journal, given the events that the gates of its workers had heard before.
-pub record IsReturnedRun (opening : Journal) (t : ReturnedRun) : Type 0 where
+pub record IsReturnedRun (opening : TableModel) (t : ReturnedRun) : Type 0 where
   pub told : List (Option (List Event))
-  pub run : IsRun opening t.last told t.served
+  pub run : IsRun opening.journal t.last.journal opening.stopped t.last.stopped told t.served
   pub positions : t.positions ≡ positions_on run.connections
 
 -- A run from an opening journal, by its last journal and the outcomes of its workers.
-abbrev pub IsReturnedRunOf : Journal → Journal → List ServedView → Type 0
+abbrev pub IsReturnedRunOf : TableModel → TableModel → List ServedView → Type 0
 IsReturnedRunOf opening last served = (positions : List ℕ) × IsReturnedRun opening (record { last = last; served = served; positions = positions })
+
+-- A rebase of a journal that hasn't stopped into one that hasn't.
+pub record IsCompacted (last next : TableModel) : Type 0 where
+  pub rebased : IsRebased last.journal next.journal
+  pub ran : last.stopped ≡ false
+  pub runs : next.stopped ≡ false
 
 -- The journal with which the next run opens: the rebased last journal or, if that wasn't put in
 -- place, the last journal itself.
-abbrev pub LeadsTo : Journal → Journal → Type 0
-LeadsTo last next = IsRebased last next ⊎ (next ≡ last)
+abbrev pub LeadsTo : TableModel → TableModel → Type 0
+LeadsTo last next = IsCompacted last next ⊎ (next ≡ last)
 
 -- Runs lead from one journal to another.
-abbrev pub GoesBy : Journal → List ReturnedRun → Journal → Type 0
+abbrev pub GoesBy : TableModel → List ReturnedRun → TableModel → Type 0
 GoesBy first [] now = now ≡ first
-GoesBy first (t ∷ more) now = (next : Journal) × IsReturnedRun first t × LeadsTo t.last next × GoesBy next more now
+GoesBy first (t ∷ more) now = (next : TableModel) × IsReturnedRun first t × LeadsTo t.last next × GoesBy next more now
 
 -- The number of changes that the workers of a run reported as accepted.
 abbrev pub accepted_of : List ServedView → ℕ
@@ -53,20 +60,20 @@ positions_of_all = flat_map (λ t. t.positions)
 
 -- Some runs lead from one journal to another. Their workers reported this number of changes as
 -- accepted, and each position between the two journals exactly once.
-pub record GoesOn (first now : Journal) (accepted : ℕ) : Type 0 where
+pub record GoesOn (first now : TableModel) (accepted : ℕ) : Type 0 where
   pub runs : List ReturnedRun
   pub goes : GoesBy first runs now
   pub counts : accepted ≡ accepted_by_all runs
-  pub once : AreToldOnce first now (positions_of_all runs)
+  pub once : AreToldOnce first.journal now.journal (positions_of_all runs)
 
 -- After some runs, a journal begins with the one with which the next run opened, or would have
 -- opened. The difference of the two counts is the number of changes that the workers of these runs
 -- reported as accepted.
-pub record EndsOn (first end : Journal) (before after : ℕ) : Type 0 where
-  pub opening : Journal
+pub record EndsOn (first : TableModel) (end : Journal) (before after : ℕ) : Type 0 where
+  pub opening : TableModel
   pub accepted : ℕ
   pub goes : GoesOn first opening accepted
-  pub begins : BeginsWith end opening
+  pub begins : BeginsWith end opening.journal
   pub counts : after ≡ before + accepted
 
 -- The last journal has positions for all changes between the two counts, which were reported as

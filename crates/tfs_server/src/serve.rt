@@ -1,6 +1,7 @@
 //! Serving a folder in runs, with a compaction between two of them.
 
 ghost use Rattle.std.specs.Prelude.{◌≡◌, ◌≤◌};
+ghost use Rattle.tfs_table.specs.Table.{model_of};
 ghost use Rattle.tfs_runs.specs.Runs.{EndsOn, HoldsAll};
 
 use crate::fault::end_of;
@@ -74,8 +75,8 @@ pub fn serve_folder<R: AllocGlobal + Threads + Wait + Clock + Sync>(
     plan: &Plan<'_>,
     begun: StartedFolder<'_>,
 ) -> Left
-    ensures ends { EndsOn begun.table.journal result.table.journal 0 result.reported.count }
-    ensures holds { HoldsAll begun.table.journal result.table.journal 0 result.reported.count }
+    ensures ends { EndsOn (model_of begun.entry.table) result.table.journal 0 result.reported.count }
+    ensures holds { HoldsAll begun.entry.table.journal result.table.journal 0 result.reported.count }
 {
     let StartedFolder {
         listener,
