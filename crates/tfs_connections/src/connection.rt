@@ -97,7 +97,7 @@ impl<'t, 'r, 'e, R: Clock, S: Write> Outgoing<'t, 'r, 'e, R, S> {
         }
     }
 
-    /// The stream.
+    /// Returns the stream.
     pub(crate) fn into_stream(self) -> S
         ensures stream { result ≡ self.entry.stream }
     {

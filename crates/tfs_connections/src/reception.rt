@@ -18,8 +18,8 @@ use std::sync::atomic::AtomicBool;
 use std::time::Clock;
 use tfs_conversation::{Desk, Reads, converse};
 
-/// What conversations are served with: the runtime, the allocator, what asks conversations to end, what forbids all writes, and how busy
-/// the workers are.
+/// The setting of conversations: the runtime, the allocator, the flag that asks conversations to
+/// end, the flag that forbids all writes, and the load of the workers.
 #[derive(Drop)]
 pub struct Setting<'s, R> {
     pub rt: &'s R,
@@ -29,8 +29,8 @@ pub struct Setting<'s, R> {
     pub load: &'s Load,
 }
 
-/// Takes connections from a listener that is lent, and has a conversation on each; nobody else has them. For proofs it keeps what was
-/// written to each.
+/// A receiver of connections from a borrowed listener, which holds a conversation on each. Nothing
+/// else uses these connections. For proofs, it keeps what was written to each.
 #[derive(Drop)]
 pub struct Reception<'l, L: OpenListener> {
     listening: Listening<'l, L>,
@@ -38,7 +38,7 @@ pub struct Reception<'l, L: OpenListener> {
 }
 
 impl<'l, L: OpenListener> Reception<'l, L> {
-    /// No connection was taken.
+    /// Creates a receiver that has taken no connection.
     pub fn new(listener: &'l L) -> Reception<'l, L>
         ensures written { written_at result ≡ [] }
     {
@@ -48,7 +48,7 @@ impl<'l, L: OpenListener> Reception<'l, L> {
         }
     }
 
-    /// What was written to each connection.
+    /// Returns what was written to each connection.
     pub fn into_written(self) -> Written
         ensures texts { result.texts ≡ written_at self.entry }
     {
@@ -58,8 +58,14 @@ impl<'l, L: OpenListener> Reception<'l, L> {
 }
 
 impl<'l, L: OpenListener<Stream = S>, S: Connection + Drop> Reception<'l, L> {
-    /// Waits for the next connection, and has a conversation over a desk on it. The bytes that are written to it are those of the
-    /// conversation. Where conversations are to end before there is one, or it was gone before it was taken, that is a conversation of no bytes.
+    /// Waits for the next connection, and holds a conversation over a desk on it. Exactly the bytes
+    /// of the conversation are written to the connection. If conversations are to end before a
+    /// connection comes, or it was gone before it was taken, the conversation has no bytes.
+    ///
+    /// # Errors
+    ///
+    /// Returns the fault of the listener if it is final; the desk is unchanged then, and the
+    /// conversation has no bytes.
     pub fn converse<D: Desk, R: Wait + Clock>(
         &mut self,
         setting: &Setting<'_, R>,
@@ -79,7 +85,7 @@ impl<'l, L: OpenListener<Stream = S>, S: Connection + Drop> Reception<'l, L> {
     }
 }
 
-/// Has a conversation over a desk on a connection, if there is one. Returns what was written.
+/// Holds a conversation over a desk on a connection, if there is one. Returns what was written.
 fn converse_on<S: Connection + Drop, D: Desk, R: Wait + Clock>(
     setting: &Setting<'_, R>,
     stream: Option<S>,
@@ -99,7 +105,8 @@ fn converse_on<S: Connection + Drop, D: Desk, R: Wait + Clock>(
     text
 }
 
-/// Has a conversation over a desk on a connection, whose time begins. Returns what was written.
+/// Holds a conversation over a desk on a connection within the time limits. Returns what was
+/// written.
 fn converse_in_time<S: Connection, D: Desk, C: Clock>(
     alloc: Global,
     timing: &Timing<'_, '_, C>,

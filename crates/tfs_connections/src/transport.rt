@@ -23,7 +23,7 @@ pub trait Connection {
     fn receive(&self, buf: &mut [u8]) -> io::Result<usize>
         ensures bound { ReadsAtMost result buf.new };
 
-    /// Writes once.
+    /// Writes once, and appends the bytes that the connection took to `written`.
     fn send(&self, text: &[u8], written: &mut Text) -> io::Result<usize>
         ensures bound { WritesAtMost result text.now }
         ensures bytes { WriteAppends (Some written.old.bytes) (Some written.new.bytes) result text.now };
@@ -81,7 +81,7 @@ impl Connection for UnixStream {
     }
 }
 
-/// A reader and a writer over a borrowed connection.
+/// A reader and a writer over a borrowed connection. For proofs, it keeps what it has written.
 #[derive(Drop)]
 pub(crate) struct LentConnection<'c, C: Connection> {
     connection: &'c C,
@@ -89,7 +89,7 @@ pub(crate) struct LentConnection<'c, C: Connection> {
 }
 
 impl<'c, C: Connection> LentConnection<'c, C> {
-    /// Wraps a borrowed connection.
+    /// Wraps a borrowed connection. Nothing has been written yet.
     pub(crate) fn of(connection: &'c C) -> LentConnection<'c, C>
         ensures written { result.written.bytes ≡ [] }
     {

@@ -1,4 +1,4 @@
-//! What was written to connections, as proofs see it.
+//! The bytes written to connections, for proofs.
 
 ghost use Rattle.std.specs.Prelude.{◌≡◌, ◌++◌, ◌∷◌, ℕ, List, []};
 ghost use Rattle.std.specs.Borrow.{ftrue};
@@ -6,7 +6,8 @@ ghost use Rattle.std.specs.Coded.{coded_ℕ, coded_list};
 
 use std::marker::Model;
 
-/// The bytes that were written to a connection, which a clause reads as `bytes`. It takes no memory, and its methods do nothing at run time.
+/// The bytes written to a connection. Clauses read them as `bytes`. Takes no memory, and its
+/// methods do nothing at run time.
 #[derive(Drop)]
 pub struct Text {
     pub ghost bytes: { List ℕ } by { coded_list coded_ℕ },
@@ -17,7 +18,7 @@ impl Model for Text {
 }
 
 impl Text {
-    /// No bytes.
+    /// Creates a text of no bytes.
     #[inline(always)]
     pub(crate) fn new() -> Text
         ensures { result.bytes ≡ [] }
@@ -25,15 +26,15 @@ impl Text {
         Text {}
     }
 
-    /// Adds bytes.
+    /// Appends bytes.
     #[inline(always)]
     pub(crate) fn note(&mut self, _bytes: &[u8])
         ensures { self.new.bytes ≡ self.old.bytes ++ _bytes.now }
     {}
 }
 
-/// The bytes that were written to each of a list of connections, which a clause reads as `texts`. It takes no memory, and its methods do
-/// nothing at run time.
+/// The bytes written to each connection of a list. Clauses read them as `texts`. Takes no memory,
+/// and its methods do nothing at run time.
 #[derive(Drop)]
 pub struct Written {
     pub ghost texts: { List (List ℕ) } by { coded_list (coded_list coded_ℕ) },
@@ -44,7 +45,7 @@ impl Model for Written {
 }
 
 impl Written {
-    /// No connections.
+    /// Creates a list of no connections.
     #[inline(always)]
     pub fn new() -> Written
         ensures { result.texts ≡ [] }
@@ -52,7 +53,7 @@ impl Written {
         Written {}
     }
 
-    /// The connections, and one more, to which this text was written.
+    /// Returns the list with one more connection, to which this text was written.
     #[inline(always)]
     pub(crate) fn with(&self, _text: &Text) -> Written
         ensures { result.texts ≡ self.now.texts ++ _text.now.bytes ∷ [] }

@@ -135,7 +135,8 @@ pub record BreaksOff {S : Type 0} (step : Step S) (old new : S) (bytes text : Li
   pub text_is : course_text course ≡ text ++ lost
   pub comes_at : ComesAt fault course lost before after
 
--- A conversation was had, and this text was written: that of all replies, or what a fault left of it.
+-- A conversation, complete or broken off by an error, and the text that it wrote: the text of all
+-- replies or, after an error, a prefix of it.
 pub record HasTalked {S : Type 0} (step : Step S) (old new : S) (text : List ℕ) : Type 0 where
   pub bytes : List ℕ
   pub reads : ℕ

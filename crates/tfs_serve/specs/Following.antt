@@ -22,7 +22,9 @@ pub record FollowsJournal (last : Journal) (a : Answer) : Type 0 where
 
 -- The last journal is lawful, and begins with the opening one. Each reply, except `NoCopy`, follows
 -- it. Each accepted change is in it at the reported position, and each position beyond the opening
--- one is reported by exactly one reply.
+-- one is reported by exactly one reply. The table is stopped at the end (`is`) if and only if it
+-- was stopped before (`was`) or exactly one reply reports a fault of the sink; if it was stopped
+-- before, no reply does. If any reply reports that the table is stopped, it is stopped at the end.
 pub record FollowOneJournal (opening last : Journal) (was is : Bool) (answers : List Answer) : Type 0 where
   pub lawful : IsLawful last
   pub begins : BeginsWith last opening

@@ -34,13 +34,15 @@ pub record RepliesOver (last seen : Journal) (a : Answer) (next : Journal) : Typ
   pub was_lawful : IsLawful before.journal
   pub is_lawful : IsLawful next
 
--- The calls that may lack a copy: impact queries; and changes and reads by who has seen more than the opening journal.
+-- The calls that `NoCopy` may refuse: impact queries, and changes and reads of a worker that has
+-- seen more than the opening journal.
 abbrev pub MayLackCopy : Journal → Journal → Call → Type 0
 MayLackCopy opening seen (Read name) = position_of opening < position_of seen
 MayLackCopy opening seen (Change name raw) = position_of opening < position_of seen
 MayLackCopy opening seen (Impact name query) = Unit {0}
 
--- One reply: over such a journal, or `NoCopy`, and then nothing more has been seen.
+-- One reply: over such a journal, or `NoCopy` if the call may get it, and then nothing more has
+-- been seen.
 abbrev pub Replies : Journal → Journal → Journal → Answer → Journal → Type 0
 Replies opening last seen a next =
     ((a.reply ≡ refused no_copy) × (next ≡ seen) × MayLackCopy opening seen a.call) ⊎ RepliesOver last seen a next
@@ -55,11 +57,11 @@ RepliesInTurn opening last seen (a ∷ more) end =
 abbrev pub accepted_in : List Answer → ℕ
 accepted_in = sum_by (λ a. accepted_by a.reply)
 
--- How many replies report that the sink has failed.
+-- The number of replies that report a fault of the sink.
 abbrev pub faults_in : List Answer → ℕ
 faults_in = sum_by (λ a. as_number (reports_fault a.reply))
 
--- A table is stopped if a reply reports it.
+-- The table is stopped if any of the replies reports that it is.
 abbrev pub StopsLast : Bool → List Answer → Type 0
 StopsLast stopped = All (λ a. reports_stop a.reply ≡ true → stopped ≡ true)
 
@@ -68,8 +70,8 @@ abbrev pub answers_on : List (List Answer) → List Answer
 answers_on = flat_map (λ answers. answers)
 
 -- The view of a worker's outcome: the events that its gate heard, whether the listener failed and
--- with which fault, the position of what the worker has seen, and the number of changes that it
--- reported as accepted.
+-- with which fault, the position of what the worker has seen, the number of changes that it
+-- reported as accepted, and the bytes written to each of its connections.
 pub record ServedView : Type 0 where
   pub told : Option (List Event)
   pub failed : Bool
@@ -92,7 +94,8 @@ served_view told served = record {
 -- A worker of a run from an opening journal to a last one, which answered on these connections. Its
 -- gate has heard of each connection that it was asked for and of each call and reply on these, in
 -- order, and of nothing else. The replies are those of a session that starts from the opening
--- journal, and each accepted change is in the last journal at the reported position.
+-- journal, and each accepted change is in the last journal at the reported position. The bytes
+-- written to each connection are those of a conversation with the answers on it.
 pub record IsServed (opening last : Journal) (connections : List (List Answer)) (told : Option (List Event)) (served : ServedView) : Type 0
   where
     pub heard : Hears told served.told (flat_map heard_of_connection connections ++ end_of_work served.failed)
@@ -108,7 +111,10 @@ pub record IsServed (opening last : Journal) (connections : List (List Answer)) 
 -- A run from an opening journal to a last one, with a worker for each gate, given the events that
 -- the gates had heard before. The last journal is lawful and begins with the opening one. Each
 -- worker has served its connections. Beyond the opening entries there are as many as changes were
--- reported as accepted, and each of their positions is reported by exactly one reply.
+-- reported as accepted, and each of their positions is reported by exactly one reply. The table is
+-- stopped after the run (`is`) if and only if it was stopped before (`was`) or exactly one reply of
+-- all workers reports a fault of the sink; if it was stopped before, no reply does. If any reply
+-- reports that the table is stopped, it is stopped after the run.
 pub record IsRun (opening last : Journal) (was is : Bool) (told : List (Option (List Event))) (served : List ServedView) : Type 0 where
   pub lawful : IsLawful last
   pub begins : BeginsWith last opening

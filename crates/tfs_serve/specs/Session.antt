@@ -21,7 +21,8 @@ accepted_by (impact d chosen position) = 0
 accepted_by (refused refusal) = 0
 
 -- The reply is the transition of a table whose lawful journal begins with all that the session had
--- seen. The session then has seen the journal after the transition.
+-- seen. The session then has seen the journal after the transition. `OutOfMemory` is the reply only
+-- if the call may allocate over that table.
 pub record AnswersOver (old : SessionView) (call : Call) (reply : ReplyValue) (new : SessionView) : Type 0 where
   pub before : TableModel
   pub after : TableModel
@@ -32,8 +33,9 @@ pub record AnswersOver (old : SessionView) (call : Call) (reply : ReplyValue) (n
   pub seen : new.journal ≡ after.journal
   pub accepted : new.accepted ≡ old.accepted + accepted_by reply
 
--- The refusal `NoCopy`; nothing changes. For a change or a read, the session is ahead of a journal
--- that the table may have.
+-- The refusal `NoCopy`. For a change or a read, the session is ahead of a journal that the table
+-- may have, and nothing changes. For an impact query, the session alone counts the refusal, and
+-- nothing else changes.
 abbrev pub LacksCopy : Journal → SessionView → Call → ReplyValue → SessionView → Type 0
 LacksCopy opening old (Read name) reply new = HasNoCopy opening old new reply
 LacksCopy opening old (Change name raw) reply new = HasNoCopy opening old new reply
@@ -41,7 +43,8 @@ LacksCopy opening old (Impact name query) reply new = (reply ≡ refused no_copy
 
 -- A step keeps count: each change beyond the opening journal that the session then has seen has a
 -- maker, and the last one is its own if one was accepted. The reported position is the position of
--- the journal that the session then has seen, beyond all that it had seen.
+-- the journal that the session then has seen, beyond all that it had seen. The session has counted
+-- what the reply reports of a stopped table.
 pub record KeepsCount (opening : Journal) (old : SessionView) (reply : ReplyValue) (new : SessionView) : Type 0 where
   pub signed : IsSigned opening old new (makers_told old.number reply)
   pub numbered : (position : ℕ) → reply ≡ done position → (position ≡ position_of new.journal) × (position_of old.journal < position)

@@ -47,27 +47,32 @@ pub record HasWorked (opening : Journal) (told now : Option (List Event)) (old n
   pub heard : Hears told now (flat_map heard_of_connection connections ++ end)
   pub gives : GivesOn opening old connections new
 
--- The step of a desk that has these answers to give, and no others: it gives the first.
+-- The step of a desk that gives exactly these answers in order: it gives the first, and the others
+-- are left.
 abbrev pub GivesFirst : List Answer → Call → ReplyValue → List Answer → Type 0
 GivesFirst answers call reply left = answers ≡ record { call = call; reply = reply } ∷ left
 
--- The text written to a connection is that of a conversation in which just these answers were given: of each message in turn the reply of the
--- next one, or a refusal of which the desk doesn't hear, and after a fault less.
+-- The text was written to a connection by a conversation in which the desk gave exactly these
+-- answers: for each message in order, the reply of the next answer, or a refusal made without the
+-- desk. After a fault, the end of the text may be missing.
 abbrev pub IsReplied : List Answer → List ℕ → Type 0
 IsReplied answers text = HasTalked GivesFirst answers [] text
 
--- The same on one connection after another.
+-- The texts were written to the connections by conversations with these answers: one text for each
+-- connection, in order.
 abbrev pub AreReplied : List (List Answer) → List (List ℕ) → Type 0
 AreReplied [] texts = texts ≡ []
 AreReplied (answers ∷ connections) [] = ⊥
 AreReplied (answers ∷ connections) (text ∷ texts) = IsReplied answers text × AreReplied connections texts
 
--- A session has answered calls on a connection, and this text was written to it.
+-- A session has answered calls on a connection, and the text written to it is from a conversation
+-- with these answers.
 pub record HasConversed (opening : Journal) (told now : Option (List Event)) (old new : SessionView) (text : List ℕ) : Type 0 where
   pub answered : HasAnswered opening told now old new
   pub replied : IsReplied answered.answers text
 
--- A session has worked, and what was written to its connections, behind what was written before, are its replies.
+-- A session has worked. The texts written to its connections are from conversations with its
+-- answers, and follow the texts written before.
 pub record HasReplied (opening : Journal) (told now : Option (List Event)) (old new : SessionView) (end : List Event) (from to : List (List ℕ)) : Type 0 where
   pub worked : HasWorked opening told now old new end
   pub texts : List (List ℕ)

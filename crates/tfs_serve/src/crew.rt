@@ -31,8 +31,8 @@ pub(crate) struct Room<J: Naming, G: Gate> {
     served: Vec<Served<G>>,
 }
 
-/// A crew before it starts: a gate and a session for each member, and allocated space for the
-/// members.
+/// A crew before it starts: a gate and a session for each member, allocated space for the members,
+/// and whether the table was stopped when it was shared.
 #[derive(Drop)]
 pub(crate) struct Crew<J: Naming, G: Gate> {
     pub(crate) gates: Vec<G>,
@@ -103,7 +103,8 @@ pub(crate) fn attend<
     }
 }
 
-/// Makes a member for each gate, over new sessions: the first gate gets the last session.
+/// Makes a member for each gate, over new sessions of a table, which may be stopped: the first gate
+/// gets the last session.
 fn make_members<J: Naming, G: Gate + Drop>(
     room: Vec<Member<J, G>>,
     gates: Vec<G>,

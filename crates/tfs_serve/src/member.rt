@@ -18,8 +18,8 @@ use tfs_connections::{AcceptFault, AnyStream, Load, Reception, Written};
 use tfs_records::Sink;
 use tfs_shared::{Naming, Session, Shared};
 
-/// A session that works in a run, its gate, and the fault of the listener that ended its work, if
-/// one did.
+/// A session that works in a run, its gate, the fault of the listener that ended its work, if one
+/// did, and what it has written to each connection.
 #[derive(Drop)]
 pub(crate) struct Member<J: Naming, G: Gate> {
     pub(crate) gate: G,

@@ -28,8 +28,8 @@ use tfs_shared::{Cause, Naming, Opened, Session, Shared, share};
 use tfs_table::Table;
 
 /// The outcome of a gate's worker: its gate, whether the listener failed and with which fault, the
-/// position of the journal that the worker has seen, and the number of changes that it reported as
-/// accepted.
+/// position of the journal that the worker has seen, the number of changes that it reported as
+/// accepted, and, for proofs, what it has written to each connection.
 #[derive(Drop)]
 pub struct Served<G: Gate> {
     pub gate: G,
@@ -99,9 +99,13 @@ struct Blanks {
 ///
 /// The table's journal is lawful, begins with the opening one, and has one more entry for each
 /// change that a reply reported as accepted, at the position that this reply, and no other,
-/// reported. Each reply of a worker is the transition of the model over a prefix of that journal
-/// with all that the worker had seen before, except `NoCopy`. A failed worker has the fault of its
-/// listener; the gate of every other worker is closed.
+/// reported. The table is stopped if and only if it was stopped before, or exactly one reply is
+/// `JournalFault`; if it was stopped before, no reply is. It is stopped if any reply is
+/// `JournalStopped`. Each reply of a worker is the transition of the model over a prefix of that
+/// journal with all that the worker had seen before, except `NoCopy`. What a worker has written to
+/// each connection are these replies, and the refusals of messages that made no call; if the
+/// connection fails, the end may be missing. A failed worker has the fault of its listener; the
+/// gate of every other worker is closed.
 ///
 /// # Errors
 ///
@@ -202,7 +206,7 @@ fn serve_named<
     }
 }
 
-/// Serves a shared table with sessions that have made no calls.
+/// Serves a shared table, which may be stopped, with sessions that have made no calls.
 fn serve_shared<
     J: Naming + Send + Sync,
     L: OpenListener<Stream = S> + Sync + Drop,

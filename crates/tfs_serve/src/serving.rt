@@ -42,7 +42,8 @@ pub fn work<L: OpenListener<Stream = TcpStream>, J: Naming, K: Sink, G: Gate, R:
     work_over(service, &mut reception, gate, session)
 }
 
-/// Works as [`work`] does, over a listener of any transport.
+/// Works as [`work`] does, over a listener of any transport. What is written to each connection are
+/// the replies to the messages that came on it; if the connection fails, the end may be missing.
 #[tactic(auto, using(crate::proofs::Later::later_itself, crate::proofs::Later::later_then, crate::proofs::Working::replied_nothing))]
 pub(crate) fn work_over<
     L: OpenListener<Stream = S>,
@@ -78,7 +79,8 @@ pub(crate) fn work_over<
     unreachable!()
 }
 
-/// Has a conversation over the session on the next connection, with states read over the room of a scratch.
+/// Holds a conversation over the session on the next connection. States are read with the memory of
+/// `scratch`.
 fn converse_next<
     L: OpenListener<Stream = S>,
     J: Naming,
@@ -107,7 +109,8 @@ fn converse_next<
     converse_over(&service.setting(), reception, &mut Gated { desk, gate })
 }
 
-/// Has a conversation over the desk on the next connection; the desk keeps its loan.
+/// Holds a conversation over the desk on the next connection. The desk keeps its borrowed session
+/// and gate.
 fn converse_over<
     L: OpenListener<Stream = S>,
     J: Naming,

@@ -47,7 +47,7 @@ pub struct Service<'s, J: Naming, K: Sink, R: Wait> {
 }
 
 impl<'s, J: Naming, K: Sink, R: Wait> Service<'s, J, K, R> {
-    /// What its conversations are served with.
+    /// Returns the setting of its conversations.
     pub(crate) fn setting(&self) -> Setting<'s, R> {
         Setting {
             rt: self.rt,

@@ -26,7 +26,8 @@ pub record HasNoCopy (opening : Journal) (old new : SessionView) (reply : ReplyV
   pub same : new ≡ old
 
 -- The reply to a change: the transition of a table whose lawful journal begins with all that the
--- session had seen. The session then has seen the journal after the transition.
+-- session had seen. The session then has seen the journal after the transition. `OutOfMemory` is
+-- the reply only if the table isn't stopped.
 pub record AnswersChange (name : List ℕ) (act : ActValue) (old new : SessionView) (reply : ReplyValue) : Type 0 where
   pub before : TableModel
   pub after : TableModel

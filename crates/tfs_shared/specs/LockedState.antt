@@ -8,8 +8,7 @@ use Rattle.tfs_table.specs.Table.{TableValue, IsFaultAt, model_of}
 use Rattle.tfs_published.specs.Publisher.{PublisherView}
 use Rattle.tfs_shared.specs.Stops.{as_number, accepted_of, faults_of, stops_of}
 
--- The view of callers: the table, its publisher, and the number of changes accepted since the table
--- was shared.
+-- The view of callers: the table, its publisher, and the total of the ledger for all sessions.
 pub record LockedStateView : Type 0 where
   pub table : TableValue
   pub publisher : PublisherView
@@ -21,7 +20,8 @@ pub record ArePublished (table : TableValue) (publisher : PublisherView) : Type 
   pub idle : table.stopped ≡ false → publisher.next ≡ None
 
 -- The invariant whenever the lock is free: the table's journal is published, and beyond the opening
--- entries it has as many entries as accepted changes.
+-- entries it has as many entries as accepted changes. The table is stopped if and only if exactly
+-- one session has its fault; otherwise none has. It is stopped if any session has reported so.
 pub record IsLockedState (opening : Journal) (locked_state : LockedStateView) : Type 0 where
   pub published : ArePublished locked_state.table locked_state.publisher
   pub counted : length locked_state.table.journal.entries ≡ length opening.entries + accepted_of locked_state.total

@@ -28,9 +28,9 @@ impl<J: Naming> Session<J> {
     ///
     /// # Errors
     ///
-    /// Returns `NoCopy` if no such snapshot is handed out; nothing changes then. Returns
-    /// `OutOfMemory` also if the snapshot has lost the version of the name and the query has 1 to
-    /// 64 texts.
+    /// Returns `NoCopy` if no such snapshot is handed out; the session counts that, and nothing
+    /// else changes. Returns `OutOfMemory` also if the snapshot has lost the version of the name
+    /// and the query has 1 to 64 texts.
     pub fn impact<K: Sink>(
         &mut self,
         shared: &Shared<J, K>,

@@ -33,7 +33,8 @@ use tfs_rules::Name;
 use tfs_state::Doc;
 use tfs_table::{Prepared, Table};
 
-/// The table, its publisher, and the book of accepted changes.
+/// The table, its publisher, and the book of accepted changes, of the fault that stopped the table,
+/// and of the sessions that have reported it.
 pub struct LockedState<J: Naming, K: Sink> {
     table: Table<K>,
     publisher: Publisher<J>,
@@ -68,7 +69,8 @@ impl<J: Naming, K: Sink> LockedState<J, K> {
 
     /// States what holds whenever the lock is free: the table's invariant, with a lawful journal;
     /// readers' snapshots represent that journal; beyond the opening entries it has as many entries
-    /// as accepted changes, each with its maker. The call computes nothing: it is a law.
+    /// as accepted changes, each with its maker; and the table is stopped if and only if a session
+    /// has its fault. The call computes nothing: it is a law.
     pub fn is_kept(&self)
         ensures table { IsTable self.now.table }
         ensures shown { Shows self.now.publisher }
@@ -236,7 +238,8 @@ impl<J: Naming, K: Sink> LockedState<J, K> {
     }
 
     /// Returns the table. Ends the readers of the sessions, which are all sessions of the table,
-    /// and then closes the publisher.
+    /// and then closes the publisher. The table is stopped if and only if exactly one session has
+    /// its fault, otherwise none has; it is stopped if any session has reported so.
     pub(crate) fn end<R: Wait>(self, rt: &R, sessions: Vec<Session<J>>) -> Table<K>
         requires some { (1 ≤ J.parts) × (J.parts ≤ 16) }
         requires all { J.parts ≤ length sessions.items }

@@ -7,7 +7,8 @@ use crate::session::Session;
 use std::sync::ledger::Share;
 use tfs_published::Naming;
 
-/// Merges the shares of the sessions into one. Returns `None` if there are no sessions.
+/// Merges the shares of the sessions into one, whose amount is the sum of theirs. Returns `None` if
+/// there are no sessions.
 #[tactic(auto, using(crate::proofs::Shares::accepted_more, crate::proofs::Shares::counted_more))]
 pub(crate) fn merge_shares<J: Naming>(sessions: Vec<Session<J>>) -> Option<Share<J>>
     requires some { 1 ≤ J.parts }

@@ -28,14 +28,18 @@ use tfs_rules::Name;
 use tfs_state::Doc;
 use tfs_table::{DeferredDrop, Prepared};
 
-/// What the ledger counts for the fault of a session, beyond the accepted changes of all sessions.
+/// The ledger amount of a session's fault. It exceeds any sum of the accepted changes of all
+/// sessions.
 pub(crate) const FAULT: u64 = 2_097_152;
 
-/// What the ledger counts for a session that reports a stopped table, beyond the faults of all sessions.
+/// The ledger amount of a session that has reported a stopped table. It exceeds any sum of the
+/// accepted changes and the faults of all sessions.
 const STOP: u64 = 67_108_864;
 
 /// A caller's handle to a shared table. Contracts see its number, the journal that it has seen, the
-/// makers of that journal's changes, and the number of its own accepted changes.
+/// makers of that journal's changes, the number of its own accepted changes, whether it has the
+/// fault that stopped the table, whether it has reported that the table is stopped, and the number
+/// of its impact queries that got no snapshot, modulo 2 to the 64th.
 #[derive(Drop)]
 pub struct Session<J: Naming> {
     number: u64,
@@ -69,7 +73,7 @@ impl<J: Naming> Model for Session<J> {
 
 impl<J: Naming> Session<J> {
     /// Creates the session with this number. It has seen what its reader has, and has made no
-    /// changes.
+    /// changes. `faulted` says whether it has the fault that stopped the table.
     pub(crate) fn new(number: u64, reader: Reader<J>, share: Share<J>, faulted: bool) -> Session<J>
         requires parts { share.parts ≡ 1 }
         requires amount { share.amount ≡ weight 0 faulted false }
@@ -245,7 +249,8 @@ impl<J: Naming> Session<J> {
         self.accepted += 1;
     }
 
-    /// Counts the fault of the sink at a change of its own, here and in the book of all. No session has reported a stopped table.
+    /// Counts a fault of the sink at a change of this session, and that the session reports the
+    /// stopped table, here and in the book. No session has counted a fault or a report before.
     pub(crate) fn fault(&mut self, book: &mut Book<J>)
         requires room { book.old.total < 2097152 }
         ensures none { (self.old.faulted ≡ false) × (self.old.stopped ≡ false) }
@@ -258,7 +263,8 @@ impl<J: Naming> Session<J> {
         self.stopped = true;
     }
 
-    /// Counts once, here and in the book of all, that it reports a stopped table.
+    /// Counts that this session reports a stopped table, here and in the book. A further report
+    /// changes nothing.
     pub(crate) fn stop(&mut self, book: &mut Book<J>)
         ensures value { self.new ≡ reports self.old self.old.faulted }
         ensures total { (book.new.total ≡ book.old.total) ⊎ (book.new.total ≡ book.old.total + 67108864) }
@@ -270,7 +276,8 @@ impl<J: Naming> Session<J> {
         self.stopped = true;
     }
 
-    /// Counts a query that was handed no copy.
+    /// Counts an impact query that got no snapshot, modulo 2 to the 64th. The book doesn't count
+    /// it.
     pub(crate) fn miss(&mut self)
         ensures value { self.new ≡ missed self.old }
     {

@@ -72,7 +72,8 @@ pub fn share<J: Naming, K: Sink, R: Wait>(
     }
 }
 
-/// Creates a new session for each part of the share, numbered from 0.
+/// Creates a new session for each part of the share, numbered from 0. If the table is stopped, the
+/// first session has its fault.
 #[tactic(auto, using(crate::proofs::Signing::none_new, crate::proofs::Signing::one_new_more))]
 fn sessions_of<J: Naming>(
     alloc: Global,
