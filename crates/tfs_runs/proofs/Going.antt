@@ -54,8 +54,8 @@ all_told opening last (w ∷ workers) (t ∷ told) (s ∷ served) few same each 
 -- A run has as many positions as its workers report changes as accepted.
 term_told : (opening : TableModel) (t : ReturnedRun) → IsReturnedRun opening t → length t.positions ≡ accepted_of t.served
 term_told opening t run =
-    let run = run.run in
-    ap length run.positions ∙ all_told opening.journal t.last.journal run.connections run.told t.served run.each.0 run.each.1 run.workers
+    let its = run.run in
+    ap length run.positions ∙ all_told opening.journal t.last.journal its.connections run.told t.served its.each.0 its.each.1 its.workers
 
 -- It has a position more for each of them.
 term_grows : (opening : TableModel) (t : ReturnedRun) → IsReturnedRun opening t
