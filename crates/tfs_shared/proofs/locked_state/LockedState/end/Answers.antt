@@ -5,7 +5,7 @@ use Rattle.tfs_shared.proofs.locked_state.LockedState.end.Goals as goal
 use Rattle.tfs_shared.proofs.locked_state.LockedState.end.Goals.{in-Some, in_default}
 
 pub returns-clause-counted : goal.returns-clause-counted
-returns-clause-counted g c = elim c.match-merged.branch [
+returns-clause-counted g c = elim c.match-merge_shares.branch [
   | in-Some w ↦
       let counted = all_counted c.args.sessions.items _ _ _ _ w.in-Some.ensures.parts w.in-Some.ensures.apart c.requires.all c.requires.some.1
       w.audit.ensures.whole w.in-Some.ensures.amount w.in-Some.ensures.few in
@@ -14,7 +14,7 @@ returns-clause-counted g c = elim c.match-merged.branch [
 ]
 
 pub returns-clause-faulted : goal.returns-clause-faulted
-returns-clause-faulted g c = elim c.match-merged.branch [
+returns-clause-faulted g c = elim c.match-merge_shares.branch [
   | in-Some w ↦
       let counted = all_counted c.args.sessions.items _ _ _ _ w.in-Some.ensures.parts w.in-Some.ensures.apart c.requires.all c.requires.some.1
       w.audit.ensures.whole w.in-Some.ensures.amount w.in-Some.ensures.few in
@@ -23,7 +23,7 @@ returns-clause-faulted g c = elim c.match-merged.branch [
 ]
 
 pub returns-clause-stopped : goal.returns-clause-stopped
-returns-clause-stopped g c k d within is = elim c.match-merged.branch [
+returns-clause-stopped g c k d within is = elim c.match-merge_shares.branch [
   | in-Some w ↦
       let counted = all_counted c.args.sessions.items _ _ _ _ w.in-Some.ensures.parts w.in-Some.ensures.apart c.requires.all c.requires.some.1
       w.audit.ensures.whole w.in-Some.ensures.amount w.in-Some.ensures.few in
