@@ -217,7 +217,7 @@ def test_a_journal_that_cant_be_read_stops_the_start(files, make):
     ({"n3": SHORT, "n4": b"TFJ2\n" + started(0, SHORT + PUSH2)[5:]}, "a later one is missing between"),
     ({"n3": NEWEST, "n4": EMPTY}, "an empty one"), ({"n3": SHORT, "n4": EMPTY + PUSH1}, "the same in format 1"),
     ({"n3": NEWEST, "n4": NEWEST}, "the same bytes")])
-def test_histories_that_parted_stop_the_start(files, about):
+def test_diverged_histories_stop_the_start(files, about):
     """A continued number 3 when B had already continued from it, or another history has the later
     number."""
     errors = refused(fresh(**files), "Diverged", about)

@@ -16,7 +16,7 @@ FIGURES = TOP / "out" / "bench-figures"
 ORDER = (
     "serve",
     "folders",
-    "terms",
+    "compactions",
     "reports",
     "memory",
     "shared",

@@ -14,7 +14,7 @@ from repository import TOP
 REPORTS = TOP / "out" / "junit"
 BAD = {"failure", "error", "skipped"}
 # The files that take longest, because their tests wait for time to pass.
-LONGEST = ("test_limits", "test_terms", "test_serve", "test_kills")
+LONGEST = ("test_limits", "test_compactions", "test_serve", "test_kills")
 
 
 def files():

@@ -56,7 +56,7 @@ def work(server, pushers, count):
     return max(tries)
 
 
-def test_many_terms_in_a_row_lose_nothing():
+def test_many_compactions_in_a_row_lose_nothing():
     folder, least = fresh(), fresh() / "least"
     least.write_text("0")
     server = serving(folder, "--compact-entries", str(CHANGES), "--at-least-file", least, workers="8")
@@ -154,7 +154,7 @@ def limit(server, size):
     resource.prlimit(server.process.pid, resource.RLIMIT_FSIZE, (most if size is None else size, most))
 
 
-def failed_turn(*words):
+def failed_compaction(*words):
     """Returns a server whose first compaction failed, because its files can't grow, and that
     continues, and its client."""
     def ignore():
@@ -178,14 +178,14 @@ def failed_turn(*words):
 def failed(tfstatectl):
     """Yields a server whose compaction failed before the first test began; its minute passes
     meanwhile."""
-    made = failed_turn()
+    made = failed_compaction()
     STARTED.clear()
     yield made
     made[1].process.kill()
 
 
 def test_a_turn_that_fails_goes_on_with_the_old_journal():
-    folder, server, pusher, _ = failed_turn()
+    folder, server, pusher, _ = failed_compaction()
     time.sleep(1.5)
     pusher.push()
     expect(server.kill(), "", "there is no other try at once")
@@ -232,7 +232,7 @@ def killed_at(turn):
     return len(journals(folder / "old"))
 
 
-def test_a_kill_at_each_call_of_turns_loses_nothing():
+def test_a_kill_at_each_call_of_compactions_loses_nothing():
     count = fresh() / "count"
     serving(fresh(), env={**os.environ, "LD_PRELOAD": SHIM, "TURN": "0", "COUNT": str(count)}).kill()
     first = len(count.read_bytes())
