@@ -5,15 +5,15 @@ INTRODUCTION = """# Performance
 
 One run of `make bench`: {where}. Times vary twofold between machines.
 
-A ratio says how many times as fast tfstated is as what it is compared with: above 1 it is faster. A
-figure is the middle one of three rounds or more, in which what is compared takes turns."""
+A ratio says by what factor tfstated is faster: below 1 it is slower. A figure is the median of at
+least three rounds, in which the compared subjects take turns."""
 PEERS = """nginx serves files and WebDAV's PUT, and syncs nothing. The responder is a C program that
 answers fixed bytes. The bare work is two MD5s of a state, a scan of its JSON, an append, its sync,
 and the responder's time. PostgreSQL changes a row for each name under an advisory lock, and syncs.
 Journals are on disk."""
-ARENAS = """The C library keeps an arena of memory for each worker, and an arena keeps what was
-freed in it. With `MALLOC_ARENA_MAX=1` in the server's environment there is one for all, for which
-large pushes wait."""
+ARENAS = """The C library gives each worker a memory arena, and an arena keeps its freed memory.
+With `MALLOC_ARENA_MAX=1` in the server's environment all workers share one, and large
+pushes wait for one another."""
 REPEAT = """## How to repeat it
 
 ```sh
@@ -23,8 +23,8 @@ make bench BENCH=serve
 
 The first prints this page, and what each part measures on standard error. The second prints what
 one part measures. Each part proves and builds its program first: run it twice. PostgreSQL and
-valgrind are left out if they aren't installed. It needs nginx, 30 GB on the disk, and a machine that
-does nothing else."""
+valgrind are left out if they aren't installed. `make bench` needs nginx, 30 GB of disk space, and a
+machine that does nothing else."""
 # Each table: its heading, the text before it, and the titles of its columns.
 TABLES = {
     "rates": ("Requests a second", "", ("What", "1 connection", "4", "16", "Times as fast as")),
@@ -32,7 +32,7 @@ TABLES = {
     "ratios": ("Calls", "", ("What", "Compared with", "Times as fast")),
     "waits": (
         "What good clients wait because of bad ones",
-        "Bad clients come back once they are disconnected.",
+        "Bad clients reconnect once they are disconnected.",
         ("Bad clients", "At a time", "Longest wait of 20 good ones", "With nginx"),
     ),
 }
