@@ -11,35 +11,35 @@ use Rattle.tfs_addr.specs.Steps.{HasNeither, MayBeginWith}
 use Rattle.tfs_addr.proofs.ByteLemmas.{HasNeither-from_places}
 
 module _ (a b : ℕ) (small_a : a < 128) (small_b : b < 128) where
-  -- The search for the byte of either.
+  -- The result of searching the bytes for either character.
   abbrev pub FindsEither : List ℕ → Option ℕ → Type 0
   FindsEither bs r = IsFirstByte (is_byte2 a b) bs r
 
-  -- No byte is one of the two.
+  -- No byte is either character.
   abbrev NoByte : List ℕ → Type 0
   NoByte bs = (k : ℕ) → k < length bs → is_byte2 a b (get_or bs k 0) ≡ true → ⊥
 
-  -- The first character is not one whose byte would be found.
+  -- If no byte is either character, the first character isn't.
   no_byte-head : (c : ℕ) (bs : List ℕ) (m : ℕ) → NoByte (encode_utf8 c ++ bs) → m < 128 → is_byte2 a b m ≡ true → c ≢ m
   no_byte-head c bs m none small test e =
       let front : encode_utf8 c ++ bs ≡ m ∷ bs = ap (λ (x : ℕ). encode_utf8 x ++ bs) e ∙ ap (λ (t : List ℕ). t ++ bs) (encode_ascii m small) in
       let free = rw front at none in
       free 0 (omega arith) test
 
-  -- Nor is a byte found in what follows.
+  -- If no byte is either character, none of the later bytes is.
   no_byte-tail : (front bs : List ℕ) → NoByte (front ++ bs) → NoByte bs
   no_byte-tail front bs none k low test =
       none (length front + k) (omega (arith, length-append front bs)) (rw get_or-append-add test)
 
-  -- The test passes at the first of the two.
+  -- The test is true for the first of the two.
   is_a : is_byte2 a b a ≡ true
   is_a = or_left (eqb a a) (eqb a b) ((Decides-eqb a a).1 refl)
 
-  -- And at the second.
+  -- The test is true for the second of the two.
   is_b : is_byte2 a b b ≡ true
   is_b = or_right (eqb b a) (eqb b b) ((Decides-eqb b b).1 refl)
 
-  -- Characters whose bytes have neither have neither.
+  -- If no byte of the characters is either of the two, no character is.
   neither-bytes : (cs : List ℕ) → NoByte (encode_utf8_all cs) → HasNeither a b cs
   neither-bytes [] none = tt
   neither-bytes (c ∷ cs) none = (
@@ -47,11 +47,11 @@ module _ (a b : ℕ) (small_a : a < 128) (small_b : b < 128) where
     neither-bytes cs (no_byte-tail (encode_utf8 c) (encode_utf8_all cs) none),
   )
 
-  -- The same of a text.
+  -- If no byte of a text is either of the two, no character is.
   neither-text : (bs : List ℕ) → IsUtf8 bs → NoByte bs → HasNeither a b (chars bs)
   neither-text bs u none = neither-bytes (chars bs) (rw (encodes-chars bs u) none)
 
-  -- A byte that passes is one of the two.
+  -- A byte for which the test is true is one of the two.
   either_is : (c : ℕ) → is_byte2 a b c ≡ true → (c ≡ a) ⊎ (c ≡ b)
   either_is c h =
       elim (or_cases (eqb c a) (eqb c b) h) [
@@ -59,59 +59,59 @@ module _ (a b : ℕ) (small_a : a < 128) (small_b : b < 128) where
         | inr e ↦ inr ((Decides-eqb c b).0 e)
       ]
 
-  -- Which are ASCII.
+  -- A byte for which the test is true is ASCII.
   either_small : (c : ℕ) → is_byte2 a b c ≡ true → c < 128
   either_small c h = elim (either_is c h) [ inl e ↦ omega arith | inr e ↦ omega arith ]
 
-  -- The text may be cut there.
+  -- The position that the search finds is a character boundary.
   pub either-boundary : (bs : List ℕ) (r : Option ℕ) → IsUtf8 bs → FindsEither bs r → IsCharBoundary bs (unwrap_or r (length bs))
   either-boundary bs None u h = IsCharBoundary-end bs
   either-boundary bs (Some k) u h = IsCharBoundary-before_ascii bs k h.0.high (either_small (get_or bs k 0) h.1)
 
-  -- Before the place that was found no byte passes.
+  -- The test is false for each byte before that position.
   front_free : (bs : List ℕ) (r : Option ℕ) → FindsEither bs r → (k : ℕ) → k < unwrap_or r (length bs)
       → is_byte2 a b (get_or bs k 0) ≡ true → ⊥
   front_free bs None h k low = h k (omega arith) low
   front_free bs (Some n) h k low = h.0.before k (omega arith) low
 
-  -- So the front has none.
+  -- No byte before that position is either character.
   front-no_byte : (bs : List ℕ) (r : Option ℕ) → FindsEither bs r → NoByte (take (unwrap_or r (length bs)) bs)
   front-no_byte bs r h k low test =
       let n = unwrap_or r (length bs) in
       let inside : k < n = omega (arith, length-take n bs) in
       front_free bs r h k inside (rw (get_or-take n bs k 0 inside) at test)
 
-  -- Nor is either among its bytes.
+  -- The bytes before that position contain neither character.
   pub either-front_bytes : (bs : List ℕ) (r : Option ℕ) → FindsEither bs r → HasNeither a b (take (unwrap_or r (length bs)) bs)
   either-front_bytes bs r h =
       HasNeither-from_places a b (take (unwrap_or r (length bs)) bs)
       (λ k low. (λ e. front-no_byte bs r h k low (rw e is_a), λ e. front-no_byte bs r h k low (rw e is_b)))
 
-  -- Both parts are texts.
+  -- The bytes before that position are UTF-8, and so are the bytes from it on.
   pub either-texts : (bs : List ℕ) (r : Option ℕ) → IsUtf8 bs → FindsEither bs r
       → IsUtf8 (take (unwrap_or r (length bs)) bs) × IsUtf8 (drop (unwrap_or r (length bs)) bs)
   either-texts bs r u h =
       let n = unwrap_or r (length bs) in
       (IsUtf8-take bs n u (either-boundary bs r u h), IsUtf8-drop bs n u (either-boundary bs r u h))
 
-  -- The front has neither character.
+  -- The characters before that position contain neither of the two.
   pub either-front : (bs : List ℕ) (r : Option ℕ) → IsUtf8 bs → FindsEither bs r → HasNeither a b (chars (take (unwrap_or r (length bs)) bs))
   either-front bs r u h =
       neither-text (take (unwrap_or r (length bs)) bs) (either-texts bs r u h).0 (front-no_byte bs r h)
 
-  -- A text whose first byte passes begins with one of the two.
+  -- A text whose first byte is one of the two begins with that character.
   either-head : (bs rest : List ℕ) (c : ℕ) → IsUtf8 bs → bs ≡ c ∷ rest → is_byte2 a b c ≡ true → MayBeginWith a b (chars bs)
   either-head bs rest c u e test =
       let front : bs ≡ encode_utf8 c ++ rest = e ∙ ap (λ (t : List ℕ). t ++ rest) (sym (encode_ascii c (either_small c test))) in
       rw (chars_past_char bs rest c u front) (either_is c test)
 
-  -- What follows the front is empty or begins with one of the two.
+  -- The characters from that position on are none, or begin with one of the two.
   pub either-back : (bs : List ℕ) (r : Option ℕ) → IsUtf8 bs → FindsEither bs r → MayBeginWith a b (chars (drop (unwrap_or r (length bs)) bs))
   either-back bs None u h = rw (drop_all (length bs) bs (omega arith), chars-nil) tt
   either-back bs (Some k) u h =
       either-head (drop k bs) (drop (k + 1) bs) (get_or bs k 0) (either-texts bs (Some k) u h).1 (drop_more bs k 0 h.0.high) h.1
 
-  -- The two parts have the characters of the text.
+  -- The characters before that position and those from it on are the characters of the text.
   pub either-whole : (bs : List ℕ) (r : Option ℕ) → IsUtf8 bs → FindsEither bs r
       → chars bs ≡ chars (take (unwrap_or r (length bs)) bs) ++ chars (drop (unwrap_or r (length bs)) bs)
   either-whole bs r u h =

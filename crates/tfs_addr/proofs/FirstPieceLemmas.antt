@@ -1,4 +1,5 @@
--- The piece at the front of a list of characters: what `first_piece` gives stands there, and a piece that stands there is what it gives.
+-- The first piece of a list of characters: what `first_piece` returns is at the front, and a piece
+-- at the front is what it returns.
 use Rattle.std.proofs.Common.{◌≡◌, ◌≢◌, ℕ, suc, ◌+◌, ◌<◌, true, false, eqb, List, [], ◌∷◌, ◌++◌, length, take, drop, Option, Some, None, refl, sym, ap, ◌∙◌, inl, inr, arith, append_assoc, length-take-le}
 use Rattle.std.specs.Option.{option_and_then, MatchOption}
 use Rattle.std.specs.Prelude.{flat_map, ⊤}
@@ -11,11 +12,11 @@ use Rattle.std.proofs.lemmas.Bool.{cases_Bool, cases_eq}
 use Rattle.std.proofs.lemmas.Bool.Decides.{nat_tests}
 use Rattle.tfs_addr.specs.Address.{opening, closing, quote, backslash, KeyUnit, plain, escaped, Piece, character, number_key, text_key, print_unit, print_piece, IsUnit, IsPiece, close_key, first_digits, put_unit, first_units, first_key, first_piece}
 
--- A test that fails.
+-- The test for equal numbers is false for different ones.
 differs : (a b : ℕ) → a ≢ b → eqb a b ≡ false
 differs a b ne = grind (arith, nat_tests)
 
--- ---- units
+-- ---- Units.
 
 -- A quote ends the units.
 pub first_units-quote : (cs : List ℕ) → first_units (quote ∷ cs) ≡ Some ([], cs)
@@ -23,18 +24,18 @@ unfolding first_units
 first_units-quote [] = refl
 first_units-quote (d ∷ cs) = refl
 
--- A character that is no quote and no backslash is a unit.
+-- A character other than a quote and a backslash is a unit.
 pub first_units-plain : (c : ℕ) (cs : List ℕ) → c ≢ quote → c ≢ backslash → first_units (c ∷ cs) ≡ put_unit (plain c) (first_units cs)
 unfolding first_units
 first_units-plain c [] q b = rw (differs c quote q) refl
 first_units-plain c (d ∷ cs) q b = rw (differs c quote q, differs c backslash b) refl
 
--- A backslash makes the next character a unit.
+-- A backslash and the character after it are a unit.
 pub first_units-escaped : (c : ℕ) (cs : List ℕ) → first_units (backslash ∷ c ∷ cs) ≡ put_unit (escaped c) (first_units cs)
 unfolding first_units
 first_units-escaped c cs = refl
 
--- Units and a quote are read as they stand.
+-- Units are read from their printed form and a quote.
 pub first_units-print : (units : List KeyUnit) (rest : List ℕ) → AllByRecursion IsUnit units
     → first_units (flat_map print_unit units ++ quote ∷ rest) ≡ Some (units, rest)
 first_units-print [] rest h = first_units-quote rest
@@ -45,15 +46,15 @@ first_units-print (escaped c ∷ units) rest h =
     first_units-escaped c (flat_map print_unit units ++ quote ∷ rest)
     ∙ ap (put_unit (escaped c)) (first_units-print units rest h.1)
 
--- What was read is the units and the quote at the front of cs.
+-- The units and a quote are at the front of cs, and the rest follows.
 abbrev pub HasUnits : List ℕ → List KeyUnit × List ℕ → Type 0
 HasUnits cs r = AllByRecursion IsUnit r.0 × (cs ≡ flat_map print_unit r.0 ++ quote ∷ r.1)
 
--- If there are units, they stand at the front.
+-- The units that were read, if any, are at the front of cs.
 abbrev UnitsAre : List ℕ → Option (List KeyUnit × List ℕ) → Type 0
 UnitsAre cs o = MatchOption o ⊤ (HasUnits cs)
 
--- One unit more stands before them.
+-- One more unit in front of the units that were read.
 UnitsAre-put : (unit : KeyUnit) (cs : List ℕ) (o : Option (List KeyUnit × List ℕ)) → IsUnit unit → UnitsAre cs o
     → UnitsAre (print_unit unit ++ cs) (put_unit unit o)
 UnitsAre-put unit cs None u h = tt
@@ -63,17 +64,17 @@ UnitsAre-put unit cs (Some r) u h = (
       ∙ sym (append_assoc (print_unit unit) (flat_map print_unit r.0) (quote ∷ r.1)),
 )
 
--- One character ends units only if it is the quote.
+-- A single character other than a quote doesn't end the units.
 pub first_units-one : (c : ℕ) → c ≢ quote → first_units (c ∷ []) ≡ None
 unfolding first_units
 first_units-one c q = rw (differs c quote q) refl
 
--- No character ends none.
+-- No units are read from the empty list.
 pub first_units-nil : first_units [] ≡ None
 unfolding first_units
 first_units-nil = refl
 
--- Units that were read stand at the front.
+-- The units that are read are at the front.
 pub first_units-reads : (cs : List ℕ) → UnitsAre cs (first_units cs)
 first_units-reads [] = rw first_units-nil tt
 first_units-reads (c ∷ []) =
@@ -90,17 +91,17 @@ first_units-reads (c ∷ d ∷ cs) =
       ]
     ]
 
--- ---- keys
+-- ---- Keys.
 
--- What was read is the key at the front of cs, after its opening bracket.
+-- The key is at the front of cs, which begins after its opening bracket, and the rest follows.
 abbrev pub HasKey : List ℕ → Piece × List ℕ → Type 0
 HasKey cs r = IsPiece r.0 × (opening ∷ cs ≡ print_piece r.0 ++ r.1)
 
--- If there is a key, it stands at the front.
+-- The key that was read, if any, is at the front of cs.
 abbrev KeyIs : List ℕ → Option (Piece × List ℕ) → Type 0
 KeyIs cs o = MatchOption o ⊤ (HasKey cs)
 
--- The bracket is there, and the key is closed by it.
+-- A key that is closed is followed by its bracket.
 close_key-reads : (key : Piece) (cs : List ℕ) → MatchOption (close_key key cs) ⊤ (λ r. (r.0 ≡ key) × (cs ≡ closing ∷ r.1))
 close_key-reads key [] = tt
 close_key-reads key (c ∷ cs) =
@@ -109,7 +110,8 @@ close_key-reads key (c ∷ cs) =
       | inr ne ↦ rw (differs c closing ne) tt
     ]
 
--- A front and its bracket are the key that they print.
+-- If a key's printed form is a bracket, a front and a bracket, closing the key after the front
+-- gives that key.
 KeyIs-close : (front cs : List ℕ) (key : Piece) (o : Option (Piece × List ℕ)) → IsPiece key
     → print_piece key ≡ opening ∷ (front ++ closing ∷ [])
     → MatchOption o ⊤ (λ r. (r.0 ≡ key) × (cs ≡ closing ∷ r.1)) → KeyIs (front ++ cs) o
@@ -119,11 +121,11 @@ KeyIs-close front cs key (Some r) valid printed h = rw h.0 (
   rw (printed, h.1) (ap (λ (t : List ℕ). opening ∷ t) (sym (append_assoc front (closing ∷ []) r.1))),
 )
 
--- Each character is a digit.
+-- All characters are digits.
 abbrev AllDigits : List ℕ → Type 0
 AllDigits cs = AllByRecursion (λ c. is_ascii_digit c ≡ true) cs
 
--- The digits in front are digits.
+-- The digits at the beginning are digits.
 take-digits : (cs : List ℕ) → AllDigits (take (prefix_len is_ascii_digit cs) cs)
 take-digits [] = tt
 take-digits (c ∷ cs) =
@@ -134,18 +136,18 @@ take-digits (c ∷ cs) =
       | inr e ↦ rw e tt
     ]
 
--- They end at a closing bracket.
+-- Digits before a closing bracket end at the bracket.
 prefix_len-digits : (digits rest : List ℕ) → AllDigits digits
     → prefix_len is_ascii_digit (digits ++ closing ∷ rest) ≡ length digits
 prefix_len-digits [] rest h = refl
 prefix_len-digits (c ∷ digits) rest h = rw (h.0, prefix_len-digits digits rest h.1) (omega arith)
 
--- No digit in front: none are read.
+-- If no digit is at the beginning, none are read.
 first_digits-none : (cs : List ℕ) → prefix_len is_ascii_digit cs ≡ 0 → first_digits cs ≡ None
 unfolding first_digits
 first_digits-none cs e = rw e refl
 
--- Else all of them are read.
+-- If digits are at the beginning, all of them are read.
 first_digits-some : (cs : List ℕ) → prefix_len is_ascii_digit cs ≢ 0 → first_digits cs
     ≡ Some (take (prefix_len is_ascii_digit cs) cs, drop (prefix_len is_ascii_digit cs) cs)
 unfolding first_digits
@@ -155,7 +157,7 @@ first_digits-some cs ne = rw (differs (prefix_len is_ascii_digit cs) 0 ne) refl
 abbrev close_number : Option (List ℕ × List ℕ) → Option (Piece × List ℕ)
 close_number o = option_and_then (λ r. close_key (number_key r.0) r.1) o
 
--- A key of digits that was read stands at the front.
+-- A key of digits that is read is at the front.
 KeyIs-number : (cs : List ℕ) → KeyIs cs (close_number (first_digits cs))
 KeyIs-number cs =
     let n = prefix_len is_ascii_digit cs in
@@ -168,7 +170,7 @@ KeyIs-number cs =
           rw (first_digits-some cs ne) (rw (take-append-drop n cs) at whole)
     ]
 
--- Digits and a bracket are read as they stand.
+-- Digits are read from their printed form and a closing bracket.
 first_digits-print : (digits rest : List ℕ) → 0 < length digits → AllDigits digits
     → first_digits (digits ++ closing ∷ rest) ≡ Some (digits, closing ∷ rest)
 first_digits-print digits rest some h =
@@ -176,15 +178,15 @@ first_digits-print digits rest some h =
     let ne : prefix_len is_ascii_digit (digits ++ closing ∷ rest) ≢ 0 = omega (arith, n) in
     rw (first_digits-some (digits ++ closing ∷ rest) ne, n, take-append_seam digits (closing ∷ rest), drop-append_seam digits (closing ∷ rest)) refl
 
--- A digit begins no text.
+-- A digit isn't a quote.
 digit_is_no_quote : (c : ℕ) → is_ascii_digit c ≡ true → c ≢ quote
 digit_is_no_quote c h = grind (arith, nat_tests)
 
--- A key that begins with no quote is read as digits.
+-- A key that doesn't begin with a quote is read as digits.
 first_key-digits : (c : ℕ) (cs : List ℕ) → c ≢ quote → first_key (c ∷ cs) ≡ close_number (first_digits (c ∷ cs))
 first_key-digits c cs ne = rw (differs c quote ne) refl
 
--- A key of digits is read as it stands.
+-- A key of digits is read from its printed form.
 first_key-number : (digits rest : List ℕ) → 0 < length digits → AllDigits digits
     → first_key (digits ++ closing ∷ rest) ≡ Some (number_key digits, rest)
 first_key-number [] rest some h = absurd (omega arith)
@@ -196,12 +198,12 @@ first_key-number (c ∷ digits) rest some h =
 abbrev close_text : Option (List KeyUnit × List ℕ) → Option (Piece × List ℕ)
 close_text o = option_and_then (λ r. close_key (text_key r.0) r.1) o
 
--- A key of units is read as it stands.
+-- A key of units is read from its printed form.
 first_key-text : (units : List KeyUnit) (rest : List ℕ) → AllByRecursion IsUnit units
     → first_key (quote ∷ (flat_map print_unit units ++ quote ∷ closing ∷ rest)) ≡ Some (text_key units, rest)
 first_key-text units rest h = ap close_text (first_units-print units (closing ∷ rest) h)
 
--- A key of units that was read stands at the front.
+-- A key of units that is read is at the front.
 KeyIs-text : (cs : List ℕ) (o : Option (List KeyUnit × List ℕ)) → UnitsAre cs o → KeyIs (quote ∷ cs) (close_text o)
 KeyIs-text cs None h = tt
 KeyIs-text cs (Some r) h =
@@ -214,7 +216,7 @@ KeyIs-text cs (Some r) h =
     ap (λ (t : List ℕ). quote ∷ t) (append_assoc (flat_map print_unit r.0) (quote ∷ []) r.1 ∙ sym h.1) in
     rw joined at whole
 
--- A key that was read stands at the front.
+-- A key that is read is at the front.
 pub first_key-reads : (cs : List ℕ) → KeyIs cs (first_key cs)
 first_key-reads [] = tt
 first_key-reads (c ∷ cs) =
@@ -223,9 +225,9 @@ first_key-reads (c ∷ cs) =
       | inr ne ↦ rw (first_key-digits c cs ne) (KeyIs-number (c ∷ cs))
     ]
 
--- ---- pieces
+-- ---- Pieces.
 
--- An empty text begins with no piece.
+-- No piece is read from the empty list.
 pub first_piece-nil : first_piece [] ≡ None
 unfolding first_piece
 first_piece-nil = refl
@@ -235,7 +237,7 @@ pub first_piece-opening : (cs : List ℕ) → first_piece (opening ∷ cs) ≡ f
 unfolding first_piece
 first_piece-opening cs = refl
 
--- A closing bracket begins nothing.
+-- A closing bracket begins no piece.
 pub first_piece-closing : (cs : List ℕ) → first_piece (closing ∷ cs) ≡ None
 unfolding first_piece
 first_piece-closing cs = refl
@@ -245,7 +247,7 @@ pub first_piece-character : (c : ℕ) (cs : List ℕ) → c ≢ opening → c �
 unfolding first_piece
 first_piece-character c cs o e = rw (differs c opening o, differs c closing e) refl
 
--- A piece is read as it stands.
+-- A piece is read from its printed form.
 pub first_piece-print : (piece : Piece) (rest : List ℕ) → IsPiece piece → first_piece (print_piece piece ++ rest) ≡ Some (piece, rest)
 first_piece-print (character c) rest h = first_piece-character c rest h.0 h.1
 first_piece-print (number_key digits) rest h =
@@ -257,11 +259,11 @@ first_piece-print (text_key units) rest h =
     ∙ ap (λ (t : List ℕ). first_key (quote ∷ t)) (append_assoc (flat_map print_unit units) (quote ∷ closing ∷ []) rest)
     ∙ first_key-text units rest h
 
--- What was read is the piece at the front of cs.
+-- The piece is at the front of cs, and the rest follows.
 abbrev pub HasPiece : List ℕ → Piece × List ℕ → Type 0
 HasPiece cs r = IsPiece r.0 × (cs ≡ print_piece r.0 ++ r.1)
 
--- A piece that was read stands at the front.
+-- A piece that is read is at the front.
 pub first_piece-reads : (cs : List ℕ) → MatchOption (first_piece cs) ⊤ (HasPiece cs)
 first_piece-reads [] = rw first_piece-nil tt
 first_piece-reads (c ∷ cs) =

@@ -1,4 +1,4 @@
--- How the characters of a text are shown in JSON.
+-- The JSON form of the characters of a text.
 use Rattle.std.proofs.Common.{◌≡◌, ◌≢◌, ℕ, suc, ◌/◌, ◌%◌, ◌<◌, ◌≤◌, true, false, eqb, ltb, if◌then◌else◌, List, [], ◌∷◌, ◌++◌, length, get_or, Result, Ok, Err, inl, inr, refl, sym, ap, ◌∙◌, arith, append_assoc, append-nil}
 use Rattle.std.specs.Prelude.{encode_utf8}
 use Rattle.std.specs.Result.{is_ok, OnOk}
@@ -11,7 +11,7 @@ use Rattle.serde_json.specs.Written.{compact_text}
 use Rattle.serde_json.proofs.OnLiterals.{serde_json_on_literals}
 use Rattle.tfs_addr.specs.Steps.{after_quote, IsShown}
 
--- ---- bytes
+-- ---- Bytes.
 
 -- A quote has an escape of two characters.
 pub shown-quote : IsShown (34 ∷ []) (92 ∷ 34 ∷ [])
@@ -48,7 +48,7 @@ pub shown-tab : IsShown (9 ∷ []) (92 ∷ 116 ∷ [])
 unfolding serde_json_on_literals
 shown-tab rest = refl
 
--- Another byte below space has its code in four digits.
+-- Any other byte below 32 is shown as `\u` and its code in four hexadecimal digits.
 pub shown-code : (x : ℕ) → x < 32 → x ≢ 8 → x ≢ 12 → x ≢ 10 → x ≢ 13 → x ≢ 9
     → IsShown (x ∷ []) (92 ∷ 117 ∷ 48 ∷ 48 ∷ digit_char (x / 16) ∷ digit_char (x % 16) ∷ [])
 unfolding serde_json_on_literals
@@ -77,17 +77,17 @@ shown-plain x low q b rest =
     let no_control : ltb x 32 ≡ false = grind (arith, nat_tests) in
     rw (no_quote, no_backslash, no_backspace, no_feed, no_line, no_return, no_tab, no_control) refl
 
--- The end of a text is its quote.
+-- The JSON form of a text ends with a quote.
 pub shown-end : after_quote [] ≡ 34 ∷ []
 unfolding serde_json_on_literals
 shown-end = refl
 
--- A text begins with a quote.
+-- The JSON form of a text begins with a quote.
 pub shown-begin : (text : List ℕ) → 34 ∷ after_quote text ≡ compact_text (string text)
 unfolding serde_json_on_literals
 shown-begin text = refl
 
--- Bytes that are not ASCII are shown as themselves.
+-- Bytes that aren't ASCII are shown as themselves.
 shown-high : (xs : List ℕ) → ((k : ℕ) → k < length xs → 128 ≤ get_or xs k 0) → IsShown xs xs
 shown-high [] h rest = refl
 shown-high (x ∷ xs) h rest =
@@ -95,9 +95,9 @@ shown-high (x ∷ xs) h rest =
     shown-plain x (omega arith) (λ e. omega arith) (λ e. omega arith) (xs ++ rest)
     ∙ ap (λ (t : List ℕ). x ∷ t) (shown-high xs (λ k low. h (suc k) (omega arith)) rest)
 
--- ---- characters
+-- ---- Characters.
 
--- The bytes of another character than an ASCII one are none either.
+-- The bytes of a character that isn't ASCII aren't ASCII.
 byte_is_high : (c k : ℕ) → 128 ≤ c → k < length (encode_utf8 c) → 128 ≤ get_or (encode_utf8 c) k 0
 byte_is_high c k high low =
     elim (cases_lt (get_or (encode_utf8 c) k 0) 128) [
@@ -105,11 +105,11 @@ byte_is_high c k high low =
       | inr large ↦ large
     ]
 
--- An ASCII character is its byte.
+-- An ASCII character is shown as its byte.
 pub shown-ascii : (c m : ℕ) (shown : List ℕ) → c ≡ m → m < 128 → IsShown (m ∷ []) shown → IsShown (encode_utf8 c) shown
 shown-ascii c m shown e small h = rw (ap encode_utf8 e ∙ encode_ascii m small) h
 
--- A character that has no escape is shown as itself.
+-- A character without an escape is shown as itself.
 pub shown-itself : (c : ℕ) → 32 ≤ c → c ≢ 34 → c ≢ 92 → IsShown (encode_utf8 c) (encode_utf8 c)
 shown-itself c low q b =
     elim (cases_lt c 128) [
@@ -117,16 +117,17 @@ shown-itself c low q b =
       | inr high ↦ shown-high (encode_utf8 c) (λ k inside. byte_is_high c k high inside)
     ]
 
--- ---- what is written
+-- ---- Writing.
 
--- Where the shown bytes are written, what is left to write is what follows.
+-- If a call that succeeds appends the form of bytes, then the new text followed by the form of the
+-- rest is the old text followed by the form of both.
 pub shown-pushed : {T E : Type 0} (r : Result T E) (old new bytes shown : List ℕ) → new ≡ (if is_ok r then old ++ shown else old)
     → IsShown bytes shown → OnOk r ((rest : List ℕ) → new ++ after_quote rest ≡ old ++ after_quote (bytes ++ rest))
 shown-pushed (Ok x) old new bytes shown e h =
     λ rest. ap (λ (t : List ℕ). t ++ after_quote rest) e ∙ append_assoc old shown (after_quote rest) ∙ ap (λ (t : List ℕ). old ++ t) (sym (h rest))
 shown-pushed (Err x) old new bytes shown e h = tt
 
--- The same where the call says it of a success alone.
+-- The law above for a call that states its effect for success only.
 pub shown-appended : {T E : Type 0} (r : Result T E) (old new bytes shown : List ℕ) → OnOk r (new ≡ old ++ shown)
     → IsShown bytes shown → OnOk r ((rest : List ℕ) → new ++ after_quote rest ≡ old ++ after_quote (bytes ++ rest))
 shown-appended (Ok x) old new bytes shown e h =

@@ -1,4 +1,4 @@
--- Where a text stops, and that a text has one reading or one stop at most.
+-- The position at which a text stops; a text has at most one reading or one stop.
 use Rattle.std.proofs.Common.{◌≡◌, ℕ, ◌+◌, ◌≤◌, List, [], ◌∷◌, ◌++◌, length, refl, sym, ap, ◌∙◌, arith, append_assoc, append-nil, drop}
 use Rattle.std.specs.Prelude.{IsUtf8, chars, encode_utf8_all}
 use Rattle.std.specs.List.{AllByRecursion}
@@ -7,9 +7,9 @@ use Rattle.tfs_addr.specs.Address.{Piece, print_piece, print_pieces, IsPiece, Be
 use Rattle.std.proofs.Math.Seq.{drop-append_seam}
 use Rattle.tfs_addr.proofs.PieceLemmas.{print_piece-some, same_first, size-append, BeginsNoPiece-nil, AllByRecursion-append, print-one_more, HasRead}
 
--- ---- where a text stops
+-- ---- The position at which a text stops.
 
--- Of the same characters, no pieces are longer than those after which no piece begins.
+-- Pieces after which no piece begins are the longest sequence of pieces.
 pieces-longest : (ps qs : List Piece) (xs ys : List ℕ) → AllByRecursion IsPiece ps → AllByRecursion IsPiece qs → BeginsNoPiece xs
     → print_pieces ps ++ xs ≡ print_pieces qs ++ ys → length (encode_utf8_all (print_pieces qs)) ≤ length (encode_utf8_all (print_pieces ps))
 pieces-longest ps [] xs ys hp hq none e = omega arith
@@ -24,7 +24,7 @@ pieces-longest (p ∷ ps) (q ∷ qs) xs ys hp hq none e =
     ap (λ (r : Piece). length (encode_utf8_all (print_piece r))) same.0 in
     omega (arith, size-append (print_piece p) (print_pieces ps), size-append (print_piece q) (print_pieces qs))
 
--- Where no piece begins, the text stops.
+-- If no piece begins after some pieces, the text stops there.
 pub StopsBefore-from_pieces : (text more : List ℕ) (c : ℕ) (pieces : List Piece) → AllByRecursion IsPiece pieces
     → text ≡ encode_utf8_all (print_pieces pieces ++ c ∷ more) → BeginsNoPiece (c ∷ more) → StopsBefore text c
 StopsBefore-from_pieces text more c pieces valid e none = (
@@ -40,7 +40,7 @@ StopsBefore-from_pieces text more c pieces valid e none = (
   },
 )
 
--- The same of what has been read.
+-- If no piece begins after the part that has been read, the text stops there.
 pub StopsBefore-from_read : (text rest more bare : List ℕ) (c : ℕ) → IsUtf8 text → HasRead (chars text) rest bare
     → rest ≡ c ∷ more → BeginsNoPiece rest → StopsBefore text c
 StopsBefore-from_read text rest more bare c u h e none =
@@ -48,9 +48,10 @@ StopsBefore-from_read text rest more bare c u h e none =
     (sym (encodes-chars text u) ∙ ap encode_utf8_all (h.printed ∙ ap (λ (t : List ℕ). print_pieces h.pieces ++ t) e))
     (rw e at none)
 
--- ---- one reading, one stop
+-- ---- At most one reading or stop.
 
--- Two readings of one text go the same way, up to the first place where no piece begins.
+-- Two sequences of pieces at the front of the same characters are equal if no piece begins after
+-- either.
 pub pieces_agree : (ps qs : List Piece) (xs ys : List ℕ) → AllByRecursion IsPiece ps → AllByRecursion IsPiece qs
     → BeginsNoPiece xs → BeginsNoPiece ys → print_pieces ps ++ xs ≡ print_pieces qs ++ ys → (ps ≡ qs) × (xs ≡ ys)
 pieces_agree [] [] xs ys hp hq nx ny e = (refl, e)
@@ -65,14 +66,14 @@ pieces_agree (p ∷ ps) (q ∷ qs) xs ys hp hq nx ny e =
     let rest = pieces_agree ps qs xs ys hp.1 hq.1 nx ny same.1 in
     (cc, rest.1)
 
--- A text has one reading at most.
+-- A text has at most one reading.
 pub reading_is_unique : (text : List ℕ) (first second : List Piece) → ReadsPieces text first → ReadsPieces text second → first ≡ second
 reading_is_unique text first second f s =
     let same = encodes_same (print_pieces first) (print_pieces second) (sym f.printed ∙ s.printed) in
     let ended = append-nil (print_pieces first) ∙ same ∙ sym (append-nil (print_pieces second)) in
     (pieces_agree first second [] [] f.valid s.valid BeginsNoPiece-nil BeginsNoPiece-nil ended).0
 
--- A text that stops has none: it would be a longer sequence of pieces.
+-- A text that stops has no reading, because a reading would be a longer sequence of pieces.
 pub stop_has_no_reading : (text : List ℕ) (c at : ℕ) → StopsAt text c at → HasNoReading text
 stop_has_no_reading text c at h pieces r =
     let whole : BeginsWithPieces text (length (encode_utf8_all (print_pieces pieces))) [] = record {
@@ -87,13 +88,13 @@ stop_has_no_reading text c at h pieces r =
     ∙ ap (λ n. n + length (encode_utf8_all (c ∷ h.rest))) (sym h.begins.bytes) in
     absurd (omega (arith, length-le-encodes (c ∷ h.rest)))
 
--- What follows pieces of a text.
+-- The bytes after pieces of a given size are those of the characters after the pieces.
 after-pieces : (text : List ℕ) (size : ℕ) (rest : List ℕ) → BeginsWithPieces text size rest → drop size text ≡ encode_utf8_all rest
 after-pieces text size rest h =
     ap (λ n. drop n text) h.bytes ∙ ap (drop (length (encode_utf8_all (print_pieces h.pieces)))) (h.printed ∙ encodes-append (print_pieces h.pieces) rest)
     ∙ drop-append_seam (encode_utf8_all (print_pieces h.pieces)) (encode_utf8_all rest)
 
--- It stops at one character, at one place.
+-- A text stops at one position at most, before one character.
 pub stop_is_unique : (text : List ℕ) (c at d n : ℕ) → StopsAt text c at → StopsAt text d n → (c ≡ d) × (at ≡ n)
 stop_is_unique text c at d n h k =
     let low = h.longest n (d ∷ k.rest) k.begins in
@@ -103,7 +104,7 @@ stop_is_unique text c at d n h k =
     sym (after-pieces text at (c ∷ h.rest) h.begins) ∙ ap (λ m. drop m text) same ∙ after-pieces text n (d ∷ k.rest) k.begins in
     (cc (encodes_same (c ∷ h.rest) (d ∷ k.rest) bytes), same)
 
--- A piece more makes a longer sequence.
+-- No piece begins where a text stops, because one more piece would make a longer sequence.
 pub stop_begins_no_piece : (text : List ℕ) (c at : ℕ) (h : StopsAt text c at) → BeginsNoPiece (c ∷ h.rest)
 stop_begins_no_piece text c at h piece more valid e =
     let pieces = h.begins.pieces in

@@ -1,4 +1,4 @@
--- The model's answer tells neither of want of memory nor of a fault of the sink.
+-- The model's answer is never a refusal for lack of memory or because of the sink.
 use Rattle.std.proofs.Common.{◌≢◌, ℕ, Bool, true, false, nat_lt, nat_le, cond, List, [], ◌∷◌, length, Option, Some, None, IfSome, refl}
 use Rattle.std.specs.Option.{option_or, option_map_or}
 use Rattle.std.specs.Prelude.{option_map, not}
@@ -33,13 +33,13 @@ use Rattle.tfs_calls.specs.declared.call.Raw.{Raw}
 use Rattle.tfs_calls.specs.declared.call.Raw.TheVariants.{Lock, Unlock, Push, Delete}
 use Rattle.tfs_calls.specs.declared.query.Query.{Query}
 
--- The refusal is neither.
+-- The refusal is neither `out_of_memory` nor `journal_fault`.
 abbrev pub IsOfTheModel : RefusalValue → Type 0
 IsOfTheModel refusal = (refusal ≢ out_of_memory) × (refusal ≢ journal_fault)
 
--- ---- queries and acts
+-- ---- Queries and acts.
 
--- The refusal of a query is.
+-- The refusal of a query, if there is one, is neither of the two.
 query_refusals : (d : Document) (query : Query) → IfSome (query_refusal d query) IsOfTheModel
 unfolding query_fault
 query_refusals d query = by query.texts
@@ -54,7 +54,7 @@ query_refusals d query = by query.texts
     by [] = (λ e. cc, λ e. cc)
     by (text ∷ texts) = few (nat_lt 64 (length (text ∷ texts))) _
 
--- The refusal of an act is.
+-- The refusal of an act, if there is one, is neither of the two.
 act_refusals : (m : TableModel) (name : List ℕ) (act : ActValue) → IfSome (act_refusal m name act) IsOfTheModel
 act_refusals m name act = by m.stopped (verdict_refusal (acts_of name m.journal) act) (limit_refusal m.journal name)
     (by_verdict (verdict_of (acts_of name m.journal) act))
@@ -83,17 +83,17 @@ act_refusals m name act = by m.stopped (verdict_refusal (acts_of name m.journal)
     by false None p of also = also
     by false (Some refusal) p of also = of
 
--- A reply with such a refusal, or with none.
+-- An answer that is such a refusal, or a reply that is no refusal, is neither of the two.
 reply_told : (o : Option RefusalValue) (reply : ReplyValue) → IfSome o IsOfTheModel → ((r : RefusalValue) → reply ≢ refused r)
     → (option_map_or refused o reply ≢ refused out_of_memory) × (option_map_or refused o reply ≢ refused journal_fault)
 reply_told None reply of answers = (answers out_of_memory, answers journal_fault)
 reply_told (Some r) reply of answers = (λ e. of.0 (cc), λ e. of.1 (cc))
 
--- ---- texts
+-- ---- Texts.
 
 module _ (of_state : (bytes : List ℕ) → first_state_fault bytes ≢ Some state_fault.NoMemory)
     (of_lock : (bytes : List ℕ) → first_lock_fault bytes ≢ Some lock_fault.NoMemory) where
-  -- The refusal of a state's text is of the model.
+  -- The refusal of a state's text is neither of the two.
   state_texts : (body : List ℕ) → IsOfTheModel (state_text_refusal body)
   state_texts body = by (first_state_fault body) (of_state body)
     where
@@ -105,7 +105,7 @@ module _ (of_state : (bytes : List ℕ) → first_state_fault bytes ≢ Some sta
       by None of = (λ e. cc, λ e. cc)
       by (Some fault) of = told fault of
 
-  -- The refusal of a lock text is.
+  -- The refusal of a lock text is neither of the two.
   lock_texts : (body : List ℕ) → IsOfTheModel (lock_text_refusal body)
   lock_texts body = by (first_lock_fault body) (of_lock body)
     where
@@ -117,7 +117,7 @@ module _ (of_state : (bytes : List ℕ) → first_state_fault bytes ≢ Some sta
       by None of = (λ e. cc, λ e. cc)
       by (Some fault) of = told fault of
 
-  -- The refusal of a raw change is the model's.
+  -- The refusal of a change's texts is neither of the two.
   draft_refusals : (raw : Raw) → IsOfTheModel (draft_refusal raw)
   draft_refusals (Lock body) = lock_texts body
   draft_refusals (Unlock [] text) = (λ e. cc, λ e. cc)
@@ -129,7 +129,7 @@ module _ (of_state : (bytes : List ℕ) → first_state_fault bytes ≢ Some sta
       by false = state_texts body
   draft_refusals (Delete text) = (λ e. cc, λ e. cc)
 
-  -- The model's answer to a call is neither refusal.
+  -- The model's answer to a call is neither of the two refusals.
   pub answers_told : (m : TableModel) (call : Call) → (answer_of m call ≢ refused out_of_memory) × (answer_of m call ≢ refused journal_fault)
   answers_told m (Read name) = by (state_of (acts_of name m.journal))
     where

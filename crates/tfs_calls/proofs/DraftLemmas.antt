@@ -8,7 +8,8 @@ use Rattle.tfs_state.specs.declared.fault.StateFault.TheVariants.{TooManyInstanc
 use Rattle.tfs_calls.specs.Draft.{state_refusal, state_text_refusal}
 use Rattle.tfs_calls.specs.Refusal.{RefusalValue, bad_state, out_of_memory}
 
--- What a fault of a state text is refused by: want of memory, or what its first fault asks for.
+-- A state text with a fault is refused for lack of memory, or it is no state and is refused for its
+-- first fault.
 pub state_text_refused : (bytes : List ℕ) (fault : StateFault) (given : RefusalValue) → given ≡ state_refusal fault
     → (fault ≢ NoMemory → first_state_fault bytes ≡ Some fault)
     → ((first : StateFault) → first_state_fault bytes ≡ Some first → document_of bytes ≡ None)

@@ -1,4 +1,4 @@
--- The refusal of a query by the number of its texts.
+-- Queries that are refused for their number of texts.
 use Rattle.std.proofs.Common.{◌≡◌, ℕ, ◌<◌, ◌≤◌, length, Some, None, inl, inr, sym, ◌∙◌, ap, arith, option_map}
 use Rattle.std.proofs.lemmas.Bool.{cases_lt}
 use Rattle.tfs_state.specs.Document.{Document}
@@ -8,15 +8,15 @@ use Rattle.tfs_calls.specs.Impact.{query_refusal, fault_refusal}
 use Rattle.tfs_calls.specs.declared.query.Query.{Query}
 
 module _ (d : Document) (query : Query) where
-  -- No text.
+  -- A query without texts is refused.
   pub no_text_refused : length query.texts ≡ 0 → query_refusal d query ≡ Some no_address
   no_text_refused none = ap (option_map fault_refusal) (no_text d query.texts none)
 
-  -- More than 64 texts.
+  -- A query with more than 64 texts is refused.
   pub many_texts_refused : 64 < length query.texts → query_refusal d query ≡ Some too_many_addresses
   many_texts_refused many = ap (option_map fault_refusal) (many_texts d query.texts many)
 
-  -- A query that isn't refused has from one to 64 texts.
+  -- A query that isn't refused has 1 to 64 texts.
   pub few_where_none : query_refusal d query ≡ None → (0 < length query.texts) × (length query.texts ≤ 64)
   few_where_none none = (some, few)
     where

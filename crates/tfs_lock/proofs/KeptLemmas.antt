@@ -1,4 +1,5 @@
--- What a lock text says is the same in the whole value and in what is kept of it.
+-- The whole value of a lock text and the part of it that is kept give the same identifier and the
+-- same first fault.
 use Rattle.std.proofs.Common.{codes, ◌≡◌, List, ℕ, is_some, is_none, cond, IsSome, Option, Some, None, refl, sym, ap, subst, ◌∙◌}
 use Rattle.std.specs.Option.{option_map_or}
 use Rattle.json.specs.Json.{Json}
@@ -13,31 +14,31 @@ use Rattle.tfs_lock.specs.LockText.{id_of, GivesId, SpellsId, id_fault, first_va
 use Rattle.tfs_lock.specs.declared.fault.LockFault.{LockFault}
 use Rattle.tfs_lock.specs.declared.fault.LockFault.TheVariants.{NotJson, NotObject}
 
--- Whether something is there, told from whether something else is.
+-- If two options are both Some or both None, the test for None gives the same for both.
 none_as : {A B : Type 0} (o : Option A) (p : Option B) → is_some o ≡ is_some p → is_none o ≡ is_none p
 none_as None None e = refl
 none_as None (Some b) e = cc
 none_as (Some a) None e = cc
 none_as (Some a) (Some b) e = refl
 
--- The same, where something is there.
+-- If two options are both Some or both None and one is Some, so is the other.
 some_as : {A B : Type 0} (o : Option A) (p : Option B) → is_some o ≡ is_some p → IsSome o → IsSome p
 some_as None None e i = i
 some_as None (Some b) e i = cc
 some_as (Some a) None e i = cc
 some_as (Some a) (Some b) e i = refl
 
--- The identifier is that of what is kept.
+-- A value and what is kept of it have the same identifier.
 same_id : (j : Json) → id_of (kept_data j) ≡ id_of (tree_data j)
 same_id j = same_text (codes "ID") j refl
 
--- So is the first fault.
+-- A value and what is kept of it have the same first fault.
 same_fault : (j : Json) → first_value_fault (kept_data j) ≡ first_value_fault (tree_data j)
 same_fault j =
     ap (λ b. cond b (Some NotObject) (id_fault (id_of (kept_data j)))) (none_as (as_object (kept_data j)) (as_object (tree_data j)) (as_object-pruned j))
     ∙ ap (λ o. cond (is_none (as_object (tree_data j))) (Some NotObject) (id_fault o)) (same_id j)
 
--- What is kept of a text's value gives the identifier that the text spells.
+-- The identifier given by what is kept of a text's value is the one that the text spells.
 pub id_kept : (bytes : List ℕ) (tree : Tree) (id : List ℕ) → SpellsKept bytes (value_view tree) → GivesId (tree_view tree) id → SpellsId bytes id
 id_kept bytes tree id s g =
     let w = kept_of bytes (value_view tree) s in

@@ -11,7 +11,7 @@ use Rattle.tfs_lock.specs.LockText.{id_of, GivesId, SpellsLockInfo, id_fault, fi
 use Rattle.tfs_lock.specs.declared.fault.LockFault.{LockFault}
 use Rattle.tfs_lock.specs.declared.fault.LockFault.TheVariants.{NotJson, NotObject, TooLong}
 
--- Where neither a count above its limit nor the rest is a fault, the count is within its limit.
+-- If the test of a count against its limit gives no fault, the count is within the limit.
 within_limit : (limit count : ℕ) (rest : Option LockFault) → cond (nat_lt limit count) (Some TooLong) rest ≡ None
     → (count ≤ limit) × (rest ≡ None)
 within_limit limit count rest e =

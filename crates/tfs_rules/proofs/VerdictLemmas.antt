@@ -1,4 +1,4 @@
--- What the verdict Accept says of an act and of what the workspace has.
+-- What follows from the verdict Accept, and conditions for it.
 use Rattle.std.proofs.Common.{◌≡◌, ◌⊎◌, ℕ, List, Bool, true, false, cond, not, ◌&&◌, ◌==◌, nat_lt, Option, Some, None, IsSome, refl, sym, ap, inl, inr}
 use Rattle.std.proofs.lemmas.Bool.{ltb-false, le-ltb, eq-eqb, eqb-true, not-false}
 use Rattle.std.proofs.lemmas.Slice.Eq.{bytes_eq-Decides}
@@ -12,7 +12,8 @@ use Rattle.tfs_rules.specs.Verdict.{lock_verdict, unlock_verdict, write_verdict,
 use Rattle.tfs_rules.specs.declared.verdict.Verdict.{Verdict}
 use Rattle.tfs_rules.specs.declared.verdict.Verdict.TheVariants.{Accept, Locked, LineageDiffers, SerialTooLow, SerialReused}
 
--- Where other bytes are refused, the bytes are equal, and what comes then is accepted.
+-- If the verdict is `otherwise` for equal bytes and Locked for different ones, and is Accept, the
+-- bytes are equal, and `otherwise` is Accept.
 same_bytes : (a b : List ℕ) (otherwise : Verdict) → cond (bytes_eq a b) otherwise Locked ≡ Accept → (a ≡ b) × (otherwise ≡ Accept)
 same_bytes a b otherwise e =
     elim (bytes_eq a b) as (λ t. bytes_eq a b ≡ t → cond t otherwise Locked ≡ Accept → (a ≡ b) × (otherwise ≡ Accept)) [
@@ -20,27 +21,27 @@ same_bytes a b otherwise e =
       | false ↦ λ _ accept. cc
     ] refl e
 
--- A lock that is accepted over a holder has the holder's bytes.
+-- A lock that is accepted while the lock is held has the holder's bytes.
 pub lock_held : (held info : LockInformation) → lock_verdict (Some held) info ≡ Accept → held.bytes ≡ info.bytes
 lock_held held info e = (same_bytes held.bytes info.bytes Accept e).0
 
--- An unlock that is accepted over a holder carries its identifier or none.
+-- An unlock that is accepted while the lock is held carries the holder's identifier or none.
 pub unlock_held : (held : LockInformation) (id : Option (List ℕ)) → unlock_verdict (Some held) id ≡ Accept → (id ≡ Some held.id) ⊎ (id ≡ None)
 unlock_held held None e = inr refl
 unlock_held held (Some id) e = inl (ap (λ x. Some x) (sym (same_bytes held.id id Accept e).0))
 
--- A write that is accepted over a holder carries its identifier.
+-- A write that is accepted while the lock is held carries the holder's identifier.
 pub write_held : (held : LockInformation) (id : Option (List ℕ)) (otherwise : Verdict) → write_verdict (Some held) id otherwise ≡ Accept → id ≡ Some held.id
 write_held held None otherwise e = cc
 write_held held (Some id) otherwise e = ap (λ x. Some x) (sym (same_bytes held.id id otherwise e).0)
 
--- A write that is accepted with an identifier has a holder with that identifier.
+-- If a write with an identifier is accepted, the holder has this identifier.
 pub write_named : (holder : Option LockInformation) (id : List ℕ) (otherwise : Verdict) → write_verdict holder (Some id) otherwise ≡ Accept
     → (held : LockInformation) × (holder ≡ Some held) × (held.id ≡ id)
 write_named None id otherwise e = cc
 write_named (Some held) id otherwise e = (held, refl, (same_bytes held.id id otherwise e).0)
 
--- A write that is accepted is accepted by the lock aside, too.
+-- If a write is accepted, its verdict regardless of the lock is Accept.
 pub write_goes_on : (holder : Option LockInformation) (id : Option (List ℕ)) (otherwise : Verdict)
     → write_verdict holder id otherwise ≡ Accept → otherwise ≡ Accept
 write_goes_on None None otherwise e = e
@@ -48,7 +49,7 @@ write_goes_on None (Some id) otherwise e = cc
 write_goes_on (Some held) None otherwise e = cc
 write_goes_on (Some held) (Some id) otherwise e = (same_bytes held.id id otherwise e).1
 
--- A test that would refuse didn't.
+-- If a test leads to a refusal, and the verdict is Accept, the test was false.
 passed : (test : Bool) (refusal otherwise : Verdict) → ¬ (refusal ≡ Accept) → cond test refusal otherwise ≡ Accept → (test ≡ false) × (otherwise ≡ Accept)
 passed true refusal otherwise refused e = absurd (refused e)
 passed false refusal otherwise refused e = (refl, e)
@@ -66,17 +67,17 @@ push_in_order stored pushed e =
       one_content = λ same. (bytes_eq-Decides stored.bytes pushed.bytes).0 (not-false _ (rw (eq-eqb pushed.serial stored.serial (sym same)) at content.0));
     }
 
--- Equal bytes pass the test for other bytes.
+-- The test for equal bytes is true for equal bytes.
 bytes_pass : (a b : List ℕ) → a ≡ b → bytes_eq a b ≡ true
 bytes_pass a b = (bytes_eq-Decides a b).1
 
--- A lock with the bytes of the holder, where there is one, is accepted.
+-- A lock is accepted if there is no holder, or if it has the holder's bytes.
 pub lock_accepted : (holder : Option LockInformation) (info : LockInformation)
     → ((held : LockInformation) → holder ≡ Some held → held.bytes ≡ info.bytes) → lock_verdict holder info ≡ Accept
 lock_accepted None info own = refl
 lock_accepted (Some held) info own = rw (bytes_pass held.bytes info.bytes (own held refl)) refl
 
--- An unlock that carries the identifier of the holder, where there is one, or none, is accepted.
+-- An unlock is accepted if there is no holder, or if it carries the holder's identifier or none.
 pub unlock_accepted : (holder : Option LockInformation) (id : Option (List ℕ))
     → ((held : LockInformation) → holder ≡ Some held → (id ≡ Some held.id) ⊎ (id ≡ None)) → unlock_verdict holder id ≡ Accept
 unlock_accepted holder None carries = refl
@@ -87,7 +88,8 @@ unlock_accepted (Some held) (Some id) carries =
       | inr none ↦ cc
     ]
 
--- A write goes on where it carries the identifier of the holder, if there is one, and else none.
+-- The lock refuses no write that carries the identifier of the holder, if there is one, and else
+-- none.
 pub write_accepted : (holder : Option LockInformation) (id : Option (List ℕ)) (otherwise : Verdict)
     → ((held : LockInformation) → holder ≡ Some held → id ≡ Some held.id) → ((named : List ℕ) → id ≡ Some named → IsSome holder)
     → write_verdict holder id otherwise ≡ otherwise
@@ -97,7 +99,8 @@ write_accepted (Some held) None otherwise carries names = let same = carries hel
 write_accepted (Some held) (Some id) otherwise carries names =
     let same = carries held refl in let is : held.id ≡ id = cc in rw (bytes_pass held.id id is) refl
 
--- The third test of a push lets one content under one serial pass.
+-- If a push follows the state in push order, the test for different content with the same serial is
+-- false.
 content_pass : (stored pushed : Document) → IsPushOrder stored pushed → (pushed.serial == stored.serial && not (bytes_eq stored.bytes pushed.bytes)) ≡ false
 content_pass stored pushed order =
     elim (pushed.serial == stored.serial) as (λ t. (pushed.serial == stored.serial) ≡ t → (t && not (bytes_eq stored.bytes pushed.bytes)) ≡ false) [
@@ -105,7 +108,7 @@ content_pass stored pushed order =
       | false ↦ λ _. refl
     ] refl
 
--- A push that follows the stored state in push order, where there is one, is accepted.
+-- A push is accepted over no state, and over one that it follows in push order.
 pub push_accepted : (stored : Option Document) (pushed : Document)
     → ((d : Document) → stored ≡ Some d → IsPushOrder d pushed) → push_verdict stored pushed ≡ Accept
 push_accepted None pushed follows = refl
@@ -115,12 +118,12 @@ push_accepted (Some stored) pushed follows =
     let serial = le-ltb pushed.serial stored.serial order.no_falling_serial in
     rw (lineage, serial, content_pass stored pushed order) refl
 
--- Of two verdicts that aren't Locked, none that a test chooses is.
+-- If neither of two verdicts is Locked, the one that a test chooses isn't.
 neither_locked : (test : Bool) (refusal otherwise : Verdict) → ¬ (refusal ≡ Locked) → ¬ (otherwise ≡ Locked) → ¬ (cond test refusal otherwise ≡ Locked)
 neither_locked true refusal otherwise p q e = p e
 neither_locked false refusal otherwise p q e = q e
 
--- A push that the lock lets pass isn't Locked.
+-- The verdict on a push regardless of the lock isn't Locked.
 push_not_locked : (stored : Option Document) (pushed : Document) → ¬ (push_verdict stored pushed ≡ Locked)
 push_not_locked None pushed e = cc
 push_not_locked (Some stored) pushed e =
@@ -128,14 +131,14 @@ push_not_locked (Some stored) pushed e =
     (neither_locked (nat_lt pushed.serial stored.serial) SerialTooLow _ (λ r. cc)
     (neither_locked (pushed.serial == stored.serial && not (bytes_eq stored.bytes pushed.bytes)) SerialReused Accept (λ r. cc) (λ r. cc))) e
 
--- A write is Locked only where there is a holder.
+-- A write is Locked only if there is a holder.
 write_locked : (holder : Option LockInformation) (id : Option (List ℕ)) (otherwise : Verdict) → ¬ (otherwise ≡ Locked)
     → write_verdict holder id otherwise ≡ Locked → IsSome holder
 write_locked None None otherwise p e = absurd (p e)
 write_locked None (Some id) otherwise p e = cc
 write_locked (Some held) id otherwise p e = refl
 
--- An act is Locked only where there is a holder.
+-- An act is Locked only if there is a holder.
 pub holder_of_locked : (s : Standing) (act : ActValue) → verdict_over s act ≡ Locked → IsSome s.holder
 holder_of_locked s (lock info) e = by_holder s.holder e
   where

@@ -1,4 +1,4 @@
--- No byte that was passed is either.
+-- No byte before the index is either of the two.
 use Rattle.std.proofs.Common.{◌≡◌, ℕ, ◌<◌, true, get_or}
 use Rattle.memchr.specs.Find.{is_byte2}
 use Rattle.tfs_addr.proofs.either.find_in_few.Given as goal

@@ -1,4 +1,4 @@
--- Each character is shown by its escape, by its code, or by itself.
+-- Each character is shown by its escape, its code, or itself.
 use Rattle.std.proofs.Common.{[], ◌∷◌, ◌/◌, ◌%◌, refl, arith}
 use Rattle.std.specs.Char.{digit_char}
 use Rattle.tfs_addr.proofs.JsonLemmas.{shown-quote, shown-backslash, shown-backspace, shown-form_feed, shown-line_feed, shown-carriage_return, shown-tab, shown-code, shown-ascii, shown-itself, shown-pushed, shown-appended}

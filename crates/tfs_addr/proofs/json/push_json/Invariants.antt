@@ -1,4 +1,4 @@
--- What is written, with what is left to write, is the whole.
+-- The bytes written so far and those left to write are the JSON form of the text.
 use Rattle.std.proofs.Common.{◌≡◌, ◌++◌}
 use Rattle.std.specs.Prelude.{string_bytes}
 use Rattle.std.specs.Str.Iter.{chars_rest}

@@ -1,4 +1,4 @@
--- The law of unique reading.
+-- A text has at most one reading.
 use Rattle.tfs_addr.proofs.StopLemmas.{reading_is_unique}
 use Rattle.tfs_addr.proofs.laws.reads_once.Goals as goal
 

@@ -1,4 +1,4 @@
--- One of the two, and one place.
+-- A text reads or stops, not both, and it stops at one position.
 use Rattle.tfs_addr.proofs.ReadingLemmas.{reading_or_stop}
 use Rattle.tfs_addr.proofs.StopLemmas.{stop_has_no_reading, stop_is_unique, stop_begins_no_piece}
 use Rattle.tfs_addr.proofs.laws.reads_or_stops.Goals as goal

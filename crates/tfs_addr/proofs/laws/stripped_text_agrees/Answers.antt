@@ -1,4 +1,4 @@
--- From the function to the relation, and back.
+-- The result of the function satisfies the relation, and the other way round.
 use Rattle.tfs_addr.proofs.ReadingLemmas.{stripped_text-some, stripped_text-none, IsStripped-from_some, HasNoReading-from_none}
 use Rattle.tfs_addr.proofs.laws.stripped_text_agrees.Goals as goal
 

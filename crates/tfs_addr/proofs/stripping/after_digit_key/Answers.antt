@@ -1,4 +1,4 @@
--- A key of one digit ends after its bracket.
+-- A key of one digit ends after its closing bracket.
 use Rattle.std.proofs.Common.{arith}
 use Rattle.tfs_addr.proofs.KeyLemmas.{KeyEnds-boundary_at, KeyEnds-one_digit}
 use Rattle.tfs_addr.proofs.stripping.after_digit_key.Goals as goal

@@ -1,4 +1,4 @@
--- The bytes that were passed are digits.
+-- The bytes before the index are digits.
 use Rattle.std.proofs.Common.{◌≡◌, ◌+◌, drop}
 use Rattle.std.specs.List.{prefix_len}
 use Rattle.std.specs.Char.{is_ascii_digit}

@@ -1,4 +1,4 @@
--- A key that ends is passed, and a bracket without one is its fault.
+-- The rest after a key is returned, and a bracket that begins no key is a fault.
 use Rattle.std.proofs.Common.{◌≡◌, ◌≢◌, List, ℕ, ◌∷◌, length, get_or, sym, ap, ◌∙◌, arith}
 use Rattle.std.proofs.lemmas.Bool.Decides.{nat_tests}
 use Rattle.tfs_addr.specs.Address.{opening}

@@ -1,4 +1,4 @@
--- The key ends with its bracket, after its digits or its quoted text.
+-- The key ends with its closing bracket, after its digits or its quoted text.
 use Rattle.std.proofs.Common.{◌≡◌, ◌≢◌, List, ◌∷◌, ℕ, Bor, Some, false, true, sym, ap, ◌∙◌, arith}
 use Rattle.std.specs.Char.{is_ascii_digit}
 use Rattle.std.proofs.lemmas.Bool.Decides.{nat_tests}

@@ -1,4 +1,4 @@
--- The units end at a quote, and a backslash passes what follows it.
+-- A quote ends the units, and a backslash escapes what follows it.
 use Rattle.std.proofs.Common.{sym, ◌∙◌}
 use Rattle.tfs_addr.proofs.EndLemmas.{units_rest-empty, units_rest-at_quote, units_rest-at_backslash, units_rest-at_end}
 use Rattle.tfs_addr.proofs.stripping.after_units.Goals as goal

@@ -1,4 +1,4 @@
--- The rest's units end where the units of all bytes end.
+-- The units of the rest end where the units of all bytes end.
 use Rattle.std.proofs.Common.{◌≡◌, length}
 use Rattle.tfs_addr.specs.Steps.{units_rest}
 use Rattle.tfs_addr.proofs.stripping.after_units.Given as goal

@@ -1,4 +1,4 @@
--- Each turn reads the text up to a bracket, and a key.
+-- Each iteration reads the text up to the next bracket, and the key there.
 use Rattle.std.proofs.Common.{◌++◌, Ok, sym, ap, rules, refl, arith, length-append, eq-eqb}
 use Rattle.std.proofs.lemmas.Bool.Decides.{Decides-eqb}
 use Rattle.std.proofs.lemmas.Result.{err_from_is_err_and}

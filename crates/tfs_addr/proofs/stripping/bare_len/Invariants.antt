@@ -1,4 +1,4 @@
--- What was passed has been read in pieces, and the bytes of what is left were counted.
+-- The part before the rest has been read as pieces, and `len` is its length without keys.
 use Rattle.std.proofs.Common.{◌≡◌, ℕ, List, length}
 use Rattle.std.specs.Prelude.{chars}
 use denote.Text.{Utf8}

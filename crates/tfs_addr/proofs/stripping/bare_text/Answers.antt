@@ -1,4 +1,4 @@
--- Each turn reads the text up to a bracket, and a key.
+-- Each iteration reads the text up to the next bracket, and the key there.
 use Rattle.std.proofs.Common.{sym, ◌∙◌, rules, arith, eq-eqb}
 use Rattle.std.proofs.lemmas.Bool.{false≢true}
 use Rattle.std.proofs.lemmas.Bool.Decides.{Decides-eqb}

@@ -1,4 +1,4 @@
--- What was passed has been read in pieces, and kept without its keys.
+-- The part before the rest has been read as pieces, and kept without its keys.
 use Rattle.std.proofs.Common.{◌≡◌, [], length}
 use Rattle.std.specs.Prelude.{chars, string_bytes, string_len}
 use denote.Text.{Utf8}

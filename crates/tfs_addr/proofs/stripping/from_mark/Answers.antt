@@ -1,4 +1,4 @@
--- What stands before the mark is units.
+-- The bytes before the mark are units.
 use Rattle.std.proofs.Common.{◌-◌, length, take, drop, sym, ap, ◌∙◌, arith, length-drop, take_all}
 use Rattle.std.proofs.lemmas.List.{take-append-drop}
 use Rattle.tfs_addr.specs.Address.{quote, backslash}

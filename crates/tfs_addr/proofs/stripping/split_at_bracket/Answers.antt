@@ -1,4 +1,4 @@
--- The text is cut at its first bracket.
+-- The text is split at its first bracket.
 use Rattle.std.proofs.Common.{arith}
 use Rattle.tfs_addr.specs.Address.{opening, closing}
 use Rattle.tfs_addr.proofs.EitherLemmas.{FindsEither, either-texts, either-front, either-back, either-whole}

@@ -1,4 +1,4 @@
--- The text without its keys, a fault of it, or that memory ran out for a text that reads.
+-- The result is the text without its keys, a fault of the text, or NoMemory for a text that reads.
 use Rattle.std.proofs.Common.{Global}
 use Rattle.std.proofs.lemmas.Result.{err_from_is_err_and, IfErr-weaker}
 use Rattle.tfs_addr.proofs.ReadingLemmas.{FaultOf-no_reading, GivesText-fault, GivesText-made}

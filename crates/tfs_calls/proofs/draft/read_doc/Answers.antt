@@ -1,4 +1,4 @@
--- A text that is no state is refused by its first fault.
+-- A text that is no state is refused for its first fault.
 use Rattle.tfs_calls.proofs.DraftLemmas.{state_text_refused}
 use Rattle.tfs_calls.proofs.draft.read_doc.Goals as goal
 

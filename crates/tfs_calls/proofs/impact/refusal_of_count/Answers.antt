@@ -1,4 +1,4 @@
--- The number is refused over any version.
+-- The number of texts is refused for any version of the state.
 use Rattle.std.proofs.Common.{◌≡◌, ◌<◌, length, rules}
 use Rattle.tfs_calls.proofs.QueryLemmas.{no_text_refused, many_texts_refused}
 use Rattle.tfs_calls.proofs.impact.refusal_of_count.Goals as goal

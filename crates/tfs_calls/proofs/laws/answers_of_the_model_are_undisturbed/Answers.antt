@@ -1,4 +1,4 @@
--- Each refusal of the model is another.
+-- Each refusal of the model differs from `out_of_memory` and `journal_fault`.
 use Rattle.tfs_calls.proofs.AnswerLemmas.{answers_told}
 use Rattle.tfs_calls.proofs.laws.answers_of_the_model_are_undisturbed.Goals as goal
 

@@ -1,4 +1,4 @@
--- Bytes with no fault spell lock information; the other laws hold by computation.
+-- Bytes without a fault spell lock information; the other laws hold by computation.
 use Rattle.tfs_lock.proofs.LockTextLemmas.{spelled_without_fault}
 use Rattle.tfs_lock.proofs.MemoryLemmas.{fault_of_text}
 use Rattle.tfs_lock.proofs.laws.bytes_spell_lock_info_or_have_a_fault.Goals as goal

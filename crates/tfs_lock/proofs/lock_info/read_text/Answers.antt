@@ -1,4 +1,4 @@
--- What a text gives is what is kept of its value gives.
+-- A text and what is kept of its value give the same result.
 use Rattle.std.proofs.Common.{◌∙◌}
 use Rattle.std.proofs.lemmas.Result.{IfOk-weaker, IfErr-weaker}
 use Rattle.tfs_lock.proofs.KeptLemmas.{id_kept, fault_kept}

@@ -1,4 +1,4 @@
--- Both ways go by the places of the acts.
+-- Both directions follow from the positions of the acts.
 use Rattle.tfs_rules.proofs.AcceptedLemmas.{accepted_none, accepted_more, accepted_last}
 use Rattle.tfs_rules.proofs.laws.histories_are_accepted_act_by_act.Goals as goal
 

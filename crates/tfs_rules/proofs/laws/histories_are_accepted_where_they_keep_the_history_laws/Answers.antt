@@ -1,4 +1,5 @@
--- One way each law is proved by what accepted acts leave between its two positions, the other way each verdict by the laws.
+-- Each law follows from what accepted acts leave between its two positions; conversely, each
+-- verdict follows from the laws.
 use Rattle.tfs_rules.proofs.HistoryLawLemmas.{laws_kept, accepted_by_laws, one_identifier}
 use Rattle.tfs_rules.proofs.laws.histories_are_accepted_where_they_keep_the_history_laws.Goals as goal
 

@@ -1,4 +1,4 @@
--- The law goes by the acts.
+-- The law follows by cases on the act.
 use Rattle.tfs_rules.proofs.VerdictLemmas.{holder_of_locked}
 use Rattle.tfs_rules.proofs.laws.locked_acts_have_a_holder.Goals as goal
 

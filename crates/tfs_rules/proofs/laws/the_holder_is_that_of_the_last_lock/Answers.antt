@@ -1,4 +1,4 @@
--- Both laws go by the acts of the history, from the first.
+-- Both laws follow by induction on the acts of the history, from the first.
 use Rattle.tfs_rules.proofs.HistoryLemmas.{holder_found, holder_only}
 use Rattle.tfs_rules.proofs.laws.the_holder_is_that_of_the_last_lock.Goals as goal
 
