@@ -1,4 +1,4 @@
--- The step of a history's word that adds a change keeps its rule.
+-- Lemmas: the step that adds a change to a history keeps the rule of its word.
 use Rattle.std.proofs.Common.{◌≡◌, ℕ, ◌+◌, ◌<◌, ◌==◌, Bool, true, false, List, [], ◌∷◌, ◌++◌, length, refl, ap, sym, subst, arith, inl, length-append, None}
 use Rattle.std.proofs.lemmas.List.{append-nil}
 use Rattle.std.proofs.lemmas.Bool.Decides.{nat_tests}
@@ -13,11 +13,11 @@ use Rattle.tfs_published.proofs.Prefixes.{prefix_whole}
 abbrev pub shown : List ChangeValue → List ChangeValue
 shown log = []
 
--- What an update may do to that: anything.
+-- How an update may change what clients see: without restriction.
 abbrev pub moved : List ChangeValue → List ChangeValue → ℕ → Type 0
 moved xs ys n = Unit {0}
 
--- Where the word is as expected, the change is added; else nothing is.
+-- If the word is the expected length, the change is added; otherwise nothing is.
 adds_goes : (log v : List ChangeValue) (e : ChangeValue) (old : ℕ) → length v ≡ old → IsPrefix v log → (b : Bool) → (length log == old) ≡ b
     → Goes IsCounted shown moved 0 (v, (no_nib, None)) (λ n. either (n == old) (old + 1) n) (Adds (step 0 old (old + 1) e) (v, (no_nib, None)))
     ((length log, true) ∷ (0, true) ∷ []) log
@@ -45,7 +45,8 @@ adds_goes log v e old len pre false is =
       rw is (ap length all),
     )
 
--- Whatever the book is, the step adds the change to all that was seen, or finds that the history is longer.
+-- In any state of the book, the step adds the change to all changes seen before, or finds that the
+-- history is longer.
 pub adds_moves : (v : List ChangeValue) (e : ChangeValue) (old : ℕ) → length v ≡ old
     → Moves IsCounted shown moved 0 (v, (no_nib, None)) (λ n. either (n == old) (old + 1) n) (Adds (step 0 old (old + 1) e) (v, (no_nib, None)))
 adds_moves v e old len cs log kept pre away =

@@ -1,4 +1,4 @@
--- What begins a journal.
+-- Lemmas about journals that begin with an earlier one.
 use Rattle.std.proofs.Common.{◌≡◌, ◌+◌, ◌≤◌, ◌<◌, length, arith, List, [], ◌++◌, refl, sym, ◌∙◌, ap, append_assoc, append-nil, length-append}
 use Rattle.std.proofs.lemmas.List.{map-append, length-map}
 use mathlib.Core.List.{IsPrefix}
@@ -11,7 +11,7 @@ use Rattle.tfs_published.proofs.Prefixes.{prefix_shorter}
 pub begins_with_itself : (j : Journal) → BeginsWith j j
 begins_with_itself j = record { base = refl; entries = ([], append-nil j.entries) }
 
--- What begins a beginning begins the whole.
+-- A beginning of a beginning of a journal is a beginning of it.
 pub begins_with_earlier : (last middle first : Journal) → BeginsWith last middle → BeginsWith middle first → BeginsWith last first
 begins_with_earlier last middle first a b = record {
   base = a.base ∙ b.base;
@@ -21,7 +21,7 @@ begins_with_earlier last middle first a b = record {
   );
 }
 
--- The journal after more changes begins with that after the first of them.
+-- The journal after some changes begins with the journal after the first of them.
 pub later_begins : (opening : Journal) (first more : List ChangeValue) → IsPrefix first more
     → BeginsWith (journal_after opening more) (journal_after opening first)
 later_begins opening first more p = record {
@@ -33,7 +33,7 @@ later_begins opening first more p = record {
   );
 }
 
--- Which sessions made more changes begins with which made the first of them.
+-- The makers of some changes begin with the makers of the first of them.
 pub later_makers : (first more : List ChangeValue) → IsPrefix first more → IsPrefix (makers_of first) (makers_of more)
 later_makers first more p = (makers_of p.0, sym (map-append (λ (c : ChangeValue). c.maker) first p.0) ∙ ap makers_of p.1)
 
@@ -48,7 +48,7 @@ makers_counted opening changes =
       length-map changes (λ (c : ChangeValue). c.maker),
     )
 
--- After fewer changes the position is lower.
+-- The journal after fewer changes has a lower position.
 pub fewer_are_lower : (opening : Journal) (first more : List ChangeValue) → length first < length more
     → position_of (journal_after opening first) < position_of (journal_after opening more)
 fewer_are_lower opening first more fewer =
@@ -65,7 +65,7 @@ fewer_are_lower opening first more fewer =
 pub opening_begins : (opening : Journal) (changes : List ChangeValue) → BeginsWith (journal_after opening changes) opening
 opening_begins opening changes = record { base = refl; entries = (entries_of changes, refl) }
 
--- Of two beginnings of one journal the one whose position isn't lower begins with the other.
+-- Of two beginnings of one journal, one that isn't at a lower position begins with the other.
 pub longer_begins : (whole a b : Journal) → BeginsWith whole a → BeginsWith whole b → position_of b ≤ position_of a → BeginsWith a b
 longer_begins whole a b is_a is_b longer =
     let base : a.base ≡ b.base = sym is_a.base ∙ is_b.base in

@@ -1,4 +1,4 @@
--- What is found of a name among places.
+-- Lemmas about finding a name among places.
 use Rattle.std.proofs.Common.{◌≡◌, ℕ, ◌+◌, ◌<◌, nat_lt, not, Bool, true, false, ◌||◌, List, [], ◌∷◌, zero, suc, length, map}
 use Rattle.std.proofs.Common.{get_or, slice_get, Option, Some, None, option_map, refl, sym, ◌∙◌, ap, subst, IfSome, cond, arith}
 use Rattle.std.specs.List.{position, position_or_len, list_any}
@@ -22,20 +22,20 @@ use Rattle.tfs_published.specs.declared.place.Place.TheVariants.{Empty}
 use Rattle.tfs_published.specs.declared.view.PlaceView.{PlaceView}
 use Rattle.tfs_published.proofs.Places.{given_wide, given_at}
 
--- An element of a list, as that of the list of what is seen of each.
+-- An element of a mapped list is the function's value of the element in the list.
 get_mapped : {X Y : Type 0} (f : X → Y) (xs : List X) (k : ℕ) (d : X) (e : Y) → k < length xs → get_or (map f xs) k e ≡ f (get_or xs k d)
 get_mapped f [] k d e within = absurd (omega arith)
 get_mapped f (x ∷ xs) zero d e within = refl
 get_mapped f (x ∷ xs) (suc k) d e within = get_mapped f xs k d e (omega arith)
 
--- The place of a number, as it is seen, is the one that the journal gives it.
+-- The contents of the place with a number are the ones that the journal gives it.
 seen_given : (j : Journal) (places : List Place) (k : ℕ) (d : Place) → ArePlacesOf j (map place_view places) → k < length places
     → place_view (get_or places k d) ≡ place_given j k
 seen_given j places k d are within =
     let wide : length places ≡ 1024 = sym (length-map places place_view) ∙ given_wide j (map place_view places) are in
     sym (get_mapped place_view places k d None within) ∙ given_at j (map place_view places) k are (omega (arith, wide, within))
 
--- What a place of the name has is what is found.
+-- The result for a place that has the name is the result for the name in the journal.
 lookup_given : (name : List ℕ) (j : Journal) (k : ℕ) (place : Option PlaceView) (lookup : Lookup) → place ≡ place_given j k
     → has_name name place ≡ true → IfSome place (λ view. IsLookup lookup view.state) → IsLookup lookup (state_of (acts_of name j))
 lookup_given name j k place lookup is named here =
@@ -49,7 +49,7 @@ lookup_given name j k place lookup is named here =
           subst (λ (m : List ℕ). IsLookup lookup (state_of (acts_of m j))) same there
     ] is
 
--- What the place with the first number has is what is found.
+-- The result for the first place that has the name is the result for the name in the journal.
 pub lookup_at : (name : List ℕ) (j : Journal) (places : List Place) (k : ℕ) (d : Place) (lookup : Lookup)
     → position (λ place. has_name name (place_view place)) places ≡ Some k → IfSome (place_view (get_or places k d)) (λ view. IsLookup lookup view.state)
     → ArePlacesOf j (map place_view places) → IsLookup lookup (state_of (acts_of name j))
@@ -57,7 +57,7 @@ lookup_at name j places k d lookup first here are =
     let some = position-Some (λ (place : Place). has_name name (place_view place)) places k d first in
     lookup_given name j k (place_view (get_or places k d)) lookup (seen_given j places k d are some.0) some.1 here
 
--- A name that is there has a number.
+-- A name in a list has a number there.
 name_number : (name : List ℕ) (names : List (List ℕ)) → list_any (bytes_eq name) names ≡ true → (k : ℕ) × (slice_get names k ≡ Some name)
 name_number name [] is = absurd (cc is)
 name_number name (n ∷ ns) is =
@@ -66,7 +66,7 @@ name_number name (n ∷ ns) is =
       | false ↦ λ apart later. let rest = name_number name ns later in (suc rest.0, rest.1)
     ] refl is
 
--- Where the first element that passes would stand at the end or behind it, none passes.
+-- If no element is found before the end of a list, none passes the test.
 none_before : {X : Type 0} (p : X → Bool) (xs : List X) (k : ℕ) (d : X)
     → nat_lt (position_or_len p xs) (length xs) ≡ false → k < length xs → p (get_or xs k d) ≡ false
 none_before p [] k d late within = absurd (omega arith)
@@ -81,14 +81,14 @@ none_before p (x ∷ xs) (suc k) d late within =
       | false ↦ λ e. none_before p xs k d (grind (arith, nat_tests, e)) (omega arith)
     ] late
 
--- Nor where there is no first one.
+-- If `position` returns `None`, no element passes the test.
 none_passes : {X : Type 0} (p : X → Bool) (xs : List X) (k : ℕ) (d : X) → position p xs ≡ None → k < length xs → p (get_or xs k d) ≡ false
 none_passes p xs k d none =
     let at = position_or_len p xs in
     none_before p xs k d
     (elim (nat_lt at (length xs)) as (λ t. cond t (Some at) None ≡ None → t ≡ false) [ true ↦ λ e. absurd (cc e) | false ↦ λ e. refl ] none)
 
--- A name of the journal has a place.
+-- Each name of the journal has a place.
 has_place : (name : List ℕ) (j : Journal) (places : List Place) → list_any (bytes_eq name) (names_of j) ≡ true
     → position (λ place. has_name name (place_view place)) places ≡ None → ArePlacesOf j (map place_view places) → ⊥
 has_place name j places there none are =
@@ -106,7 +106,7 @@ has_place name j places there none are =
     let wrong : false ≡ true = sym fails ∙ passes in
     cc
 
--- Where no place has the name, it has no state.
+-- A name that no place has has no state in the journal.
 pub lookup_nowhere : (name : List ℕ) (j : Journal) (places : List Place) → position (λ place. has_name name (place_view place)) places ≡ None
     → ArePlacesOf j (map place_view places) → state_of (acts_of name j) ≡ None
 lookup_nowhere name j places none are =

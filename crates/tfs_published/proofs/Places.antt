@@ -1,4 +1,4 @@
--- The places that a journal gives, and what one more entry changes of them.
+-- Lemmas about the places that a journal gives, and how one more entry changes them.
 use Rattle.std.proofs.Common.{◌≡◌, ◌≢◌, ℕ, zero, suc, ◌+◌, ◌<◌, ◌≤◌, nat_eq, true, false, List, [], ◌∷◌, ◌++◌, length, map, set, take}
 use Rattle.std.proofs.Common.{get_or, slice_get}
 use Rattle.std.proofs.Common.{Option, Some, None, option_map, refl, sym, ◌∙◌, ap, subst, arith, length-append}
@@ -21,19 +21,19 @@ use Rattle.tfs_published.specs.Token.{TokenValue}
 use Rattle.tfs_published.specs.declared.view.CopyView.{CopyView}
 use Rattle.tfs_published.specs.declared.view.PlaceView.{PlaceView}
 
--- One element more at the end leaves what the others are.
+-- Appending an element doesn't change the others.
 get_unless_last : {A : Type 0} (xs : List A) (x : A) (i : ℕ) → i ≢ length xs → slice_get (xs ++ x ∷ []) i ≡ slice_get xs i
 get_unless_last [] x zero apart = absurd (apart refl)
 get_unless_last [] x (suc i) apart = refl
 get_unless_last (y ∷ ys) x zero apart = refl
 get_unless_last (y ∷ ys) x (suc i) apart = get_unless_last ys x i (λ same. apart (ap suc same))
 
--- The last element.
+-- The element after all others is the appended one.
 get_last : {A : Type 0} (xs : List A) (x : A) → slice_get (xs ++ x ∷ []) (length xs) ≡ Some x
 get_last [] x = refl
 get_last (y ∷ ys) x = get_last ys x
 
--- No two numbers have one name.
+-- A name has one number.
 one_number : (j : Journal) (i k : ℕ) (name : List ℕ) → slice_get (names_of j) i ≡ Some name → slice_get (names_of j) k ≡ Some name → i ≡ k
 one_number j i k name here there =
     let first = get_or_from_slice_get (names_of j) i name name here in
@@ -42,7 +42,7 @@ one_number j i k name here there =
     let not_more : k < i → ⊥ = λ more. names_once j k i name more (slice_get_within (names_of j) i name here) (second ∙ sym first) in
     omega arith
 
--- The number of a new name is how many names there were.
+-- The number of a new name is the number of names before it.
 new_number : (j : Journal) (e : EntryValue) (number : ℕ) → slice_get (names_of (with_entry j e)) number ≡ Some e.name
     → list_any (bytes_eq e.name) (names_of j) ≡ false → length (names_of j) ≡ number
 new_number j e number at absent =
@@ -50,7 +50,7 @@ new_number j e number at absent =
     ap (λ (names : List (List ℕ)). slice_get names (length (names_of j))) (names_added j e absent) ∙ get_last (names_of j) e.name in
     one_number (with_entry j e) (length (names_of j)) number e.name last at
 
--- The other numbers keep their names.
+-- An entry doesn't change the names of other numbers.
 names_elsewhere : (j : Journal) (e : EntryValue) (number i : ℕ) → slice_get (names_of (with_entry j e)) number ≡ Some e.name → i ≢ number
     → slice_get (names_of (with_entry j e)) i ≡ slice_get (names_of j) i
 names_elsewhere j e number i at apart =
@@ -63,7 +63,7 @@ names_elsewhere j e number i at apart =
           ∙ get_unless_last (names_of j) e.name i (λ is. apart (is ∙ same))
     ] refl
 
--- There are no more than 1,024 names, where the entry's number is one of the first 1,024.
+-- If the number of the entry's name is below 1,024, there are at most 1,024 names after the entry.
 few_after : (j : Journal) (e : EntryValue) (number : ℕ) → slice_get (names_of (with_entry j e)) number ≡ Some e.name → number < 1024
     → length (names_of j) ≤ 1024 → length (names_of (with_entry j e)) ≤ 1024
 few_after j e number at inside few =
@@ -76,7 +76,7 @@ few_after j e number at inside few =
           omega (arith, more, same, inside)
     ] refl
 
--- The other numbers keep their places.
+-- An entry doesn't change the places of other numbers.
 given_elsewhere : (j : Journal) (e : EntryValue) (number i : ℕ) → slice_get (names_of (with_entry j e)) number ≡ Some e.name → i ≢ number
     → place_given (with_entry j e) i ≡ place_given j i
 given_elsewhere j e number i at apart =
@@ -102,21 +102,22 @@ given_elsewhere j e number i at apart =
           after ∙ (ap (λ (h : History). Some (place_with name (state_of h))) (acts_of_other name j e other) ∙ sym before)
     ] refl
 
--- The place of the entry's number is that of its name.
+-- The place of the entry's number has its name, and the state after the entry.
 given_here : (j : Journal) (e : EntryValue) (number : ℕ) → slice_get (names_of (with_entry j e)) number ≡ Some e.name
     → place_given (with_entry j e) number ≡ Some (place_with e.name (state_of (acts_of e.name (with_entry j e))))
 given_here j e number at = ap (option_map (λ (n : List ℕ). place_with n (state_of (acts_of n (with_entry j e))))) at
 
--- As many places as a journal gives.
+-- A journal gives 1,024 places.
 pub given_wide : (j : Journal) (places : List (Option PlaceView)) → ArePlacesOf j places → length places ≡ 1024
 given_wide j places are = ap length are.each ∙ length-map-range_with_len (place_given j) 0 1024
 
--- The place of a number is the one that the journal gives it.
+-- Each place is the one that the journal gives its number.
 pub given_at : (j : Journal) (places : List (Option PlaceView)) (i : ℕ) → ArePlacesOf j places → i < 1024 → get_or places i None ≡ place_given j i
 given_at j places i are within =
     ap (λ (xs : List (Option PlaceView)). get_or xs i None) are.each ∙ get_or-map-range_with_len (place_given j) 0 1024 i i None within (omega arith)
 
--- With the entry's place put at its number, the places are those of the journal with the entry.
+-- If the place of the entry's number is set to its name and state, the places are those of the
+-- journal with the entry.
 pub places_after : (j : Journal) (e : EntryValue) (places : List (Option PlaceView)) (number : ℕ) (place : PlaceView) → ArePlacesOf j places
     → slice_get (names_of (with_entry j e)) number ≡ Some e.name → number < 1024
     → place ≡ place_with e.name (state_of (acts_of e.name (with_entry j e))) → ArePlacesOf (with_entry j e) (set places number (Some place))
@@ -139,7 +140,7 @@ places_after j e places number place are at inside is =
           ] refl);
     }
 
--- One place more, of those that are made in the order of their numbers.
+-- Appending the place of the next number gives the places of the first numbers up to it.
 pub one_place_more : (f : ℕ → Option PlaceView) (places new : List Place) (place : Place) (n : ℕ) → n < 1024 → new ≡ places ++ place ∷ []
     → map place_view places ≡ take n (map f (range_with_len 0 1024)) → place_view place ≡ f n
     → map place_view new ≡ take (n + 1) (map f (range_with_len 0 1024))
@@ -150,14 +151,14 @@ one_place_more f places new place n within is so_far next =
     ∙ sym (map-range_with_len_more f 0 n n (omega arith))
     ∙ sym (take-map-range_with_len f 0 1024 (n + 1) (omega arith))
 
--- After the last number there are all places.
+-- After 1,024 numbers, all places are made.
 pub all_places : (f : ℕ → Option PlaceView) (places : List Place) (n : ℕ) → 1024 ≤ n
     → map place_view places ≡ take n (map f (range_with_len 0 1024)) → map place_view places ≡ map f (range_with_len 0 1024)
 all_places f places n past is =
     let wide = length-map-range_with_len f 0 1024 in
     is ∙ take_all n (map f (range_with_len 0 1024)) (omega (arith, wide, past))
 
--- There are as many places as there are numbers.
+-- There are 1,024 places.
 pub as_many_places : (f : ℕ → Option PlaceView) (places : List Place) → map place_view places ≡ map f (range_with_len 0 1024) → length places ≡ 1024
 as_many_places f places is = sym (length-map places place_view) ∙ (ap length is ∙ length-map-range_with_len f 0 1024)
 
@@ -165,7 +166,7 @@ as_many_places f places is = sym (length-map places place_view) ∙ (ap length i
 abbrev pub copy_with : List (Option PlaceView) → ℕ → TokenValue → CopyView
 copy_with places position token = record { places = places; position = position; token = token }
 
--- Copies are equal where their parts are.
+-- Copies with equal places, positions and tokens are equal.
 pub same_copy : (p q : List (Option PlaceView)) (m n : ℕ) (t u : TokenValue) → p ≡ q → m ≡ n → t ≡ u → copy_with p m t ≡ copy_with q n u
 same_copy p q m n t u places position token =
     ap (λ (x : List (Option PlaceView)). copy_with x m t) places

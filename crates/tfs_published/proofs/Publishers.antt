@@ -1,4 +1,4 @@
--- Both halves of a change keep what a publisher keeps.
+-- Lemmas: both halves of a change keep the invariant of a publisher.
 use Rattle.std.proofs.Common.{◌≡◌, ℕ, ◌+◌, ◌<◌, List, [], ◌∷◌, ◌++◌, slice_get, map, length, ◌≤◌, Option, Some, None, option_map}
 use Rattle.std.proofs.Common.{refl, sym, ◌∙◌, ap, subst, arith}
 use Rattle.std.specs.List.{range_with_len}
@@ -19,7 +19,7 @@ use Rattle.tfs_published.specs.declared.view.PlaceView.{PlaceView}
 use Rattle.tfs_published.specs.declared.view.UpdateView.{UpdateView}
 use Rattle.tfs_published.proofs.Taken.{takes_change, journal_after_more}
 
--- The update of a change at a place of its name tells the change.
+-- If its token, place and position are those after the change, an update describes the change.
 pub tells_change : (opening : Journal) (copy : CopyView) (newest token : TokenValue) (update : UpdateView) (change : ChangeValue) (position : ℕ)
     → copy.token ≡ newest → token.book ≡ newest.book → token.changes ≡ newest.changes ++ change ∷ [] → update.token ≡ token
     → update.place ≡ place_with change.entry.name change.state → update.position ≡ position + 1
@@ -43,7 +43,7 @@ tells_change opening copy newest token update change position is book changes ne
       lawful = subst (λ (j : Journal). IsLawful (with_entry j change.entry)) before lawful;
     }
 
--- What a publisher keeps, by equal parts.
+-- The invariant of a publisher holds of equal parts.
 pub publisher_along : (book : Book) (opening : Journal) (newest : TokenValue) (next next' : Option TokenValue) (shown shown' : Option CopyView)
     (queued queued' : Option (List Operation))
     → IsPublisher book opening newest next shown queued → next ≡ next' → shown ≡ shown' → queued ≡ queued'
@@ -53,13 +53,13 @@ publisher_along book opening newest next next' shown shown' queued queued' publi
     (subst (λ (s : Option CopyView). IsPublisher book opening newest next s queued') is_shown
     (subst (λ (q : Option (List Operation)). IsPublisher book opening newest next shown q) is_queued publisher))
 
--- The newest token of a publisher is of its book.
+-- The newest token of a publisher belongs to its book.
 pub publisher_book : (book : Book) (opening : Journal) (newest : TokenValue) (next : Option TokenValue) (shown : Option CopyView)
     (queued : Option (List Operation))
     → IsPublisher book opening newest next shown queued → newest.book ≡ book
 publisher_book book opening newest next shown queued publisher = sym (ap (λ (t : TokenValue). t.book) publisher.newest_is) ∙ publisher.stands.same_book
 
--- What is published is lawful.
+-- The published journal is lawful.
 pub publisher_lawful : (book : Book) (opening : Journal) (newest : TokenValue) (next : Option TokenValue) (shown : Option CopyView)
     (queued : Option (List Operation))
     → IsPublisher book opening newest next shown queued → IsLawful (journal_after opening newest.changes)
@@ -71,7 +71,7 @@ pub no_next : (opening : Journal) (next : Option TokenValue) → option_map (λ 
 no_next opening None is = refl
 no_next opening (Some token) is = absurd (cc is)
 
--- Once the update of a change is queued, it leads to the next token.
+-- If the update of a change is queued, it leads to the next token, and the invariant holds.
 pub publisher_staged : (book : Book) (opening : Journal) (newest token : TokenValue) (shown : CopyView) (before after : List Operation) (update : UpdateView)
     (change : ChangeValue) (position : ℕ)
     → IsPublisher book opening newest None (Some shown) (Some before) → after ≡ before ++ Take update ∷ []
@@ -98,7 +98,8 @@ publisher_staged book opening newest token shown before after update change posi
       queue = (record { update = update; change = change; one = is ∙ ap (λ (us : List Operation). us ++ Take update ∷ []) none; tells = tells }, next);
     }
 
--- After publishing the copy that is shown has the next token, and nothing is queued.
+-- After publishing, readers enter a copy with the next token, nothing is queued, and the invariant
+-- holds.
 pub publisher_published : (book : Book) (opening : Journal) (newest token : TokenValue) (next : Option TokenValue) (shown after : CopyView)
     (queued rest : List Operation) (position : ℕ) → IsPublisher book opening newest next (Some shown) (Some queued) → next ≡ Some token
     → ((queues : Queues opening shown queued) → after ≡ updated shown queues.update)
@@ -133,7 +134,7 @@ publisher_published book opening newest token next shown after queued rest posit
 pub no_changes : (opening : Journal) → journal_after opening [] ≡ opening
 no_changes opening = ap (λ (es : List EntryValue). record { base = opening.base; entries = es }) (append-nil opening.entries)
 
--- A copy with the places and the position of the opening journal stands for it.
+-- A copy with the places and the position of the opening journal represents it.
 pub stands_new : (book : Book) (opening j : Journal) (token : TokenValue) (copy : CopyView) → j ≡ opening → token.book ≡ book
     → token.changes ≡ [] → IsLawful j
     → copy ≡ record { places = map (place_given j) (range_with_len 0 1024); position = position_of j; token = token }
@@ -150,7 +151,7 @@ stands_new book opening j token copy begins same none lawful is =
       lawful = subst IsLawful (sym journal) lawful;
     }
 
--- A publisher that was made new.
+-- A new publisher of the opening journal keeps the invariant.
 pub publisher_new : (book : Book) (opening j : Journal) (token : TokenValue) (copy : CopyView) (queued : List Operation) → j ≡ opening
     → token.book ≡ book → token.changes ≡ [] → IsLawful j
     → copy ≡ record { places = map (place_given j) (range_with_len 0 1024); position = position_of j; token = token }

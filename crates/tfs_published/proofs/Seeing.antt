@@ -1,4 +1,4 @@
--- What is seen in a copy is seen over the journal that it stands for.
+-- Lemmas: what is read in a copy is read over the journal that it represents.
 use Rattle.std.proofs.Common.{◌≡◌, ℕ, List, Option, Some, None, IfSome, sym, ◌∙◌, ap, subst}
 use mathlib.Core.List.{IsPrefix}
 use Rattle.logbook.specs.Pages.{Book}
@@ -13,7 +13,8 @@ use Rattle.tfs_published.specs.Token.{TokenValue}
 use Rattle.tfs_published.specs.declared.snapshot.Snapshot.{Snapshot}
 use Rattle.tfs_published.specs.declared.view.CopyView.{CopyView}
 
--- What is seen in a copy that stands for a journal of the book, if anything.
+-- A snapshot of a copy, if there is one, is what is read over a lawful journal of the book's
+-- history.
 pub seen_of : (book : Book) (opening : Journal) (copy : CopyView) (earlier : TokenValue) (name : List ℕ) (snapshot : Option Snapshot)
     → StandsFor book opening copy → earlier.book ≡ book → IfSome snapshot (λ s. IsSnapshot copy earlier name s)
     → IfSome snapshot (λ s. IsSeen opening earlier name s)

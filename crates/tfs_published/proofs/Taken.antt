@@ -1,4 +1,4 @@
--- Taking in the update of an entry keeps what a copy stands for.
+-- Lemmas: after an update, a copy represents the journal with the update's entry.
 use Rattle.std.proofs.Common.{◌≡◌, ℕ, List, ◌∷◌, ◌++◌, [], map, sym, ◌∙◌, ap, subst, append_assoc, length-append, arith}
 use Rattle.std.proofs.lemmas.List.{map-append}
 use Rattle.logbook.specs.Pages.{Book}
@@ -12,7 +12,7 @@ use Rattle.tfs_published.specs.declared.view.CopyView.{CopyView}
 use Rattle.tfs_published.specs.declared.view.UpdateView.{UpdateView}
 use Rattle.tfs_published.proofs.Places.{places_after}
 
--- Taking in the update of an entry: the copy stands for the journal with that entry.
+-- After the update of an entry, the copy represents the journal with that entry.
 pub takes_entry : (copy : CopyView) (j : Journal) (u : UpdateView) (e : EntryValue)
     → IsPublished copy j → TellsEntry u e j → IsPublished (updated copy u) (with_entry j e)
 takes_entry copy j u e is tells =
@@ -22,7 +22,7 @@ takes_entry copy j u e is tells =
       position = tells.position ∙ omega (arith, length-append j.entries (e ∷ []));
     }
 
--- One more change gives the journal one more entry.
+-- The journal after one more change has that change's entry appended.
 pub journal_after_more : (opening : Journal) (changes : List ChangeValue) (change : ChangeValue)
     → journal_after opening (changes ++ change ∷ []) ≡ with_entry (journal_after opening changes) change.entry
 journal_after_more opening changes change =
@@ -31,7 +31,8 @@ journal_after_more opening changes change =
     ap (λ es. record { base = opening.base; entries = opening.entries ++ es }) split
     ∙ ap (λ es. record { base = opening.base; entries = es }) (sym (append_assoc opening.entries (entries changes) (change.entry ∷ [])))
 
--- Taking in the update of a change: the copy stands for the journal after its token's changes, as before.
+-- After the update of a change, the copy represents the journal after its token's changes, as
+-- before.
 pub takes_change : (book : Book) (opening : Journal) (copy : CopyView) (u : UpdateView) (change : ChangeValue) → StandsFor book opening copy
     → TellsChange opening copy u change → StandsFor book opening (updated copy u)
 takes_change book opening copy u change stands tells =

@@ -1,4 +1,4 @@
--- Runs of service, one after another.
+-- Lemmas about successive runs.
 use mathlib.Core.List.{IsPrefix}
 use Rattle.std.proofs.Common.{◌≡◌, ◌+◌, ◌≤◌, ◌<◌, ℕ, suc, length, length-append, get_or, map, List, sum_by, [], ◌∷◌, ◌++◌, append-nil, Option, refl, sym, ◌∙◌, ap, subst, inl, inr, arith}
 use Rattle.std.proofs.lemmas.Grind.{flat_map-append}
@@ -16,14 +16,14 @@ use Rattle.tfs_serve.specs.Working.{Answer}
 use Rattle.tfs_runs.specs.Runs.{ReturnedRun, IsReturnedRun, IsReturnedRunOf, LeadsTo, GoesBy, GoesOn, EndsOn, HoldsAll, HoldsJust, accepted_of, accepted_by_all, positions_on, positions_of_all}
 use Rattle.tfs_runs.proofs.Once.{told_then}
 
--- A reply has a position if it reports a change as accepted.
+-- A reply reports a position if and only if it reports a change as accepted.
 one_told : (r : ReplyValue) → length (position_told r) ≡ accepted_by r
 one_told (done position) = refl
 one_told (state d) = refl
 one_told (impact d chosen position) = refl
 one_told (refused refusal) = refl
 
--- Answers have as many positions as they report changes as accepted.
+-- Answers report as many positions as accepted changes.
 some_told : (answers : List Answer) → length (positions_told answers) ≡ accepted_in answers
 some_told [] = refl
 some_told (a ∷ more) =
@@ -32,7 +32,7 @@ some_told (a ∷ more) =
     let lengths = length-append (position_told a.reply) (positions_told more) in
     let sums = sum_by-cons (λ (b : Answer). accepted_by b.reply) a more in omega (arith, one, rest, lengths, sums)
 
--- So have those of all workers.
+-- The workers of a run report as many positions as accepted changes.
 all_told : (opening last : Journal) (workers : List (List (List Answer))) (told : List (Option (List Event))) (served : List ServedView)
     → length workers ≡ length told → length served ≡ length told
     → ((i : ℕ) (t : Option (List Event)) (s : ServedView) → i < length told
@@ -51,29 +51,29 @@ all_told opening last (w ∷ workers) (t ∷ told) (s ∷ served) few same each 
     let lengths = length-append (positions_told (answers_on w)) (positions_on workers) in
     let sums = sum_by-cons (λ (v : ServedView). v.accepted) s served in omega (arith, one, more, here, lengths, sums)
 
--- A run has as many positions as its workers report changes as accepted.
+-- A run reports as many positions as accepted changes.
 term_told : (opening : TableModel) (t : ReturnedRun) → IsReturnedRun opening t → length t.positions ≡ accepted_of t.served
 term_told opening t run =
     let its = run.run in
     ap length run.positions ∙ all_told opening.journal t.last.journal its.connections run.told t.served its.each.0 its.each.1 its.workers
 
--- It has a position more for each of them.
+-- The last journal of a run is at the opening position plus the number of accepted changes.
 term_grows : (opening : TableModel) (t : ReturnedRun) → IsReturnedRun opening t
     → position_of t.last.journal ≡ position_of opening.journal + accepted_of t.served
 term_grows opening t run =
     let base = ap (λ b. b.position) run.run.begins.base in
     let grows = run.run.grows in omega (arith, base, grows)
 
--- Each is reported once.
+-- A run reports each of its positions once.
 term_once : (opening : TableModel) (t : ReturnedRun) → IsReturnedRun opening t → AreToldOnce opening.journal t.last.journal t.positions
 term_once opening t run p above within = ap (times p) run.positions ∙ run.run.once p above within
 
--- What a last journal leads to has its position.
+-- The opening journal of the next run has the position of the last journal.
 leads_stays : (last next : TableModel) → LeadsTo last next → position_of next.journal ≡ position_of last.journal
 leads_stays last next (inl compact) = compact.rebased.position
 leads_stays last next (inr same) = ap (λ (m : TableModel). position_of m.journal) same
 
--- So do runs one after another.
+-- Successive runs advance the position by the number of accepted changes.
 goes_by_grows : (first now : TableModel) (runs : List ReturnedRun) → GoesBy first runs now
     → position_of now.journal ≡ position_of first.journal + accepted_by_all runs
 goes_by_grows first now [] goes = let same = ap (λ (m : TableModel). position_of m.journal) goes in omega (arith, same)
@@ -83,7 +83,7 @@ goes_by_grows first now (t ∷ runs) goes =
     let more = goes_by_grows goes.0 now runs goes.3 in
     let all = sum_by-cons (λ (u : ReturnedRun). accepted_of u.served) t runs in omega (arith, grows, stays, more, all)
 
--- They report as many positions as changes.
+-- Successive runs report as many positions as accepted changes.
 goes_by_told : (first now : TableModel) (runs : List ReturnedRun) → GoesBy first runs now → length (positions_of_all runs) ≡ accepted_by_all runs
 goes_by_told first now [] goes = refl
 goes_by_told first now (t ∷ runs) goes =
@@ -92,14 +92,14 @@ goes_by_told first now (t ∷ runs) goes =
     let lengths = length-append t.positions (positions_of_all runs) in
     let all = sum_by-cons (λ (u : ReturnedRun). accepted_of u.served) t runs in omega (arith, one, more, lengths, all)
 
--- Between the two journals are as many positions as changes were reported.
+-- The difference of the two positions is the number of accepted changes.
 pub goes_on_grows : (first now : TableModel) (accepted : ℕ) → GoesOn first now accepted
     → position_of now.journal ≡ position_of first.journal + accepted
 goes_on_grows first now accepted goes =
     let counts = goes.counts in
     let grows = goes_by_grows first now goes.runs goes.goes in omega (arith, counts, grows)
 
--- One more run.
+-- Successive runs and one more are successive runs.
 goes_by_then : (first opening next : TableModel) (t : ReturnedRun) (runs : List ReturnedRun) → GoesBy first runs opening → IsReturnedRun opening t → LeadsTo t.last next
     → GoesBy first (runs ++ t ∷ []) next
 goes_by_then first opening next t [] goes run leads =
@@ -107,12 +107,12 @@ goes_by_then first opening next t [] goes run leads =
 goes_by_then first opening next t (u ∷ runs) goes run leads =
     (goes.0, goes.1, goes.2, goes_by_then goes.0 opening next t runs goes.3 run leads)
 
--- The positions of one more run follow the others.
+-- The positions of one more run follow the earlier positions.
 positions_then : (t : ReturnedRun) (runs : List ReturnedRun) → positions_of_all (runs ++ t ∷ []) ≡ positions_of_all runs ++ t.positions
 positions_then t runs =
     flat_map-append (λ (u : ReturnedRun). u.positions) runs (t ∷ []) ∙ ap (λ (l : List ℕ). positions_of_all runs ++ l) (append-nil t.positions)
 
--- No run yet.
+-- Without a run, the journal is the first one.
 pub goes_not_yet : (first now : TableModel) → now ≡ first → GoesOn first now 0
 goes_not_yet first now same = record {
   runs = [];
@@ -121,11 +121,11 @@ goes_not_yet first now same = record {
   once = λ p above within. let stays = ap (λ (m : TableModel). position_of m.journal) same in absurd (omega (arith, above, within, stays));
 }
 
--- Without a run a journal leads to itself.
+-- Without a run, a journal leads to itself.
 pub goes_nowhere : (m : TableModel) → GoesOn m m 0
 goes_nowhere m = goes_not_yet m m refl
 
--- A run after others.
+-- A run after others adds its accepted changes.
 pub goes_on_then : (first opening next : TableModel) (accepted : ℕ) (t : ReturnedRun) → GoesOn first opening accepted → IsReturnedRun opening t → LeadsTo t.last next
     → GoesOn first next (accepted + accepted_of t.served)
 goes_on_then first opening next accepted t goes run leads =
@@ -148,17 +148,18 @@ goes_on_then first opening next accepted t goes run leads =
 pub begins_itself : (j : Journal) → BeginsWith j j
 begins_itself = begins_with_itself
 
--- What begins the opening journal of a run begins its last one.
+-- The last journal of a run begins with what its opening journal begins with.
 pub term_begins : (placed : Journal) (opening last : TableModel) (served : List ServedView) → IsReturnedRunOf opening last served
     → BeginsWith opening.journal placed → BeginsWith last.journal placed
 term_begins placed opening last served run begins = begins_with_earlier last.journal opening.journal placed run.1.run.begins begins
 
--- A journal that is the last one begins with the one in place, if that is the same too.
+-- If the end is the last journal, and the placed journal is still the earlier one, the end begins
+-- with it.
 pub same_begins : (last end before after : Journal) → end ≡ last → after ≡ before → BeginsWith last before → BeginsWith end after
 same_begins last end before after same placed begins =
     subst (λ (j : Journal). BeginsWith j after) (sym same) (subst (λ (p : Journal). BeginsWith last p) (sym placed) begins)
 
--- The opening journal of a run is an end.
+-- Runs may end with a journal that begins with the opening journal of the next run.
 pub ends_at : (first opening : TableModel) (end : Journal) (accepted before after : ℕ) → GoesOn first opening accepted
     → BeginsWith end opening.journal → after ≡ before + accepted → EndsOn first end before after
 ends_at first opening end accepted before after goes begins counts = record {
@@ -169,34 +170,34 @@ ends_at first opening end accepted before after goes begins counts = record {
   counts = counts;
 }
 
--- A beginning is no longer than the whole.
+-- A prefix is at most as long as the list.
 prefix_is_shorter : {A : Type 0} (xs ys : List A) → IsPrefix xs ys → length xs ≤ length ys
 prefix_is_shorter [] ys begins = omega arith
 prefix_is_shorter (x ∷ xs) [] begins = absurd (cc (begins.1))
 prefix_is_shorter (x ∷ xs) (y ∷ ys) begins =
     let rest = prefix_is_shorter xs ys (begins.0, cc (begins.1)) in omega (arith, rest)
 
--- What a journal begins with isn't beyond it.
+-- A beginning of a journal isn't at a higher position.
 begins_below : (j earlier : Journal) → BeginsWith j earlier → position_of earlier ≤ position_of j
 begins_below j earlier begins =
     let base = ap (λ b. b.position) begins.base in
     let shorter = prefix_is_shorter earlier.entries j.entries begins.entries in omega (arith, base, shorter)
 
--- The last journal has all changes that were reported as accepted.
+-- The last journal has positions for all changes that were reported as accepted.
 pub holds_all : (first : TableModel) (end : Journal) (before after : ℕ) → EndsOn first end before after → HoldsAll first.journal end before after
 holds_all first end before after ends =
     let counts = ends.counts in
     let grows = goes_on_grows first ends.opening ends.accepted ends.goes in
     let below = begins_below end ends.opening.journal ends.begins in omega (arith, counts, grows, below)
 
--- It has no others if it is the opening one of the next run.
+-- If the end is the opening journal of the next run, it has positions for no other changes.
 pub holds_just : (first opening : TableModel) (end : Journal) (accepted before after : ℕ) → GoesOn first opening accepted
     → end ≡ opening.journal → after ≡ before + accepted → HoldsJust first.journal end before after
 holds_just first opening end accepted before after goes same counts =
     let grows = goes_on_grows first opening accepted goes in
     let stays = ap position_of same in omega (arith, counts, grows, stays)
 
--- What is left of workers tells how many changes each reported as accepted.
+-- The number of accepted changes of mapped outcomes is the sum over the elements.
 pub accepted_mapped : {X : Type 0} (view : X → ServedView) (xs : List X) → accepted_of (map view xs) ≡ sum_by (λ (x : X). (view x).accepted) xs
 accepted_mapped view [] = refl
 accepted_mapped {X} view (x ∷ xs) =
@@ -204,12 +205,12 @@ accepted_mapped {X} view (x ∷ xs) =
     let same = sum_by-cons (λ (y : X). (view y).accepted) x xs in
     let more = accepted_mapped view xs in omega (arith, one, same, more)
 
--- One more run after a count.
+-- The count after one more run is the sum of the counts.
 pub counts_then : (before accepted more added now mid after : ℕ) → now ≡ before + accepted → mid ≡ now + added → more ≡ added → after ≡ mid
     → after ≡ before + (accepted + more)
 counts_then before accepted more added now mid after counts counted same stays = omega (arith, counts, counted, same, stays)
 
--- After one more run, which led to a journal.
+-- After one more run, the journals lead to the next one, and the count includes its changes.
 pub grows_then : (first opening last next : TableModel) (served : List ServedView) (accepted before added now mid after : ℕ)
     → GoesOn first opening accepted → IsReturnedRunOf opening last served → LeadsTo last next → now ≡ before + accepted → mid ≡ now + added
     → accepted_of served ≡ added → after ≡ mid
@@ -220,17 +221,17 @@ grows_then first opening last next served accepted before added now mid after go
   counts_then before accepted (accepted_of served) added now mid after counts counted same stays,
 )
 
--- Runs end with a journal to which they led.
+-- Runs may end with the journal to which they lead.
 pub ends_now : (first now : TableModel) (before after : ℕ) → ((all : ℕ) × GoesOn first now all × (after ≡ before + all))
     → EndsOn first now.journal before after
 ends_now first now before after grown = ends_at first now now.journal grown.0 before after grown.1 (begins_with_itself now.journal) grown.2
 
--- The journal to which runs led has all changes that they reported, and no others.
+-- The journal to which runs lead has positions for exactly the changes that they reported.
 pub holds_now : (first now : TableModel) (before after : ℕ) → ((all : ℕ) × GoesOn first now all × (after ≡ before + all))
     → HoldsJust first.journal now.journal before after
 holds_now first now before after grown = holds_just first now now.journal grown.0 before after grown.1 refl grown.2
 
--- A run is a run.
+-- A run, as it returns, is a returned run with its last journal and outcomes.
 pub term_of : (opening last : TableModel) (told : List (Option (List Event))) (served : List ServedView)
     → IsRun opening.journal last.journal opening.stopped last.stopped told served → IsReturnedRunOf opening last served
 term_of opening last told served run = (positions_on run.connections, record { told = told; run = run; positions = refl })

@@ -1,4 +1,4 @@
--- What the walks of `src/tally.rt` share.
+-- What the proofs of `src/tally.rt` share.
 pub use Rattle.std.proofs.Common.{List, [], ◌∷◌, ◌++◌, refl}
 pub use Rattle.std.proofs.raw_atomic.Walks.{proved_at}
 pub use Rattle.bytes.proofs.Walks.{none, none_made}

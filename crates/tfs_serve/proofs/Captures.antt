@@ -1,4 +1,4 @@
--- What a closure borrows may be used by several threads: then so may the closure.
+-- Lemmas: a closure may be used by several threads if all that it borrows may be.
 use mathlib.Core.List.{List, [], ◌∷◌}
 use mir.Syntax.{Sym}
 use denote.RattleType.{RattleType}

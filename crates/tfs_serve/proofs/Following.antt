@@ -1,4 +1,4 @@
--- All replies of a run follow one journal.
+-- Lemmas: all replies of a run follow one journal.
 use Rattle.std.proofs.Common.{◌≡◌, ◌⊎◌, ◌+◌, ◌<◌, Bool, true, false, Option, None, ℕ, suc, List, length, get_or, sum_by, All, [], ◌∷◌, ◌++◌, refl, sym, ◌∙◌, ap, inl, inr, arith}
 use Rattle.std.specs.List.{flat_map}
 use Rattle.std.proofs.lemmas.Grind.{flat_map-append}
@@ -15,11 +15,11 @@ use Rattle.tfs_serve.specs.Told.{position_told, positions_told, times}
 use Rattle.tfs_serve.specs.Working.{Answer}
 use Rattle.tfs_serve.specs.Gate.{Event}
 
--- A reply follows the last journal, or is `NoCopy`.
+-- The reply follows the last journal, or is `NoCopy`.
 abbrev pub Follows : Journal → Answer → Type 0
 Follows last a = (a.reply ≡ refused no_copy) ⊎ FollowsJournal last a
 
--- One reply in turn follows.
+-- The reply of a worker follows the last journal, or is `NoCopy`.
 follows : (opening last seen next : Journal) (a : Answer) → Replies opening last seen a next → Follows last a
 follows opening last seen next a (inl none) = inl none.0
 follows opening last seen next a (inr over) = inr (record {
@@ -30,20 +30,20 @@ follows opening last seen next a (inr over) = inr (record {
   answer = over.answer;
 })
 
--- So do replies in turn.
+-- All replies of a worker in order follow the last journal, or are `NoCopy`.
 all_follow : (opening last seen end : Journal) (answers : List Answer) → RepliesInTurn opening last seen answers end → All (Follows last) answers
 all_follow opening last seen end [] replies = All-nil (Follows last)
 all_follow opening last seen end (a ∷ more) replies =
     All-cons (Follows last) a more (follows opening last seen replies.0 a replies.1) (all_follow opening last replies.0 end more replies.2)
 
--- What holds of the elements of each list holds of all.
+-- What holds of all elements of each list holds of all elements of their concatenation.
 all_of_each : {X Y : Type 0} (P : Y → Type 0) (f : X → List Y) (d : X) (xs : List X) → ((i : ℕ) → i < length xs → All P (f (get_or xs i d)))
     → All P (flat_map f xs)
 all_of_each P f d [] each = All-nil P
 all_of_each P f d (x ∷ xs) each =
     All-append P (f x) (flat_map f xs) (each 0 (omega arith)) (all_of_each P f d xs (λ i inside. each (suc i) (omega (arith, inside))))
 
--- The positions that all tell are those of each list.
+-- The positions that all connections report are those of each connection, concatenated.
 positions_of_all : (connections : List (List (List Answer)))
     → positions_told (flat_map answers_on connections) ≡ flat_map (λ (c : List (List Answer)). positions_told (answers_on c)) connections
 positions_of_all [] = refl
@@ -51,7 +51,7 @@ positions_of_all (c ∷ connections) =
     flat_map-append (λ (a : Answer). position_told a.reply) (answers_on c) (flat_map answers_on connections)
     ∙ ap (λ (l : List ℕ). positions_told (answers_on c) ++ l) (positions_of_all connections)
 
--- The faults that all report are those of each list.
+-- The number of faults that all connections report is the sum of the numbers for each.
 faults_of_lists : (connections : List (List (List Answer)))
     → faults_in (flat_map answers_on connections) ≡ sum_by (λ (c : List (List Answer)). faults_in (answers_on c)) connections
 faults_of_lists [] = refl
@@ -65,7 +65,7 @@ faults_of_lists (c ∷ connections) =
           (λ (d : List (List Answer)). faults_in (answers_on d)) c connections,
     )
 
--- A run follows one journal.
+-- All replies of a run follow one journal.
 pub run_follows : (opening last : Journal) (was is : Bool) (told : List (Option (List Event))) (served : List ServedView)
     (run : IsRun opening last was is told served) → FollowOneJournal opening last was is (flat_map answers_on run.connections)
 run_follows opening last was is told served run = record {

@@ -1,4 +1,4 @@
--- Sessions go on.
+-- Lemmas: sessions advance.
 use Rattle.std.proofs.Common.{◌≡◌, ◌⊎◌, ℕ, arith, List, [], ◌∷◌, Option, Some, None, if◌then◌else◌, is_some}
 use Rattle.std.proofs.Common.{refl, sym, ap, subst, inl, inr}
 use Rattle.std.specs.Option.{option_map_or}
@@ -17,22 +17,22 @@ use Rattle.tfs_calls.specs.Refusal.{no_copy}
 use Rattle.tfs_calls.specs.Reply.{refused}
 use Rattle.tfs_serve.specs.Session.{LacksCopy, AnswersOver, SessionStep, IsLater}
 
--- A session that stays has gone on.
+-- A session that doesn't change has advanced.
 pub later_itself : (v : SessionView) → IsLater v v
 later_itself v = record { seen = begins_with_itself v.journal; accepted = omega arith }
 
--- Going on twice is going on.
+-- If a session has advanced twice, it has advanced.
 pub later_then : (a b c : SessionView) → IsLater a b → IsLater b c → IsLater a c
 later_then a b c p q = record {
   seen = begins_with_earlier c.journal b.journal a.journal q.seen p.seen;
   accepted = omega (arith, p.accepted, q.accepted);
 }
 
--- A journal that is another has what begins the other.
+-- A journal begins with itself.
 pub begins_as : (j k : Journal) → k ≡ j → BeginsWith k j
 begins_as j k is = subst (λ (l : Journal). BeginsWith l j) (sym is) (begins_with_itself j)
 
--- The journal after an act begins with that before it.
+-- The journal after an act begins with the one before it.
 begins_after_act : (m : TableModel) (name : List ℕ) (act : ActValue) → BeginsWith (journal_after_act m name act) m.journal
 begins_after_act m name act = by (act_refusal m name act)
   where
@@ -40,7 +40,7 @@ begins_after_act m name act = by (act_refusal m name act)
     by (Some refusal) = begins_with_itself m.journal
     by None = record { base = refl; entries = (record { name = name; act = act } ∷ [], refl) }
 
--- The journal after a call begins with that before it.
+-- The journal after a call begins with the one before it.
 begins_after : (m : TableModel) (call : Call) → BeginsWith (journal_after m call) m.journal
 begins_after m (Read name) = begins_with_itself m.journal
 begins_after m (Impact name query) = begins_with_itself m.journal
@@ -50,7 +50,7 @@ begins_after m (Change name raw) = by (act_of raw)
     by (Some act) = begins_after_act m name act
     by None = begins_with_itself m.journal
 
--- What the transition leaves begins with what was there.
+-- The journal after a transition begins with the one before it.
 pub begins_answered : (m n : TableModel) (call : Call) (reply : ReplyValue) → Answers m call reply n → BeginsWith n.journal m.journal
 begins_answered m n call reply (inl (inl a)) =
     subst (λ (j : Journal). BeginsWith j m.journal) (sym (ap (λ (t : TableModel). t.journal) a.1)) (begins_after m call)
@@ -59,7 +59,8 @@ begins_answered m n (Read name) reply (inr a) = absurd a
 begins_answered m n (Impact name query) reply (inr a) = absurd a
 begins_answered m n (Change name raw) reply (inr a) = begins_as m.journal n.journal (ap (λ (t : TableModel). t.journal) a.2.2)
 
--- Where no copy is to be had, that is the reply, and the session has seen and changed no more.
+-- If a session lacks a copy, the reply is `NoCopy`, and what it has seen and its count don't
+-- change.
 pub lacks_copy : (opening : Journal) (old new : SessionView) (call : Call) (reply : ReplyValue) → LacksCopy opening old call reply new
     → (reply ≡ refused no_copy) × (new.journal ≡ old.journal) × (new.accepted ≡ old.accepted)
 lacks_copy opening old new (Read name) reply lacks =
@@ -69,7 +70,7 @@ lacks_copy opening old new (Change name raw) reply lacks =
 lacks_copy opening old new (Impact name query) reply lacks =
     (lacks.0, ap (λ (v : SessionView). v.journal) lacks.1, ap (λ (v : SessionView). v.accepted) lacks.1)
 
--- A step of a session goes on.
+-- A session has advanced after a step.
 pub step_later : (opening : Journal) (old new : SessionView) (call : Call) (reply : ReplyValue) → SessionStep opening old call reply new
     → IsLater old new
 step_later opening old new call reply step = by step.1

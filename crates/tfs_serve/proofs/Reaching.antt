@@ -1,15 +1,15 @@
--- What each step of a desk keeps to, a whole conversation keeps to.
+-- Lemmas: a relation that each step of a desk keeps, a conversation keeps.
 use Rattle.std.proofs.Common.{◌≡◌, List, ℕ, [], ◌∷◌, sym, subst, inl, inr}
 use Rattle.tfs_calls.specs.declared.call.Call.{Call}
 use Rattle.tfs_calls.specs.Reply.{ReplyValue}
 use Rattle.tfs_conversation.specs.Conversation.{AnswersRequest, Exchange, Runs, HasTalked}
 use Rattle.tfs_conversation.proofs.StepLemmas.{runs_keep, talked_run}
 
--- A relation that each step keeps to, where nothing done and one after another keep to it too.
+-- A reflexive and transitive relation that each step keeps.
 module _ {S : Type 0} (step : S → Call → ReplyValue → S → Type 0) (reaches : S → S → Type 0) (itself : (s : S) → reaches s s)
     (then : (a b c : S) → reaches a b → reaches b c → reaches a c)
     (steps : (old new : S) (call : Call) (reply : ReplyValue) → step old call reply new → reaches old new) where
-  -- Exchanges in turn keep to it.
+  -- Exchanges in order keep the relation.
   runs_reach : (old new : S) (xs : List Exchange) → Runs step old xs new → reaches old new
   runs_reach old new [] run = subst (λ (t : S). reaches old t) (sym run) (itself old)
   runs_reach old new (x ∷ xs) run = then old run.0 new (between run.1) (runs_reach run.0 new xs run.2)
@@ -19,11 +19,11 @@ module _ {S : Type 0} (step : S → Call → ReplyValue → S → Type 0) (reach
       between (inr (inl a)) = subst (λ (t : S). reaches old t) (sym a.1) (itself old)
       between (inr (inr a)) = steps old run.0 a.0 x.reply a.2
 
-  -- A conversation keeps to it.
+  -- A conversation keeps the relation.
   pub talk_reaches : (old new : S) (text : List ℕ) → HasTalked step old new text → reaches old new
   talk_reaches old new text talk = let run = talked_run step old new text talk in runs_reach old new run.0 run.1
 
--- What each step of a desk keeps, a conversation keeps.
+-- What no step of a desk changes, a conversation doesn't change.
 pub talk_keeps : {S U : Type 0} (step : S → Call → ReplyValue → S → Type 0) (part : S → U)
     → ((old new : S) (call : Call) (reply : ReplyValue) → step old call reply new → part new ≡ part old)
     → (old new : S) (text : List ℕ) → HasTalked step old new text → part new ≡ part old

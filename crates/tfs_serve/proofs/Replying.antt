@@ -1,4 +1,4 @@
--- Sessions that answer, over the journal that a run leaves.
+-- Lemmas about the answers of sessions, over the journal that a run leaves.
 use Rattle.std.proofs.Common.{◌≡◌, ◌⊎◌, ◌+◌, ℕ, Bool, is_some, List, [], ◌∷◌, ◌++◌, Option, refl, sym, ap, subst, inl, inr, arith, append_assoc, append-nil}
 use Rattle.std.specs.List.{flat_map}
 use Rattle.std.proofs.lemmas.List.Sums.{sum_by-append}
@@ -31,20 +31,20 @@ lawful_front base front (e ∷ rest) lawful =
     (lawful_less (record { base = base; entries = front }) e (lawful_front base (front ++ e ∷ []) rest
     (subst (λ (es : List EntryValue). IsLawful (record { base = base; entries = es })) (sym (append_assoc front (e ∷ []) rest)) lawful))).0
 
--- What begins a lawful journal is lawful.
+-- A beginning of a lawful journal is lawful.
 pub lawful_beginning : (last j : Journal) → IsLawful last → BeginsWith last j → IsLawful j
 lawful_beginning last j lawful begins = lawful_front j.base j.entries begins.entries.0 (subst (λ (es : List EntryValue). IsLawful (record {
   base = j.base;
   entries = es;
 })) (sym begins.entries.1) (subst (λ (b : BaseValue). IsLawful (record { base = b; entries = last.entries })) begins.base lawful))
 
--- A session that has given answers has gone on.
+-- A session has advanced after giving answers.
 gives_later : (opening : Journal) (old new : SessionView) (answers : List Answer) → Gives opening old answers new → IsLater old new
 gives_later opening old new [] gives = subst (λ (v : SessionView). IsLater old v) (sym gives) (later_itself old)
 gives_later opening old new (a ∷ more) gives =
     later_then old gives.0 new (step_later opening old gives.0 a.call a.reply gives.1) (gives_later opening gives.0 new more gives.2)
 
--- Why a session lacks a copy.
+-- A session lacks a copy only for a call that `NoCopy` may refuse.
 lacks_by : (opening : Journal) (old new : SessionView) (call : Call) (reply : ReplyValue) → LacksCopy opening old call reply new
     → MayLackCopy opening old.journal call
 lacks_by opening old new (Read name) reply lacks =
@@ -53,7 +53,8 @@ lacks_by opening old new (Change name raw) reply lacks =
     let lower = lacks.ahead.lower in omega (arith, lower, begins_lower lacks.ahead.journal opening lacks.ahead.begins)
 lacks_by opening old new (Impact name query) reply lacks = tt
 
--- A step of a session that has seen no more than the last journal is a reply over it.
+-- A step of a session gives a reply over the last journal, if this begins with all that the session
+-- has seen.
 step_replies : (opening last : Journal) (old new : SessionView) (a : Answer) → IsLawful last → BeginsWith last new.journal
     → SessionStep opening old a.call a.reply new → Replies opening last old.journal a new.journal
 step_replies opening last old new a lawful stands step = by step.1
@@ -77,7 +78,7 @@ step_replies opening last old new a lawful stands step = by step.1
       is_lawful = lawful_beginning last new.journal lawful stands;
     })
 
--- Answers of a session are replies in turn.
+-- The answers of a session are replies in order over the last journal.
 gives_replies : (opening last : Journal) (old new : SessionView) (answers : List Answer) → IsLawful last → BeginsWith last new.journal
     → Gives opening old answers new → RepliesInTurn opening last old.journal answers new.journal
 gives_replies opening last old new [] lawful stands gives = ap (λ (v : SessionView). v.journal) gives
@@ -88,7 +89,7 @@ gives_replies opening last old new (a ∷ more) lawful stands gives =
       gives_replies opening last gives.0 new more lawful stands gives.2,
     )
 
--- What a step counts.
+-- A step adds 1 to the session's accepted changes if the reply reports one as accepted.
 step_counts : (opening : Journal) (old new : SessionView) (a : Answer) → SessionStep opening old a.call a.reply new
     → new.accepted ≡ old.accepted + accepted_by a.reply
 step_counts opening old new a step = by step.1
@@ -101,7 +102,7 @@ step_counts opening old new a step = by step.1
         omega (arith, same, nothing)
     by (inr over) = over.accepted
 
--- Answers count the changes that they tell as accepted.
+-- Answers add as many accepted changes to the session as they report.
 gives_counts : (opening : Journal) (old new : SessionView) (answers : List Answer) → Gives opening old answers new
     → new.accepted ≡ old.accepted + accepted_in answers
 gives_counts opening old new [] gives = let same = ap (λ (v : SessionView). v.accepted) gives in omega (arith, same)
@@ -111,7 +112,7 @@ gives_counts opening old new (a ∷ more) gives =
     let parts = sum_by-append (λ (b : Answer). accepted_by b.reply) (a ∷ []) more in
     omega (arith, one, rest, parts)
 
--- Answers on connections are answers.
+-- The answers on all connections are answers of the session, in order.
 gives_all : (opening : Journal) (old new : SessionView) (connections : List (List Answer)) → GivesOn opening old connections new
     → Gives opening old (flat_map (λ (answers : List Answer). answers) connections) new
 gives_all opening old new [] gives = gives
@@ -119,12 +120,13 @@ gives_all opening old new (answers ∷ connections) gives =
     gives_then opening old gives.0 new answers (flat_map (λ (x : List Answer). x) connections) gives.1
     (gives_all opening gives.0 new connections gives.2)
 
--- All that a session has answered on connections, one after another.
+-- A session that has worked gives its answers on all connections, in order.
 pub all_given : (opening : Journal) (told now : Option (List Event)) (old new : SessionView) (end : List Event)
     → (worked : HasWorked opening told now old new end) → Gives opening old (answers_on worked.connections) new
 all_given opening told now old new end worked = gives_all opening old new worked.connections worked.gives
 
--- A new session that has worked and has seen no more than the last journal has served.
+-- If a new session has worked, and the last journal begins with all that it has seen, its worker
+-- has served.
 pub served : (opening last : Journal) (told now : Option (List Event)) (was : Bool) (number : ℕ) (new : SessionView) (fault : Option AcceptFault)
     (written : List (List ℕ)) → IsLawful last → BeginsWith last new.journal → IsCaused fault
     → (worked : HasWorked opening told now (new_session opening was number) new (end_of_work (is_some fault)))

@@ -1,4 +1,4 @@
--- Sessions that have made no calls.
+-- Lemmas about sessions that have made no calls.
 use Rattle.std.proofs.Common.{◌≡◌, ◌+◌, ◌<◌, ◌↔◌, ℕ, suc, nat_lt, Bool, true, false, if◌then◌else◌, List, [], ◌∷◌, ◌++◌, length, get_or, sum_by, All, Any, refl, sym, ◌∙◌, ap, arith, append-nil, length-append}
 use Rattle.std.proofs.lemmas.Bool.Decides.{nat_tests}
 use Rattle.std.proofs.lemmas.List.{nil_from_length, length_push, get_or_append_left, get_or_push}
@@ -10,16 +10,16 @@ use Rattle.tfs_shared.specs.Locked.{IsAhead}
 use Rattle.tfs_shared.specs.declared.gathering.Lack.{Lack}
 use Rattle.tfs_shared.specs.declared.gathering.Lack.TheVariants.{Missing, NoCopy}
 
--- A session of some number that has seen a journal, and made no changes.
+-- The session, of any number, has seen this journal and made no changes.
 abbrev pub IsNew : Journal → SessionView → Type 0
 IsNew j s = (stopped : Bool) × (number : ℕ) × (s ≡ new_session j stopped number)
 
--- New sessions are such sessions.
+-- New sessions have seen the opening journal and made no changes.
 pub all_new : (opening : Journal) (stopped : Bool) (number : ℕ) (sessions : List SessionView) → AreNew opening stopped number sessions
     → All (IsNew opening) sessions
 all_new opening stopped number sessions new k d within = (stopped, k, new.each k d (omega (arith, within, new.many)))
 
--- Without the last one they are new sessions too, and the last one has the last number.
+-- Without the last one, new sessions are new, and the last one has the highest number.
 pub without_last : (opening : Journal) (stopped : Bool) (number : ℕ) (sessions ys : List SessionView) (x : SessionView)
     → AreNew opening stopped number sessions → sessions ≡ ys ++ x ∷ []
     → AreNew opening stopped (length ys) ys × (x ≡ new_session opening stopped (length ys)) × (number ≡ length ys + 1)
@@ -38,12 +38,12 @@ without_last opening stopped number sessions ys x new is = (
     all : number ≡ length ys + 1
     all = sym new.many ∙ ap length is ∙ length_push ys x
 
--- What has sessions that are new, with the last number first.
+-- The sessions of these elements are new, with the highest number first.
 abbrev pub HaveNumbers : {W : Type 0} → (W → SessionView) → Journal → Bool → ℕ → List W → Type 0
 HaveNumbers {W} session opening stopped all ws = (i : ℕ) (d : W) → i < length ws
     → (number : ℕ) × (number + i + 1 ≡ all) × (session (get_or ws i d) ≡ new_session opening stopped number)
 
--- One more of these.
+-- Appending an element whose session has the next lower number keeps this order.
 pub numbers_more : {W : Type 0} (session : W → SessionView) (opening : Journal) (stopped : Bool) (all : ℕ) (ws : List W) (w : W) (number : ℕ)
     → HaveNumbers session opening stopped all ws → session w ≡ new_session opening stopped number → number + length ws + 1 ≡ all
     → HaveNumbers session opening stopped all (ws ++ w ∷ [])
@@ -68,7 +68,7 @@ none_accepted j (s ∷ rest) new =
     let parts = sum_by-append (λ (v : SessionView). v.accepted) (s ∷ []) rest in
     omega (arith, first, others, parts)
 
--- A journal that begins with another one, and isn't longer, is that one.
+-- A journal that begins with another one of the same length is equal to it.
 begins_whole : (j k : Journal) → BeginsWith j k → length j.entries ≡ length k.entries → j ≡ k
 begins_whole j k begins same =
     let none : begins.entries.0 ≡ [] = nil_from_length begins.entries.0
@@ -77,13 +77,14 @@ begins_whole j k begins same =
     ∙ ap (λ (es : List EntryValue). record { base = k.base; entries = es })
     (sym begins.entries.1 ∙ ap (λ (es : List EntryValue). k.entries ++ es) none ∙ append-nil k.entries)
 
--- The table of new sessions has the opening journal.
+-- If all sessions are new, the last journal is the opening one.
 pub taken_back : (opening last : Journal) (sessions : List SessionView) → All (IsNew opening) sessions → BeginsWith last opening
     → length last.entries ≡ length opening.entries + sum_by (λ (s : SessionView). s.accepted) sessions → last ≡ opening
 taken_back opening last sessions new begins counted =
     begins_whole last opening begins (omega (arith, counted, none_accepted opening sessions new))
 
--- No new session keeps a table from being gathered where all are there.
+-- If all sessions are given back and are new, gathering the table lacks no session and is not
+-- refused with `NoCopy`.
 pub no_strangers : (opening : Journal) (sessions : List SessionView) (number : ℕ) (why : Lack) → length sessions ≡ number
     → All (IsNew opening) sessions → ((why ≡ Missing) ↔ (length sessions < number)) → (why ≡ NoCopy → Any (IsAhead opening) sessions) → ⊥
 no_strangers opening sessions number Missing all new missing ahead = let fewer = missing.0 refl in omega (arith, fewer, all)
@@ -96,7 +97,7 @@ no_strangers opening sessions number NoCopy all new missing ahead =
     let lower = one.4.lower in
     omega (arith, seen, base, entries, lower, length-append opening.entries one.4.begins.entries.0)
 
--- What was pushed stands at the end.
+-- If pushing an element succeeded, the list ends with it.
 pub pushed : {X R : Type 0} (result : R) (ok : R → Bool) (items xs : List X) (x : X) → items ≡ (if ok result then xs ++ x ∷ [] else xs)
     → ok result ≡ true → items ≡ xs ++ x ∷ []
 pushed result ok items xs x is well = is ∙ ap (λ (b : Bool). if b then xs ++ x ∷ [] else xs) well

@@ -1,4 +1,4 @@
--- A whole run, from what its workers did.
+-- Lemmas: the outcome of a run, from what its workers did.
 use Rattle.std.proofs.Common.{◌≡◌, ◌+◌, ◌<◌, ◌≤◌, ℕ, zero, suc, Bool, true, is_some, List, length, map, get_or, sum_by, All, [], ◌∷◌, Option, refl, sym, ◌∙◌, ap, subst, arith, length-append}
 use Rattle.std.specs.List.{flat_map}
 use Rattle.std.proofs.lemmas.List.{length-map, get_or-map}
@@ -22,14 +22,14 @@ use Rattle.tfs_serve.proofs.Stopping.{HasReported, faults_of_all, gives_reports,
 use Rattle.tfs_serve.proofs.Tallying.{Tells, gives_tells, as_many_told}
 use Rattle.tfs_serve.proofs.Telling.{IsMadeAt, TellApart, TellsAlone, made_later, tell_apart, each_once}
 
--- Sums over what is made of elements.
+-- A sum over mapped elements is the sum of the function after the map.
 sum_made : {W V : Type 0} (made : W → V) (f : V → ℕ) (xs : List W) → sum_by f (map made xs) ≡ sum_by (λ (w : W). f (made w)) xs
 sum_made made f [] = refl
 sum_made {W} made f (x ∷ xs) =
     let rest = sum_made made f xs in
     omega (arith, rest, sum_by-cons f (made x) (map made xs), sum_by-cons (λ (w : W). f (made w)) x xs)
 
--- Sums over lists whose elements count as much at each place.
+-- Two sums are equal if the lists have the same length and equal summands at each place.
 sums_even : {A B : Type 0} (f : A → ℕ) (g : B → ℕ) (xs : List A) (ys : List B) → length xs ≡ length ys
     → ((i : ℕ) (d : A) (e : B) → i < length xs → f (get_or xs i d) ≡ g (get_or ys i e)) → sum_by f xs ≡ sum_by g ys
 sums_even f g [] [] even same = refl
@@ -40,7 +40,7 @@ sums_even f g (x ∷ xs) (y ∷ ys) even same =
     let rest = sums_even f g xs ys (omega (arith, even)) (λ i d e inside. same (suc i) d e (omega (arith, inside))) in
     omega (arith, first, rest, sum_by-cons f x xs, sum_by-cons g y ys)
 
--- As many numbers as the lists of elements have.
+-- The length of concatenated lists is the sum of their lengths.
 length_all : {X : Type 0} (tell : X → List ℕ) (count : X → ℕ) (xs : List X) → ((x : X) → length (tell x) ≡ count x)
     → length (flat_map tell xs) ≡ sum_by count xs
 length_all tell count [] same = refl
@@ -48,7 +48,7 @@ length_all tell count (x ∷ xs) same =
     let rest = length_all tell count xs same in
     omega (arith, rest, same x, length-append (tell x) (flat_map tell xs), sum_by-cons count x xs)
 
--- What there is for the first number, and for those behind it.
+-- Values for the number 0 and for the numbers from 1 to `n` make a list of `n + 1` values.
 chosen_more : {X : Type 0} (Q : ℕ → X → Type 0) (n : ℕ) → ((x : X) × Q 0 x)
     → ((xs : List X) × (length xs ≡ n) × ((i : ℕ) (d : X) → i < n → Q (suc i) (get_or xs i d)))
     → (xs : List X) × (length xs ≡ suc n) × ((i : ℕ) (d : X) → i < suc n → Q i (get_or xs i d))
@@ -58,18 +58,18 @@ chosen_more {X} Q n first rest = (first.0 ∷ rest.0, ap suc rest.1, at)
     at zero d inside = first.1
     at (suc i) d inside = rest.2 i d (omega (arith, inside))
 
--- What there is for each number makes a list.
+-- Values for each number below `n` make a list of `n` values.
 chosen : {X : Type 0} (Q : ℕ → X → Type 0) (n : ℕ) → ((i : ℕ) → i < n → (x : X) × Q i x)
     → (xs : List X) × (length xs ≡ n) × ((i : ℕ) (d : X) → i < n → Q i (get_or xs i d))
 chosen Q zero one = ([], refl, λ i d inside. absurd (omega (arith, inside)))
 chosen {X} Q (suc n) one =
     chosen_more Q n (one 0 (omega arith)) (chosen (λ (i : ℕ) (x : X). Q (suc i) x) n (λ i inside. one (suc i) (omega (arith, inside))))
 
--- The positions that a worker tells on its connections.
+-- The positions that a worker reports on its connections.
 abbrev told_on : List (List Answer) → List ℕ
 told_on connections = positions_told (answers_on connections)
 
--- What is left of a worker.
+-- The view of a worker's outcome.
 abbrev pub left_of : {W : Type 0} → (W → Option (List Event)) → (W → SessionView) → (W → Option AcceptFault) → (W → List (List ℕ)) → W → ServedView
 left_of told session fault written w = record {
   told = told w;
@@ -80,14 +80,14 @@ left_of told session fault written w = record {
   written = written w;
 }
 
--- Workers that began with new sessions, numbered down to the first, and have worked.
+-- Workers that began with new sessions, numbered down to 0, and have worked.
 module _ {W : Type 0} (told : W → Option (List Event)) (session : W → SessionView) (fault : W → Option AcceptFault) (written : W → List (List ℕ))
     (opening last : Journal) (was is : Bool) (old new : List W)
   where
     abbrev left : W → ServedView
     left = left_of told session fault written
 
-    -- What a worker did, with its number.
+    -- A worker has served these connections, with its number: its position in the list.
     pub record HasServed (d : W) (i : ℕ) (connections : List (List Answer)) : Type 0 where
       pub served : IsServed opening last connections (told (get_or old i d)) (left (get_or new i d))
       pub number : ℕ
@@ -107,12 +107,13 @@ module _ {W : Type 0} (told : W → Option (List Event)) (session : W → Sessio
     abbrev pub AreCaused : Type 0
     AreCaused = (i : ℕ) (d : W) → i < length old → IsCaused (fault (get_or new i d))
 
-    -- The table is stopped by the faults of sessions, and if one has reported so.
+    -- The table is stopped at the end (`is`) if and only if exactly one session has the fault;
+    -- otherwise none has. It is stopped if any session has reported so.
     abbrev pub HasStopped : Type 0
     HasStopped = (sum_by (λ (s : SessionView). as_number s.faulted) (map session new) ≡ as_number is)
         × All (λ (s : SessionView). s.stopped ≡ true → is ≡ true) (map session new)
 
-    -- One worker.
+    -- A worker has served its connections.
     one_served : IsLawful last → AreNumbered → AreCaused → WorkedEach → length new ≡ length old
         → All (λ (s : SessionView). BeginsWith last s.journal) (map session new)
         → (d : W) (i : ℕ) → i < length old → (connections : List (List Answer)) × HasServed d i connections
@@ -140,7 +141,7 @@ module _ {W : Type 0} (told : W → Option (List Event)) (session : W → Sessio
           },
         )
 
-    -- What a worker tells, it made.
+    -- A worker reports only positions whose changes its own session made.
     tells_alone : (makers : List ℕ) → All (λ (s : SessionView). IsPrefix s.makers makers) (map session new) → length new ≡ length old
         → (d : W) (i : ℕ) (connections : List (List Answer)) → i < length old → HasServed d i connections
         → TellsAlone opening makers i (length old) (told_on connections)
@@ -160,7 +161,7 @@ module _ {W : Type 0} (told : W → Option (List Event)) (session : W → Sessio
         early = subst (λ (s : SessionView). IsPrefix s.makers makers) (get_or-map session new i d (session d) in_new)
             (seen i (session d) (omega (arith, in_new, length-map new session)))
 
-    -- A position at which a change was made is one beyond the opening one.
+    -- The position of a change made in the run is beyond the opening one, and at most the last one.
     made_within : (makers : List ℕ) (p m : ℕ) → IsMadeAt opening makers p m → (position_of opening < p) × (p ≤ position_of opening + length makers)
     made_within makers p m made =
         let at = made.position_is in
@@ -168,7 +169,7 @@ module _ {W : Type 0} (told : W → Option (List Event)) (session : W → Sessio
         let more = length-append made.front (m ∷ made.rest) in
         (omega (arith, at), omega (arith, at, parts, more))
 
-    -- The run.
+    -- What the workers did is a run from the opening journal to the last one.
     pub is_run : IsLawful last → BeginsWith last opening → AreNumbered → AreCaused → WorkedEach → length new ≡ length old
         → All (λ (s : SessionView). BeginsWith last s.journal) (map session new) → AreSigned opening last (map session new)
         → length last.entries ≡ length opening.entries + sum_by (λ (s : SessionView). s.accepted) (map session new)
@@ -245,17 +246,17 @@ module _ {W : Type 0} (told : W → Option (List Event)) (session : W → Sessio
             let end = signed.counted in
             omega (arith, base, grows, counted, told_count, end)
 
--- What is made of what was made.
+-- Mapping twice is mapping the composition.
 map_made : {W V U : Type 0} (made : W → V) (f : V → U) (xs : List W) → map f (map made xs) ≡ map (λ (w : W). f (made w)) xs
 map_made made f [] = refl
 map_made made f (x ∷ xs) = ap (λ l. f (made x) ∷ l) (map_made made f xs)
 
--- What is made alike of elements.
+-- Mapping two functions that agree on all elements gives equal lists.
 map_alike : {W U : Type 0} (f g : W → U) (xs : List W) → ((w : W) → f w ≡ g w) → map f xs ≡ map g xs
 map_alike f g [] same = refl
 map_alike f g (x ∷ xs) same = ap (λ u. u ∷ map f xs) (same x) ∙ ap (λ l. g x ∷ l) (map_alike f g xs same)
 
--- The run of workers for gates.
+-- The workers of gates make a run, with the outcomes that the call returns.
 pub run_of : {W G V : Type 0} (gate : W → G) (told : G → Option (List Event)) (session : W → SessionView) (fault : W → Option AcceptFault)
     (written : W → List (List ℕ)) (made : W → V) (view : V → ServedView) (opening last : Journal) (was is : Bool) (gates : List G) (old new : List W)
     (all : List V)

@@ -1,4 +1,4 @@
--- Accepted changes stand in the last journal.
+-- Lemmas: accepted changes are in the last journal.
 use Rattle.std.proofs.Common.{◌≡◌, ◌+◌, ℕ, List, [], ◌∷◌, Option, Some, None, refl, sym, ◌∙◌, ap, subst, inl, inr, arith, append_assoc}
 use Rattle.std.specs.Option.{option_map_or}
 use Rattle.std.proofs.lemmas.List.Elements.{All-nil, All-cons}
@@ -20,16 +20,16 @@ use Rattle.tfs_serve.specs.Serving.{Replies, RepliesInTurn}
 use Rattle.tfs_serve.specs.Standing.{StandsAt, IsAcceptedAt, AcceptedStand}
 use Rattle.tfs_serve.specs.Working.{Answer}
 
--- A refusal accepts nothing.
+-- A refusal is not an acceptance.
 refuses : (r : RefusalValue) (position : ℕ) → refused r ≡ done position → ⊥
 refuses r position is = cc
 
--- Nor does the answer to a read.
+-- The answer to a read is not an acceptance.
 reads : (o : Option Document) (position : ℕ) → option_map_or state o (refused no_state) ≡ done position → ⊥
 reads None position is = cc
 reads (Some d) position is = cc
 
--- Nor that to a query.
+-- The answer to a query is not an acceptance.
 asks : (j : Journal) (query : Query) (o : Option Document) (position : ℕ)
     → option_map_or (query_answer j query) o (refused no_state) ≡ done position → ⊥
 asks j query None position is = cc
@@ -39,7 +39,8 @@ asks j query (Some d) position is = by (query_refusal d query) is
     by None e = cc
     by (Some r) e = cc
 
--- A last journal that begins with one after an entry has the entry at that position.
+-- If a journal begins with another one and an entry, it has the entry at the position after the
+-- other's.
 stands_at : (last j : Journal) (e : EntryValue) → BeginsWith last (with_entry j e) → StandsAt last e (position_of j + 1)
 stands_at last j e begins =
     let base = ap (λ (b : BaseValue). b.position) begins.base in
@@ -50,7 +51,7 @@ stands_at last j e begins =
       position_is = omega (arith, base);
     }
 
--- An accepted change stands there.
+-- An accepted change is in the last journal at the reported position.
 changes : (last next : Journal) (m : TableModel) (name : List ℕ) (raw : Raw) (position : ℕ) (o : Option ActValue) → act_of raw ≡ o
     → option_map_or (act_answer m name) o (refused (draft_refusal raw)) ≡ done position
     → option_map_or (journal_after_act m name) o m.journal ≡ next → BeginsWith last next → IsAcceptedAt last (Change name raw) position
@@ -74,7 +75,7 @@ changes last next m name raw position (Some act) asked is leaves begins = by (ac
               (stands_at last m.journal (record { name = name; act = act }) (subst (BeginsWith last) (sym entered) begins));
         }
 
--- A reply that accepts tells where its change stands.
+-- If a reply reports acceptance, the change is in the last journal at the reported position.
 accepts : (last next : Journal) (m n : TableModel) (call : Call) (reply : ReplyValue) (position : ℕ) → Answers m call reply n
     → n.journal ≡ next → BeginsWith last next → reply ≡ done position → IsAcceptedAt last call position
 accepts last next m n (Read name) reply position (inl (inl gives)) leaves begins is =
@@ -90,14 +91,14 @@ accepts last next m n (Impact name query) reply position (inr faults) leaves beg
 accepts last next m n (Change name raw) reply position (inr faults) leaves begins is =
     absurd (refuses journal_fault position (sym faults.2.1 ∙ is))
 
--- One reply in turn.
+-- The previous lemma for the reply of a worker.
 accepts_one : (opening last seen next : Journal) (a : Answer) (position : ℕ) → Replies opening last seen a next → a.reply ≡ done position
     → IsAcceptedAt last a.call position
 accepts_one opening last seen next a position (inl none) is = absurd (refuses no_copy position (sym none.0 ∙ is))
 accepts_one opening last seen next a position (inr over) is =
     accepts last next over.before over.after a.call a.reply position over.answer over.leaves over.stands is
 
--- Each accepted change of replies in turn stands in the last journal.
+-- Each accepted change of a worker is in the last journal at the reported position.
 pub accepted_stand : (opening last seen end : Journal) (answers : List Answer) → RepliesInTurn opening last seen answers end
     → AcceptedStand last answers
 accepted_stand opening last seen end [] replies = All-nil (λ (a : Answer). (position : ℕ) → a.reply ≡ done position → IsAcceptedAt last a.call position)

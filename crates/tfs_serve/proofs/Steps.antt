@@ -1,4 +1,4 @@
--- The answers of a session are steps of the desk over it.
+-- Lemmas: the answers of a session are steps of the desk over it.
 use Rattle.std.proofs.Common.{◌≡◌, ◌≢◌, ◌+◌, ◌<◌, ◌≤◌, ◌⊎◌, ℕ, length, arith, List, [], ◌∷◌, Option, Some, None, IsSome, refl, sym, ◌∙◌, ap, subst, inl, inr}
 use Rattle.std.specs.Option.{option_map_or}
 use Rattle.tfs_rules.specs.Act.{ActValue}
@@ -22,11 +22,11 @@ use Rattle.tfs_shared.specs.View.{SessionView, CountsStop, missed}
 use Rattle.tfs_published.proofs.Beginnings.{begins_with_itself}
 use Rattle.tfs_serve.specs.Session.{LacksCopy, AnswersOver, KeepsCount, accepted_by}
 
--- A step of a session, but for its count.
+-- A step of a session, without the count.
 abbrev pub Answered : Journal → SessionView → Call → ReplyValue → SessionView → Type 0
 Answered opening old call reply new = LacksCopy opening old call reply new ⊎ AnswersOver old call reply new
 
--- A reply that tells no change keeps count.
+-- A reply that reports no accepted change keeps count.
 pub counts_none : (opening : Journal) (old new : SessionView) (reply : ReplyValue) → IsSigned opening old new [] → makers_told old.number reply ≡ []
     → CountsStop old new reply → KeepsCount opening old reply new
 counts_none opening old new reply signed none stops = record {
@@ -35,7 +35,7 @@ counts_none opening old new reply signed none stops = record {
   stops = stops;
 }
 
--- A change that was accepted keeps count.
+-- A reply that reports an accepted change keeps count.
 pub counts_one : (opening : Journal) (old new : SessionView) (number : ℕ) → IsSigned opening old new (old.number ∷ [])
     → (number ≡ position_of new.journal) × (position_of old.journal < number) → CountsStop old new (done number)
     → KeepsCount opening old (done number) new
@@ -47,7 +47,7 @@ counts_one opening old new number signed at stops = record {
   stops = stops;
 }
 
--- The answer to a query.
+-- The answer to an impact query is a step.
 pub impact_step : (opening : Journal) (old new : SessionView) (name : List ℕ) (query : Query) (reply : ReplyValue)
     → ((m : TableModel) (call : Call) → answer_of m call ≢ refused out_of_memory)
     → ((reply ≡ refused no_copy) × (new ≡ missed old)) ⊎ AnswersImpact new.journal name query reply → BeginsWith new.journal old.journal
@@ -77,7 +77,7 @@ impact_step opening old new name query reply had (inr a) later same none = inr (
     has_state had None (inr is) lacks = absurd (cc (is.1))
     has_state had (Some d) (inr is) lacks = (λ e. cc e, is.2.0, is.2.1)
 
--- The answer to a read.
+-- The answer to a read is a step.
 pub read_step : (opening : Journal) (old new : SessionView) (name : List ℕ) (reply : ReplyValue) → AnswersRead name old new reply
     → new.accepted ≡ old.accepted → accepted_by reply ≡ 0 → Answered opening old (Read name) reply new
 read_step opening old new name reply a same none = inr (record {
@@ -104,14 +104,14 @@ read_step opening old new name reply a same none = inr (record {
     has_state (Some d) (inl is) lacks = λ e. cc e
     has_state o (inr is) lacks = is.1
 
--- The answer to a read that is refused.
+-- The refusal of a read is a step.
 pub refused_read_step : (opening : Journal) (old new : SessionView) (name : List ℕ) (refusal : RefusalValue)
     → HasNoCopy opening old new (refused refusal) ⊎ AnswersRead name old new (refused refusal) → new.accepted ≡ old.accepted
     → Answered opening old (Read name) (refused refusal) new
 refused_read_step opening old new name refusal (inl a) same = inl a
 refused_read_step opening old new name refusal (inr a) same = read_step opening old new name (refused refusal) a same refl
 
--- The answer to a change that can't be read.
+-- The refusal of a change whose body is invalid is a step.
 pub draft_step : (opening : Journal) (v : SessionView) (name : List ℕ) (raw : Raw) (refusal : RefusalValue) → IsLawful v.journal
     → (refusal ≡ out_of_memory) ⊎ ((refusal ≡ draft_refusal raw) × (act_of raw ≡ None)) → (TakesNoMemory raw → refusal ≢ out_of_memory)
     → Answered opening v (Change name raw) (refused refusal) v
@@ -139,7 +139,7 @@ draft_step opening v name raw refusal lawful is never = inr (record {
           (sym none.1) refl,
     ))
 
--- The answer to a change.
+-- The answer to a change is a step.
 pub change_step : (opening : Journal) (old new : SessionView) (name : List ℕ) (raw : Raw) (act : ActValue) (reply : ReplyValue)
     → ((before after : TableModel) → AnswersAct before name act reply after → Answers before (Change name raw) reply after)
     → act_of raw ≡ Some act → HasNoCopy opening old new reply ⊎ AnswersChange name act old new reply

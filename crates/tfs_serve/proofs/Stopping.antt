@@ -1,4 +1,4 @@
--- What sessions report of a table that is stopped.
+-- Lemmas: what sessions report of a stopped table.
 use Rattle.std.proofs.Common.{◌≡◌, ◌⊎◌, ◌+◌, ◌<◌, ◌≤◌, ℕ, zero, suc, nat_lt, Bool, true, false, cond, List, [], ◌∷◌, length, get_or, sum_by, All, Option, Some, None, IfSome, refl, sym, ◌∙◌, ap, subst, inl, inr, arith}
 use Rattle.std.specs.Option.{option_map_or}
 use Rattle.std.specs.Prelude.{option_map}
@@ -32,11 +32,11 @@ use Rattle.tfs_shared.proofs.Stopping.{IsQuiet}
 use Rattle.tfs_serve.specs.Serving.{StopsLast, faults_in}
 use Rattle.tfs_serve.specs.Working.{Answer, Gives}
 
--- The reply reports nothing of a stopped table.
+-- The reply reports neither a fault of the sink nor a stopped table.
 abbrev pub ReportsNothing : ReplyValue → Type 0
 ReportsNothing reply = (reports_fault reply ≡ false) × (reports_stop reply ≡ false)
 
--- A session counts a reply that reports nothing as it counts nothing.
+-- If a reply reports neither, and the session counts nothing, the session has counted the reply.
 pub counts_stop : (old new : SessionView) (reply : ReplyValue) → ReportsNothing reply → CountsNothing old new → CountsStop old new reply
 counts_stop old new reply quiet nothing = record {
   faulted = ap as_number nothing.faulted
@@ -44,15 +44,15 @@ counts_stop old new reply quiet nothing = record {
   stopped = nothing.stopped ∙ sym (ap (λ (b : Bool). cond b true old.stopped) quiet.1);
 }
 
--- A session that stays counts nothing.
+-- A session that doesn't change counts nothing.
 pub counts_same : (v : SessionView) → CountsNothing v v
 counts_same v = record { accepted = refl; faulted = refl; stopped = refl }
 
--- Such is a reply that is another one.
+-- A reply reports nothing if it equals one that reports nothing.
 quiet_as : (reply other : ReplyValue) → reply ≡ other → ReportsNothing other → ReportsNothing reply
 quiet_as reply other is quiet = subst ReportsNothing (sym is) quiet
 
--- The refusal of a query.
+-- The refusal of a query reports nothing.
 query_quiet : (d : Document) (query : Query) → IfSome (query_refusal d query) IsQuiet
 unfolding query_fault
 query_quiet d query = by query.texts
@@ -67,7 +67,7 @@ query_quiet d query = by query.texts
     by [] = (refl, refl)
     by (text ∷ texts) = few (nat_lt 64 (length (text ∷ texts))) _
 
--- The reply to a query.
+-- The reply to a query reports nothing.
 pub impact_quiet : (j : Journal) (name : List ℕ) (query : Query) (reply : ReplyValue) (X : Type 0)
     → ((reply ≡ refused no_copy) × X) ⊎ AnswersImpact j name query reply → ReportsNothing reply
 impact_quiet j name query reply X (inl none) = quiet_as reply (refused no_copy) none.0 (refl, refl)
@@ -82,7 +82,7 @@ impact_quiet j name query reply X (inr (lawful, inl is)) = quiet_as reply _ is (
     by None = (refl, refl)
     by (Some d) = told (query_refusal d query) _ (refl, refl) (query_quiet d query)
 
--- The reply to a read that is refused.
+-- The reply to a read reports nothing.
 pub read_quiet : (opening : Journal) (old new : SessionView) (name : List ℕ) (reply : ReplyValue)
     → HasNoCopy opening old new reply ⊎ AnswersRead name old new reply → ReportsNothing reply
 read_quiet opening old new name reply (inl none) = quiet_as reply (refused no_copy) none.answer (refl, refl)
@@ -96,7 +96,7 @@ read_quiet opening old new name reply (inr a) = by a.answer
     by (inl is) = quiet_as reply _ is (model (state_of (acts_of name a.journal)))
     by (inr lacks) = quiet_as reply (refused out_of_memory) lacks.0 (refl, refl)
 
--- The refusal of a lock text.
+-- The refusal of a lock body reports nothing.
 lock_quiet : (body : List ℕ) → IsQuiet (lock_text_refusal body)
 lock_quiet body = by (first_lock_fault body)
   where
@@ -108,7 +108,7 @@ lock_quiet body = by (first_lock_fault body)
     by None = (refl, refl)
     by (Some fault) = told fault
 
--- The refusal of a state text.
+-- The refusal of a state body reports nothing.
 state_quiet : (body : List ℕ) → IsQuiet (state_text_refusal body)
 state_quiet body = by (first_state_fault body)
   where
@@ -120,7 +120,7 @@ state_quiet body = by (first_state_fault body)
     by None = (refl, refl)
     by (Some fault) = told fault
 
--- The refusal of a change that can't be read.
+-- The refusal of a change whose body is invalid reports nothing.
 draft_refused : (raw : Raw) → IsQuiet (draft_refusal raw)
 draft_refused (Lock body) = lock_quiet body
 draft_refused (Unlock [] text) = (refl, refl)
@@ -132,21 +132,21 @@ draft_refused (Push text body) = by (is_too_long text)
     by false = state_quiet body
 draft_refused (Delete text) = (refl, refl)
 
--- The reply to such a change.
+-- The refusal of the change, or of memory for it, reports nothing.
 pub draft_quiet : (raw : Raw) (refusal : RefusalValue) (X : Type 0) → (refusal ≡ out_of_memory) ⊎ ((refusal ≡ draft_refusal raw) × X)
     → ReportsNothing (refused refusal)
 draft_quiet raw refusal X (inl lacks) = subst IsQuiet (sym lacks) (refl, refl)
 draft_quiet raw refusal X (inr is) = subst IsQuiet (sym is.0) (draft_refused raw)
 
--- ---- all replies of a session
+-- ---- All replies of a session.
 
--- What a session has reported, it has.
+-- The session has counted what these answers report of a stopped table.
 pub record HasReported (old new : SessionView) (answers : List Answer) : Type 0 where
   pub faulted : as_number new.faulted ≡ as_number old.faulted + faults_in answers
   pub lasts : old.stopped ≡ true → new.stopped ≡ true
   pub stopped : StopsLast new.stopped answers
 
--- One reply, and more of them.
+-- A session that has counted a reply and then others has counted all of them.
 reports_then : (old between new : SessionView) (a : Answer) (more : List Answer) → CountsStop old between a.reply → HasReported between new more
     → HasReported old new (a ∷ more)
 reports_then old between new a more one rest =
@@ -163,7 +163,7 @@ reports_then old between new a more one rest =
     either true is = refl
     either false is = is
 
--- All replies of a session.
+-- A session has counted what all of its answers report.
 pub gives_reports : (opening : Journal) (old new : SessionView) (answers : List Answer) → Gives opening old answers new → HasReported old new answers
 gives_reports opening old new [] gives = subst (λ (v : SessionView). HasReported old v []) (sym gives) (record {
   faulted = omega arith;
@@ -173,9 +173,10 @@ gives_reports opening old new [] gives = subst (λ (v : SessionView). HasReporte
 gives_reports opening old new (a ∷ more) gives =
     reports_then old gives.0 new a more gives.1.0.stops (gives_reports opening gives.0 new more gives.2)
 
--- ---- all sessions
+-- ---- All sessions.
 
--- The faults of sessions, which are numbered down to the first: those that they have reported, and the one of a table that was stopped before.
+-- The number of sessions that have the fault is the number of replies that report one, plus 1 if
+-- the table was stopped before. The sessions are numbered down to 0.
 pub faults_of_all : {B : Type 0} (was : Bool) (g : B → ℕ) (sessions : List SessionView) (bs : List B) → 1 ≤ length sessions
     → length sessions ≡ length bs
     → ((i : ℕ) (d : SessionView) (e : B) → i < length sessions → (number : ℕ) × (number + i + 1 ≡ length sessions)
@@ -201,6 +202,6 @@ faults_of_all {B} was g (s ∷ t ∷ rest) (b ∷ c ∷ bs) some even each =
     let place = next.1 in (next.0, omega (arith, place), next.2)) in
     omega (arith, is, others, sum_by-cons (λ (v : SessionView). as_number v.faulted) s (t ∷ rest), sum_by-cons g b (c ∷ bs))
 
--- What makes a table stopped for replies may be replaced by what follows from it.
+-- If `StopsLast` holds with `was`, and `was` implies `is`, it holds with `is`.
 pub stops_as : (was is : Bool) (answers : List Answer) → (was ≡ true → is ≡ true) → StopsLast was answers → StopsLast is answers
 stops_as was is answers so all k d within reports = so (all k d within reports)

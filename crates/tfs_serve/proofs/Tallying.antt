@@ -1,4 +1,4 @@
--- What a session tells: positions beyond all that it had seen, at which it made the changes.
+-- Lemmas: a session reports only positions beyond all that it had seen, and made their changes.
 use Rattle.std.proofs.Common.{◌≡◌, ◌<◌, ◌≤◌, ℕ, zero, suc, List, [], ◌∷◌, ◌++◌, length, refl, sym, ◌∙◌, ap, subst, arith, append_assoc, append-nil, length-append}
 use mathlib.Core.List.{IsPrefix}
 use Rattle.tfs_records.specs.Journal.{Journal, BaseValue, position_of}
@@ -14,7 +14,8 @@ use Rattle.tfs_serve.proofs.Later.{step_later}
 use Rattle.tfs_serve.proofs.Telling.{IsMadeAt, made_later, times_alone, times_both, times_few}
 use Rattle.std.proofs.lemmas.List.Sums.{sum_by-cons}
 
--- A session has gone on, and has told positions.
+-- The session has advanced and has reported these positions, each once: the position of a change
+-- that it made, beyond all that it had seen.
 pub record Tells (opening : Journal) (old new : SessionView) (told : List ℕ) : Type 0 where
   pub number : new.number ≡ old.number
   pub seen : IsPrefix old.makers new.makers
@@ -22,19 +23,19 @@ pub record Tells (opening : Journal) (old new : SessionView) (told : List ℕ) :
   pub once : (p : ℕ) → times p told ≤ 1
   pub made : (p : ℕ) → 1 ≤ times p told → (position_of old.journal < p) × (p ≤ position_of new.journal) × IsMadeAt opening new.makers p old.number
 
--- What begins with a journal isn't at a lower position.
+-- A journal isn't at a lower position than one that it begins with.
 pub begins_lower : (j k : Journal) → BeginsWith j k → position_of k ≤ position_of j
 begins_lower j k begins =
     let base = ap (λ (b : BaseValue). b.position) begins.base in
     let entries = ap length begins.entries.1 in
     omega (arith, base, entries, length-append k.entries begins.entries.0)
 
--- What begins a beginning begins the whole.
+-- A prefix of a prefix is a prefix.
 prefix_then : (xs ys zs : List ℕ) → IsPrefix xs ys → IsPrefix ys zs → IsPrefix xs zs
 prefix_then xs ys zs p q =
     (p.0 ++ q.0, sym (append_assoc xs p.0 q.0) ∙ ap (λ (l : List ℕ). l ++ q.0) p.1 ∙ q.1)
 
--- A session that has told nothing.
+-- A session may advance without reporting a position.
 tells_nothing : (opening : Journal) (old new : SessionView) → new.number ≡ old.number → IsPrefix old.makers new.makers
     → position_of old.journal ≤ position_of new.journal → Tells opening old new []
 tells_nothing opening old new number seen later = record {
@@ -45,7 +46,7 @@ tells_nothing opening old new number seen later = record {
   made = λ p some. absurd (omega (arith, some));
 }
 
--- A session that has given a reply.
+-- A session that gave a reply has reported the position in it, if there is one.
 tells_reply : (opening : Journal) (old new : SessionView) (reply : ReplyValue) → KeepsCount opening old reply new
     → position_of old.journal ≤ position_of new.journal → Tells opening old new (position_told reply)
 tells_reply opening old new reply count later = by reply count
@@ -81,7 +82,7 @@ tells_reply opening old new reply count later = by reply count
     by (impact d chosen position) told = tells_nothing opening old new told.signed.number seen later
     by (refused refusal) told = tells_nothing opening old new told.signed.number seen later
 
--- A session that has told positions, and then more.
+-- A session that has reported positions and then others has reported all of them.
 tells_then : (opening : Journal) (a b c : SessionView) (xs ys : List ℕ) → Tells opening a b xs → Tells opening b c ys
     → Tells opening a c (xs ++ ys)
 tells_then opening a b c xs ys first then = record {
@@ -114,7 +115,7 @@ tells_then opening a b c xs ys first then = record {
         let within = is.1 in
         (is.0, omega (arith, within, then.later), made_later opening b.makers c.makers p a.number then.seen is.2)
 
--- A session that has given answers has told their positions.
+-- A session that gave answers has reported the positions in them.
 pub gives_tells : (opening : Journal) (old new : SessionView) (answers : List Answer) → Gives opening old answers new
     → Tells opening old new (positions_told answers)
 gives_tells opening old new [] gives =
@@ -125,14 +126,14 @@ gives_tells opening old new (a ∷ more) gives =
     (begins_lower gives.0.journal old.journal (step_later opening old gives.0 a.call a.reply gives.1).seen))
     (gives_tells opening gives.0 new more gives.2)
 
--- A reply that is counted tells one position.
+-- A reply reports as many positions as it counts accepted changes: 1 or 0.
 counted_told : (reply : ReplyValue) → length (position_told reply) ≡ accepted_by reply
 counted_told (done p) = refl
 counted_told (state d) = refl
 counted_told (impact d chosen position) = refl
 counted_told (refused refusal) = refl
 
--- As many positions are told as changes are counted.
+-- Answers report as many positions as they count accepted changes.
 pub as_many_told : (answers : List Answer) → length (positions_told answers) ≡ accepted_in answers
 as_many_told [] = refl
 as_many_told (a ∷ more) =

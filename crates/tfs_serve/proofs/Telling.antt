@@ -1,4 +1,4 @@
--- Positions that sessions tell: each once.
+-- Lemmas: the sessions report each position once.
 use Rattle.std.proofs.Common.{◌≡◌, ◌+◌, ◌<◌, ◌≤◌, ◌==◌, ℕ, zero, suc, Bool, true, false, cond, List, [], ◌∷◌, ◌++◌, length, get_or, refl, sym, ◌∙◌, ap, subst, arith, append_assoc}
 use Rattle.std.specs.List.{flat_map}
 use Rattle.std.proofs.lemmas.Bool.Decides.{nat_tests}
@@ -7,14 +7,14 @@ use mathlib.Core.List.{IsPrefix}
 use Rattle.tfs_records.specs.Journal.{Journal, position_of}
 use Rattle.tfs_serve.specs.Told.{times}
 
--- A session of a number made the change of a position.
+-- The session of this number made the change at the position.
 pub record IsMadeAt (opening : Journal) (makers : List ℕ) (position number : ℕ) : Type 0 where
   pub front : List ℕ
   pub rest : List ℕ
   pub parts : makers ≡ front ++ number ∷ rest
   pub position_is : position ≡ position_of opening + length front + 1
 
--- It made it also where more changes came later.
+-- The maker of a change doesn't change when more changes are made.
 pub made_later : (opening : Journal) (makers more : List ℕ) (position number : ℕ) → IsPrefix makers more
     → IsMadeAt opening makers position number → IsMadeAt opening more position number
 made_later opening makers more position number begins made = record {
@@ -24,7 +24,7 @@ made_later opening makers more position number begins made = record {
   position_is = made.position_is;
 }
 
--- What stands behind parts of one length is the same.
+-- The elements after two prefixes of the same length are equal if the lists are.
 same_behind : (f g r s : List ℕ) (n m : ℕ) → f ++ n ∷ r ≡ g ++ m ∷ s → length f ≡ length g → n ≡ m
 same_behind [] [] r s n m is even = cc is
 same_behind [] (y ∷ g) r s n m is even = absurd (omega (arith, even))
@@ -39,15 +39,15 @@ one_maker opening makers position n m a b =
     let is = b.position_is in
     same_behind a.front b.front a.rest b.rest n m (sym a.parts ∙ b.parts) (omega (arith, at, is))
 
--- A position in front of others.
+-- Counting a position in a list with a first element counts that element and the rest.
 times_more : (p q : ℕ) (rest : List ℕ) → times p (q ∷ rest) ≡ cond (q == p) 1 0 + times p rest
 times_more p q rest = sum_by-cons (λ (t : ℕ). cond (t == p) 1 0) q rest
 
--- A position among two lists.
+-- Counting a position in a concatenation adds the counts.
 pub times_both : (p : ℕ) (xs ys : List ℕ) → times p (xs ++ ys) ≡ times p xs + times p ys
 times_both p xs ys = sum_by-append (λ (t : ℕ). cond (t == p) 1 0) xs ys
 
--- A position that is told alone.
+-- A position that a list of one element reports is that element.
 pub times_alone : (p q : ℕ) → 1 ≤ times p (q ∷ []) → q ≡ p
 times_alone p q some = by (q == p) refl
   where
@@ -57,7 +57,7 @@ times_alone p q some = by (q == p) refl
         let none = times_more p q [] ∙ ap (λ (t : Bool). cond t 1 0 + 0) e in
         absurd (omega (arith, some, none))
 
--- It is told at most once.
+-- A list of one element reports a position at most once.
 pub times_few : (p q : ℕ) → times p (q ∷ []) ≤ 1
 times_few p q = by (q == p) refl
   where
@@ -65,24 +65,25 @@ times_few p q = by (q == p) refl
     by true e = let is = times_more p q [] ∙ ap (λ (t : Bool). cond t 1 0 + 0) e in omega (arith, is)
     by false e = let is = times_more p q [] ∙ ap (λ (t : Bool). cond t 1 0 + 0) e in omega (arith, is)
 
--- A position is told where it is told.
+-- A list reports its first element.
 times_itself : (q : ℕ) (rest : List ℕ) → 1 ≤ times q (q ∷ rest)
 times_itself q rest =
     let same : (q == q) ≡ true = grind (arith, nat_tests) in
     let is = times_more q q rest ∙ ap (λ (t : Bool). cond t 1 0 + times q rest) same in
     omega (arith, is)
 
--- What workers tell, from the one of this number on: what each tells was made by the session of its own number, counted down from the last.
+-- The positions reported by the workers from place `from` on, each once: the worker at place `i`
+-- reports only changes made by the session numbered `number - 1 - i`.
 pub record TellApart (opening : Journal) (makers : List ℕ) (from number : ℕ) (all : List ℕ) : Type 0 where
   pub once : (p : ℕ) → times p all ≤ 1
   pub made : (p : ℕ) → 1 ≤ times p all → (m : ℕ) × (m + from < number) × IsMadeAt opening makers p m
 
--- What a worker tells on its own.
+-- The positions reported by the worker at place `from`, each once and made by its session.
 pub record TellsAlone (opening : Journal) (makers : List ℕ) (from number : ℕ) (told : List ℕ) : Type 0 where
   pub once : (p : ℕ) → times p told ≤ 1
   pub made : (p : ℕ) → 1 ≤ times p told → (m : ℕ) × (m + from + 1 ≡ number) × IsMadeAt opening makers p m
 
--- What one worker tells, and what those behind it tell.
+-- The positions of a worker and those of the workers after it are reported once.
 apart_more : (opening : Journal) (makers : List ℕ) (from number : ℕ) (told rest : List ℕ) → TellsAlone opening makers from number told
     → TellApart opening makers (suc from) number rest → TellApart opening makers from number (told ++ rest)
 apart_more opening makers from number told rest first others = record {
@@ -114,7 +115,7 @@ apart_more opening makers from number told rest first others = record {
         let at = y.1 in
         (y.0, omega (arith, at), y.2)
 
--- Workers with numbers of their own tell no position twice.
+-- Workers whose sessions have different numbers report no position twice.
 pub tell_apart : {X : Type 0} (tell : X → List ℕ) (opening : Journal) (makers : List ℕ) (from number : ℕ) (all : List X)
     → ((i : ℕ) (d : X) → i < length all → TellsAlone opening makers (from + i) number (tell (get_or all i d)))
     → TellApart opening makers from number (flat_map tell all)
@@ -130,33 +131,33 @@ tell_apart tell opening makers from number (x ∷ all) each =
     let next : from + suc i ≡ suc from + i = omega arith in
     subst (λ (n : ℕ). TellsAlone opening makers n number (tell (get_or all i d))) next (each (suc i) d (omega (arith, inside)))))
 
--- How many of the positions behind one are told, with their times.
+-- The sum of the counts of the first `n` positions after `o`.
 span : ℕ → List ℕ → ℕ → ℕ
 span o told zero = 0
 span o told (suc n) = span o told n + times (o + n + 1) told
 
--- There is no position yet.
+-- The sum over no positions is 0.
 span_none : (o : ℕ) (told : List ℕ) → span o told 0 ≡ 0
 unfolding span
 span_none o told = refl
 
--- With the next position.
+-- The sum over one more position adds its count.
 span_next : (o : ℕ) (told : List ℕ) (n : ℕ) → span o told (suc n) ≡ span o told n + times (o + n + 1) told
 unfolding span
 span_next o told n = refl
 
--- One position in front of others.
+-- Counting a position in a list adds its counts in the first element and in the rest.
 times_front : (p q : ℕ) (rest : List ℕ) → times p (q ∷ rest) ≡ times p (q ∷ []) + times p rest
 times_front p q rest = times_both p (q ∷ []) rest
 
--- One position more counts once, if it is among them.
+-- The sum for a list is the sum for its first element plus the sum for the rest.
 span_more : (o q : ℕ) (rest : List ℕ) (n : ℕ) → span o (q ∷ rest) n ≡ span o (q ∷ []) n + span o rest n
 span_more o q rest zero = omega (arith, span_none o (q ∷ rest), span_none o (q ∷ []), span_none o rest)
 span_more o q rest (suc n) =
     let earlier = span_more o q rest n in
     omega (arith, earlier, times_front (o + n + 1) q rest, span_next o (q ∷ rest) n, span_next o (q ∷ []) n, span_next o rest n)
 
--- A position beyond them isn't among them.
+-- The sum for a single position beyond the range is 0.
 span_outside : (o q n : ℕ) → o + n < q → span o (q ∷ []) n ≡ 0
 span_outside o q zero beyond = span_none o (q ∷ [])
 span_outside o q (suc n) beyond =
@@ -165,7 +166,7 @@ span_outside o q (suc n) beyond =
     let none = times_more (o + n + 1) q [] ∙ ap (λ (t : Bool). cond t 1 0 + 0) other in
     omega (arith, earlier, none, span_next o (q ∷ []) n)
 
--- One of them is among them.
+-- The sum for a single position within the range is 1.
 span_inside : (o q n : ℕ) → o < q → q ≤ o + n → span o (q ∷ []) n ≡ 1
 span_inside o q zero above inside = absurd (omega (arith, above, inside))
 span_inside o q (suc n) above inside = by (q == (o + n + 1)) refl (λ lower. span_inside o q n above lower)
@@ -182,7 +183,7 @@ span_inside o q (suc n) above inside = by (q == (o + n + 1)) refl (λ lower. spa
         let none = times_more (o + n + 1) q [] ∙ ap (λ (t : Bool). cond t 1 0 + 0) e in
         omega (arith, earlier, none, span_next o (q ∷ []) n)
 
--- Where all positions are among them, they are as many.
+-- If all reported positions are within the range, the sum is their number.
 span_all : (o n : ℕ) (told : List ℕ) → ((p : ℕ) → 1 ≤ times p told → (o < p) × (p ≤ o + n)) → span o told n ≡ length told
 span_all o n [] inside = none n
   where
@@ -195,12 +196,12 @@ span_all o n (q ∷ rest) inside =
     let others = span_all o n rest (λ p some. inside p (omega (arith, some, times_front p q rest))) in
     omega (arith, one, others, span_more o q rest n)
 
--- Where each is told at most once, they are at most as many as the positions.
+-- If each position is reported at most once, the sum is at most the number of positions.
 span_few : (o n : ℕ) (told : List ℕ) → ((p : ℕ) → times p told ≤ 1) → span o told n ≤ n
 span_few o zero told once = omega (arith, span_none o told)
 span_few o (suc n) told once = let earlier = span_few o n told once in omega (arith, earlier, once (o + n + 1), span_next o told n)
 
--- They are fewer, where one isn't told.
+-- If each is reported at most once, and one not at all, the sum is less than that number.
 span_lacks : (o n p : ℕ) (told : List ℕ) → ((q : ℕ) → times q told ≤ 1) → o < p → p ≤ o + n → times p told ≡ 0 → span o told n < n
 span_lacks o zero p told once above inside none = absurd (omega (arith, above, inside))
 span_lacks o (suc n) p told once above inside none = by (p == (o + n + 1)) refl (λ lower. span_lacks o n p told once above lower none)
@@ -216,7 +217,7 @@ span_lacks o (suc n) p told once above inside none = by (p == (o + n + 1)) refl 
         let earlier = before lower in
         omega (arith, earlier, once (o + n + 1), span_next o told n)
 
--- As many positions as there are, none told twice: each is told once.
+-- If as many positions are reported as there are in the range, none twice, each is reported once.
 pub each_once : (o n : ℕ) (told : List ℕ) → length told ≡ n → ((p : ℕ) → times p told ≤ 1)
     → ((p : ℕ) → 1 ≤ times p told → (o < p) × (p ≤ o + n)) → (p : ℕ) → o < p → p ≤ o + n → times p told ≡ 1
 each_once o n told many once inside p above within = by (times p told) refl

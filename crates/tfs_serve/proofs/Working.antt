@@ -1,4 +1,4 @@
--- Sessions that work, of whose answers their gates hear.
+-- Lemmas about sessions that work, and about the events that their gates hear.
 use Rattle.std.proofs.Common.{◌≡◌, ℕ, inl, inr, List, [], ◌∷◌, ◌++◌, Option, Some, None, Result, Ok, Err, MatchResult, true, false, refl, sym, ◌∙◌, ap, subst, append_assoc, append-nil}
 use Rattle.std.specs.List.{flat_map}
 use Rattle.std.proofs.lemmas.Grind.{flat_map-append}
@@ -13,42 +13,42 @@ use Rattle.tfs_serve.specs.Gate.{Event, asked, before, after, Hears}
 use Rattle.tfs_serve.specs.Session.{SessionStep}
 use Rattle.tfs_serve.specs.Working.{Answer, heard_of, heard_of_connection, Gives, GivesOn, GivesFirst, IsReplied, AreReplied, HasAnswered, HasConversed, HasWorked, HasReplied}
 
--- A gate that hears nothing stays.
+-- A gate that hears no event doesn't change.
 hears_nothing : (t : Option (List Event)) → Hears t t []
 hears_nothing None = refl
 hears_nothing (Some events) = ap Some (sym (append-nil events))
 
--- Hearing twice is hearing all of it.
+-- A gate that hears some events and then others hears all of them.
 hears_then : (a b c : Option (List Event)) (xs ys : List Event) → Hears a b xs → Hears b c ys → Hears a c (xs ++ ys)
 hears_then None b c xs ys p q = subst (λ (t : Option (List Event)). Hears t c ys) p q
 hears_then (Some events) b c xs ys p q =
     subst (λ (t : Option (List Event)). Hears t c ys) p q ∙ ap Some (append_assoc events xs ys)
 
--- The same events under another writing.
+-- A list of events may be replaced by an equal one.
 heard_as : (a b : Option (List Event)) (xs ys : List Event) → xs ≡ ys → Hears a b xs → Hears a b ys
 heard_as a b xs ys is h = subst (Hears a b) is h
 
--- Answers, and more of them.
+-- A session that gives some answers and then others gives all of them.
 pub gives_then : (o : Journal) (a b c : SessionView) (xs ys : List Answer) → Gives o a xs b → Gives o b ys c → Gives o a (xs ++ ys) c
 gives_then o a b c [] ys p q = subst (λ (v : SessionView). Gives o v ys c) p q
 gives_then o a b c (x ∷ xs) ys p q = (p.0, p.1, gives_then o p.0 b c xs ys p.2 q)
 
--- Connections, and one more.
+-- A session that gives answers on connections and then on one more gives them on all.
 gives_on_then : (o : Journal) (a b c : SessionView) (connections : List (List Answer)) (answers : List Answer) → GivesOn o a connections b
     → Gives o b answers c → GivesOn o a (connections ++ answers ∷ []) c
 gives_on_then o a b c [] answers p q = (c, subst (λ (v : SessionView). Gives o v answers c) p q, refl)
 gives_on_then o a b c (x ∷ xs) answers p q = (p.0, p.1, gives_on_then o p.0 b c xs answers p.2 q)
 
--- Steps of a desk over a session and a gate.
+-- The steps of a desk over a session and a gate.
 module _ {S : Type 0} (step : S → Call → ReplyValue → S → Type 0) (o : Journal) (session : S → SessionView) (told : S → Option (List Event))
     (steps : (old new : S) (call : Call) (reply : ReplyValue) → step old call reply new
     → SessionStep o (session old) call reply (session new) × Hears (told old) (told new) (before call ∷ after reply ∷ [])) where
-  -- The desk has answered calls, and gave these replies.
+  -- The desk has answered calls with the replies of these exchanges.
   pub record HasRun (old new : S) (exchanges : List Exchange) : Type 0 where
     pub answered : HasAnswered o (told old) (told new) (session old) (session new)
     pub gives : Runs GivesFirst answered.answers exchanges []
 
-  -- The desk has stayed before it answered.
+  -- A desk that didn't change before it answered has answered all of the exchanges.
   run_on : (old between new : S) (x : Exchange) (xs : List Exchange) → between ≡ old
       → ((answers : List Answer) → AnswersRequest GivesFirst answers x.request x.reply answers) → HasRun between new xs → HasRun old new (x ∷ xs)
   run_on old between new x xs is same run = subst (λ (s : S). HasRun s new (x ∷ xs)) is (record {
@@ -56,7 +56,7 @@ module _ {S : Type 0} (step : S → Call → ReplyValue → S → Type 0) (o : J
     gives = (run.answered.answers, same run.answered.answers, run.gives);
   })
 
-  -- Exchanges in turn are those of the answers that were given.
+  -- A desk that runs through exchanges has answered them.
   pub has_run : (old new : S) (xs : List Exchange) → Runs step old xs new → HasRun old new xs
   has_run old new [] run = record {
     answered = record { answers = []; heard = subst (λ (s : S). Hears (told old) (told s) []) (sym run) (hears_nothing (told old)); gives = ap session run };
@@ -78,7 +78,8 @@ module _ {S : Type 0} (step : S → Call → ReplyValue → S → Type 0) (o : J
             gives = (rest.answered.answers, inr (inr (a.0, a.1, refl)), rest.gives);
           }
 
-  -- A conversation over the desk: the session has answered calls, and what was written are its replies.
+  -- After a conversation over the desk, the session has answered calls, and the text is of their
+  -- replies.
   pub conversed : (old new : S) (text : List ℕ) → HasTalked step old new text → HasConversed o (told old) (told new) (session old) (session new) text
   conversed old new text t = by t.end t.talk
     where
@@ -112,14 +113,15 @@ module _ {S : Type 0} (step : S → Call → ReplyValue → S → Type 0) (o : J
         };
       }
 
--- What was written to connections, and to one more.
+-- Appending a connection, and the text written to it, gives connections and their texts.
 replied_then : (connections : List (List Answer)) (texts : List (List ℕ)) (answers : List Answer) (text : List ℕ) → AreReplied connections texts
     → IsReplied answers text → AreReplied (connections ++ answers ∷ []) (texts ++ text ∷ [])
 replied_then [] texts answers text p q = subst (λ (l : List (List ℕ)). AreReplied (answers ∷ []) (l ++ text ∷ [])) (sym p) (q, refl)
 replied_then (a ∷ connections) [] answers text p q = absurd p
 replied_then (a ∷ connections) (t ∷ texts) answers text p q = (p.0, replied_then connections texts answers text p.1 q)
 
--- One more connection was admitted, and calls were answered on it.
+-- If the gate admits one more connection, and calls are answered on it, the session has worked on
+-- it.
 pub worked_on : (o : Journal) (t u v w : Option (List Event)) (a b c : SessionView) → HasWorked o t u a b [] → Hears u v (asked true ∷ [])
     → HasAnswered o v w b c → HasWorked o t w a c []
 worked_on o t u v w a b c p admitted q = record {
@@ -142,7 +144,7 @@ worked_on o t u v w a b c p admitted q = record {
         ∙ sym (flat_map-append heard_of_connection p.connections (q.answers ∷ []))
         ∙ sym (append-nil (flat_map heard_of_connection (p.connections ++ q.answers ∷ [])))
 
--- One more connection was admitted, and what was written to it are the replies on it.
+-- If the gate admits one more connection, the text written to it is of the replies on it.
 pub replied_on : (o : Journal) (t u v w : Option (List Event)) (a b c : SessionView) (from mid to : List (List ℕ)) (text : List ℕ)
     → HasReplied o t u a b [] from mid → Hears u v (asked true ∷ []) → HasConversed o v w b c text → to ≡ mid ++ text ∷ []
     → HasReplied o t w a c [] from to
@@ -154,7 +156,7 @@ replied_on o t u v w a b c from mid to text p admitted q is = record {
   replied = replied_then p.worked.connections p.texts q.answered.answers text p.replied q.replied;
 }
 
--- The gate admits no more.
+-- When the gate admits no more connections, the work ends.
 pub replied_all : (o : Journal) (t u v : Option (List Event)) (a b : SessionView) (from to : List (List ℕ))
     → HasReplied o t u a b [] from to → Hears u v (asked false ∷ []) → HasReplied o t v a b (asked false ∷ []) from to
 replied_all o t u v a b from to p closed = record {
@@ -169,7 +171,7 @@ replied_all o t u v a b from to p closed = record {
   replied = p.replied;
 }
 
--- Nothing was done.
+-- A session that did nothing has worked on no connections.
 pub replied_nothing : (o : Journal) (t : Option (List Event)) (s : SessionView) (written : List (List ℕ)) → HasReplied o t t s s [] written written
 replied_nothing o t s written = record {
   worked = record { connections = []; heard = hears_nothing t; gives = refl };
@@ -178,7 +180,7 @@ replied_nothing o t s written = record {
   replied = refl;
 }
 
--- What was written since there was none is all that there is.
+-- If nothing was written before, all that was written is the text of the session's connections.
 pub replied_since : (o : Journal) (t u : Option (List Event)) (a b : SessionView) (end : List Event) (from to texts : List (List ℕ)) → from ≡ []
     → texts ≡ to → HasReplied o t u a b end from to → HasReplied o t u a b end [] texts
 replied_since o t u a b end from to texts none is p = record {

@@ -1,4 +1,4 @@
--- The causes of refusals.
+-- Lemmas about the causes of refusals.
 use Rattle.std.proofs.Common.{◌≡◌, ◌∙◌, ◌+◌, ◌⊎◌, ℕ, List, Bool, true, false, cond, Option, Some, None, IsSome, refl, sym, ap, subst, inl, inr}
 use Rattle.std.specs.Option.{option_map_or}
 use Rattle.tfs_state.specs.Document.{Document}
@@ -20,7 +20,8 @@ use Rattle.tfs_shared.specs.Locked.{AnswersChange}
 use Rattle.tfs_published.specs.Beginning.{BeginsWith}
 use Rattle.tfs_shared.specs.View.{SessionView}
 
--- Want of memory is an answer to any change over a lawful journal that begins with what the session had seen.
+-- `OutOfMemory` is a reply to any change over a lawful journal that begins with what the session
+-- had seen.
 pub lacks_memory : (name : List ℕ) (act : ActValue) (old new : SessionView) (j : Journal) → IsLawful j → BeginsWith j old.journal → new.journal ≡ j
     → AnswersChange name act old new (refused out_of_memory)
 lacks_memory name act old new j lawful fresh seen = record {
@@ -33,7 +34,7 @@ lacks_memory name act old new j lawful fresh seen = record {
   seen = seen;
 }
 
--- A stopped table is an answer to any change over it.
+-- `JournalStopped` is a reply to any change over a stopped table.
 pub is_stopped : (name : List ℕ) (act : ActValue) (old new : SessionView) (j : Journal) → IsLawful j → BeginsWith j old.journal → new.journal ≡ j
     → AnswersChange name act old new (refused journal_stopped)
 is_stopped name act old new j lawful fresh seen = record {
@@ -58,9 +59,9 @@ lost_answer j name query reply lawful there answers = by (state_of (acts_of name
       | inr lacks ↦ (lawful, inr (lacks.0, there, lacks.1))
     ]
 
--- ---- changes of a table under its lock
+-- ---- Changes of a table under its lock.
 
--- A change that is accepted, or may be, is one of a table that isn't stopped.
+-- A change that the rules accept may be refused for lack of memory: its table isn't stopped.
 pub may_lack : (m : TableModel) (name : List ℕ) (act : ActValue) → act_refusal m name act ≡ None → MayLackMemory m name act
 may_lack m name act accepted = record { running = by m.stopped _ accepted; needs = inr accepted }
   where
@@ -69,7 +70,7 @@ may_lack m name act accepted = record { running = by m.stopped _ accepted; needs
     by true o e = let wrong = e in cc
 
 module _ (old mid new : TableValue) (e : EntryValue) (same : IsSameTable old mid) where
-  -- The sink of a table that was made ready has failed.
+  -- If the sink failed at a record of an equal table, it failed at that record of this table.
   fault_of_same : IsFaultAt mid new e → IsFaultAt old new e
   fault_of_same f = record {
     fault = record {
@@ -82,11 +83,11 @@ module _ (old mid new : TableValue) (e : EntryValue) (same : IsSameTable old mid
     part = subst (λ (t : Option (List ℕ)). AppendsPart t new.told (record_text e)) same.told f.part;
   }
 
-  -- `JournalFault` is told.
+  -- `JournalFault` is the reply if the sink failed at the record.
   pub fault_caused : (refusal : RefusalValue) → refusal ≡ journal_fault → IsFaultAt mid new e → HasCause old new e (refused refusal)
   fault_caused refusal is f = record { fault = λ _. fault_of_same f; memory = λ lacks. absurd (cc (is, lacks)) }
 
--- A change that isn't made ready is refused by the journal, or for want of memory.
+-- A change that isn't prepared is refused by the model or for lack of memory.
 pub unready_caused : (old new : TableValue) (e : EntryValue) (refusal : RefusalValue)
     → (refusal ≡ out_of_memory) ⊎ (act_refusal (model_of old) e.name e.act ≡ Some refusal)
     → (refusal ≡ out_of_memory → MayLackMemory (model_of old) e.name e.act) → HasCause old new e (refused refusal)
@@ -99,7 +100,7 @@ unready_caused old new e refusal is may = record {
     no_fault (inl memory) told = cc (memory, told)
     no_fault (inr refusal_is) told = refused_without_fault (model_of old) e.name e.act (refusal_is ∙ ap (λ r. Some r) told)
 
--- A change that isn't staged lacks memory, after it was accepted.
+-- A change that is accepted but not staged is refused for lack of memory.
 pub unstaged_caused : (old new : TableValue) (e : EntryValue) (refusal : RefusalValue) → refusal ≡ out_of_memory
     → act_refusal (model_of old) e.name e.act ≡ None → HasCause old new e (refused refusal)
 unstaged_caused old new e refusal is accepted = record {
@@ -107,6 +108,6 @@ unstaged_caused old new e refusal is accepted = record {
   memory = λ lacks. may_lack (model_of old) e.name e.act accepted;
 }
 
--- A change that is made is refused by neither.
+-- An accepted change needs no cause of refusal.
 pub made_caused : (old new : TableValue) (e : EntryValue) (position : ℕ) → HasCause old new e (done position)
 made_caused old new e position = record { fault = λ told. absurd (cc told); memory = λ lacks. absurd (cc lacks) }

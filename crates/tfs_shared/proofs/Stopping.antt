@@ -1,4 +1,4 @@
--- What replies report of a table that is stopped.
+-- Lemmas about what replies report of a stopped table.
 use Rattle.std.proofs.Common.{◌≡◌, ◌+◌, ℕ, Bool, true, false, cond, nat_le, List, length, Option, Some, None, IfSome, refl, sym, ◌∙◌, ap, subst, inl, inr, arith}
 use Rattle.std.specs.Option.{option_or, option_map_or}
 use Rattle.std.specs.Prelude.{not}
@@ -17,16 +17,17 @@ use Rattle.tfs_calls.specs.Transition.{TableModel, AnswersAct, refusal_of, verdi
 use Rattle.tfs_shared.specs.Stops.{as_number, is_fault, is_stop, reports_fault, reports_stop}
 use Rattle.tfs_shared.specs.View.{SessionView, CountsStop}
 
--- The refusal reports neither.
+-- The refusal reports neither a fault of the sink nor a stopped table.
 abbrev pub IsQuiet : RefusalValue → Type 0
 IsQuiet refusal = (is_fault refusal ≡ false) × (is_stop refusal ≡ false)
 
--- A reply reports of a table what has become of it.
+-- The reply reports a fault if the table became stopped, and reports a stop if the table is stopped
+-- after the call.
 pub record Reports (was is : Bool) (reply : ReplyValue) : Type 0 where
   pub fault : as_number was + as_number (reports_fault reply) ≡ as_number is
   pub stop : reports_stop reply ≡ is
 
--- The refusal of an act by the rules, or by the limits, is quiet.
+-- A refusal by the rules or the limits reports neither.
 rules_quiet : (m : TableModel) (name : List ℕ) (act : ActValue) → IfSome (verdict_refusal (acts_of name m.journal) act) IsQuiet
 rules_quiet m name act = by_verdict (verdict_of (acts_of name m.journal) act)
   where
@@ -47,7 +48,8 @@ limits_quiet names entries is_new = few _ (nat_le 65536 entries)
     few false true = (refl, refl)
     few false false = tt
 
--- The model's answer to an act reports a stopped table just if the table is.
+-- The model's answer to an act reports no fault, and reports a stop if and only if the table is
+-- stopped.
 answer_reports : (m : TableModel) (name : List ℕ) (act : ActValue)
     → (reports_fault (act_answer m name act) ≡ false) × (reports_stop (act_answer m name act) ≡ m.stopped)
 answer_reports m name act = by m.stopped (verdict_refusal (acts_of name m.journal) act) (limit_refusal m.journal name) (rules_quiet m name act)
@@ -63,7 +65,7 @@ answer_reports m name act = by m.stopped (verdict_refusal (acts_of name m.journa
     by false None (Some refusal) of also reply none = also
     by false (Some refusal) p of also reply none = of
 
--- An act is accepted only by a table that isn't stopped.
+-- An act is accepted only if the table isn't stopped.
 runs : (m : TableModel) (name : List ℕ) (act : ActValue) → act_refusal m name act ≡ None → m.stopped ≡ false
 runs m name act accepted = by m.stopped _ accepted
   where
@@ -71,7 +73,8 @@ runs m name act accepted = by m.stopped _ accepted
     by false o e = refl
     by true o e = let wrong = e in cc
 
--- The reply to an act reports what has become of the table, if memory was lacking only over one that isn't stopped.
+-- The reply to an act reports the table's state, if `OutOfMemory` occurs only while the table isn't
+-- stopped.
 pub act_reports : (m after : TableModel) (name : List ℕ) (act : ActValue) (reply : ReplyValue) → AnswersAct m name act reply after
     → (reply ≡ refused out_of_memory → m.stopped ≡ false) → Reports m.stopped after.stopped reply
 act_reports m after name act reply (inl (inl gives)) lacks =
@@ -92,7 +95,7 @@ act_reports m after name act reply (inr fault) lacks =
     (subst (λ (b : Bool). Reports false b reply) (sym (ap (λ (t : TableModel). t.stopped) fault.2))
     (subst (λ (r : ReplyValue). Reports false true r) (sym fault.1) (record { fault = refl; stop = refl })))
 
--- A reply over a table that isn't stopped then reports nothing.
+-- If the table isn't stopped after a call, the session has nothing to count for the reply.
 pub counts_quiet : (old new : SessionView) (reply : ReplyValue) (was is : Bool) → Reports was is reply → is ≡ false → new.faulted ≡ old.faulted
     → new.stopped ≡ old.stopped → CountsStop old new reply
 counts_quiet old new reply was is reports runs faulted stopped =

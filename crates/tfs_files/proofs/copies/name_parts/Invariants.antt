@@ -1,4 +1,4 @@
--- What is due has become of the parts so far.
+-- The part files so far have their outcome.
 use Rattle.tfs_files.specs.Copies.{AreNamed, IsLastNamed}
 use Rattle.tfs_files.proofs.copies.name_parts.Given as goal
 

@@ -1,4 +1,4 @@
--- What the characters so far have added.
+-- The text has the bytes appended for the characters so far.
 use Rattle.std.proofs.Common.{◌≡◌, ◌++◌, flat_map}
 use Rattle.std.specs.Prelude.{string_bytes}
 use Rattle.tfs_printed.specs.Printed.{printed}

@@ -1,4 +1,4 @@
--- One place more is that of the next number, and after the last number there are all.
+-- The next place is the next number's; after the last number there are all places.
 use Rattle.std.proofs.Common.{arith, ◌∙◌}
 use Rattle.tfs_published.specs.Published.{place_given}
 use Rattle.tfs_published.proofs.Places.{one_place_more, all_places, as_many_places}

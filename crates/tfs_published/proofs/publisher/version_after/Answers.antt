@@ -1,4 +1,4 @@
--- A change that a lawful journal accepts leaves it lawful.
+-- An accepted change of a lawful journal leaves it lawful.
 use Rattle.tfs_table.proofs.LawfulLemmas.{lawful_more, taken}
 use Rattle.tfs_published.proofs.publisher.version_after.Goals as goal
 

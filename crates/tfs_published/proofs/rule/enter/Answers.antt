@@ -1,4 +1,4 @@
--- What is seen in the copy that was entered.
+-- The snapshot is of the copy that was entered.
 use Rattle.std.proofs.Common.{sym, subst}
 use Rattle.tfs_published.specs.Published.{StandsFor}
 use Rattle.tfs_published.specs.declared.view.CopyView.{CopyView}

@@ -1,4 +1,4 @@
--- Publishing keeps what the copies stand for.
+-- After publishing, the copies represent the journals after their tokens' changes.
 use Rattle.std.proofs.Common.{sym, ◌∙◌, ap, subst}
 use Rattle.std.specs.List.{fold}
 use Rattle.tfs_published.specs.Published.{absorbed, StandsFor}

@@ -1,4 +1,4 @@
--- A copy that nothing changes stands for what it stood for.
+-- A copy that doesn't change represents the same journal as before.
 use Rattle.std.proofs.Common.{sym, ◌∙◌, subst}
 use Rattle.tfs_published.specs.Published.{StandsFor}
 use Rattle.tfs_published.specs.declared.view.CopyView.{CopyView}

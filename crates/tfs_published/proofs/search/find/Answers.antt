@@ -1,4 +1,4 @@
--- What is found is the state that the acts of the name leave.
+-- The result is the state that the acts of the name leave.
 use Rattle.std.proofs.Common.{sym, subst, IfSome}
 use Rattle.tfs_published.specs.Lookup.{IsLookup}
 use Rattle.tfs_published.specs.Place.{place_view}

@@ -1,4 +1,4 @@
--- Each worker has served, from the opening journal to the one that is gathered.
+-- Each worker has served, from the opening journal to the last one.
 use Rattle.std.proofs.Common.{◌≡◌, ◌+◌, true, List, length, sum_by, All, refl, sym, ◌∙◌, ap, subst}
 use Rattle.tfs_published.specs.Beginning.{BeginsWith}
 use Rattle.tfs_shared.specs.Signed.{AreSigned}

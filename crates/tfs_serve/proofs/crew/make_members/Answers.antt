@@ -1,4 +1,4 @@
--- One more gate has a member, over the last of the sessions that are left.
+-- The next gate gets a member, with the last of the sessions that are left.
 use Rattle.std.proofs.Common.{◌++◌, ◌∷◌, [], length, map, is_ok, arith, sym, ◌∙◌, ap, subst}
 use Rattle.std.specs.Option.{option_to_list}
 use Rattle.std.proofs.lemmas.List.{length-map, map-append, length_push}

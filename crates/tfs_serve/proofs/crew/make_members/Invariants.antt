@@ -1,4 +1,4 @@
--- A member for each gate so far, and as many sessions as gates are left.
+-- Each gate so far has a member, and as many sessions are left as gates.
 use Rattle.std.proofs.Common.{◌≡◌, ◌+◌, ◌≤◌, length, map, vec_capacity}
 use Rattle.tfs_shared.specs.View.{AreNew}
 use Rattle.tfs_serve.proofs.Returning.{HaveNumbers}

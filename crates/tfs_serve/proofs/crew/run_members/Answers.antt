@@ -1,4 +1,4 @@
--- The members are those that have worked.
+-- The returned members are those that have worked.
 use Rattle.std.proofs.Common.{rules, ◌≡◌, ◌<◌, ◌++◌, [], is_some, length, take, drop, slice_index_or, sym, ◌∙◌, ap, subst}
 use Rattle.std.proofs.Math.Seq.{take-append_seam}
 use Rattle.tfs_serve.specs.Working.{HasReplied, end_of_work}

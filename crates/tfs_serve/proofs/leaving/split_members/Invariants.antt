@@ -1,4 +1,4 @@
--- The sessions of the members so far, and what became of these.
+-- The sessions and the outcomes of the members so far.
 use Rattle.std.proofs.Common.{◌≡◌, ◌≤◌, is_some, length, map, vec_capacity}
 use Rattle.tfs_records.specs.Journal.{position_of}
 use Rattle.tfs_serve.proofs.leaving.split_members.Given as goal

@@ -1,4 +1,4 @@
--- New sessions keep nobody from gathering, and the table is as it was.
+-- If all sessions are new, the table can be taken back, with the opening journal.
 use Rattle.tfs_serve.proofs.Returning as returning
 use Rattle.tfs_serve.proofs.leaving.take_back.Goals as goal
 

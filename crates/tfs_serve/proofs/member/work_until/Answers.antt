@@ -1,4 +1,5 @@
--- The closure may be called by several threads: all that it borrows may be used by several. Each session has worked.
+-- Several threads may call the closure, since they may use all that it borrows. Each session has
+-- worked.
 use Rattle.std.proofs.Common.{[], slice_index_or, is_some, subst}
 use denote.Builtin.{unit}
 use denote.Exit.{no}

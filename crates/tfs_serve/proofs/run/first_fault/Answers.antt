@@ -1,4 +1,4 @@
--- One more has no fault, or it has the first one.
+-- The next worker has no fault, or has the first one.
 use Rattle.std.proofs.Common.{refl, sym, ◌∙◌, ap, arith}
 use Rattle.tfs_serve.proofs.Faults.{first_behind, first_here, first_at_end}
 use Rattle.tfs_serve.proofs.run.first_fault.Goals as goal

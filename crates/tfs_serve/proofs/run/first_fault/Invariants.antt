@@ -1,4 +1,4 @@
--- The first fault of all is that of those that are left.
+-- The first fault of all workers is the first of those that are left.
 use Rattle.std.proofs.Common.{◌≡◌, map, drop}
 use Rattle.tfs_serve.specs.Faults.{first_fault_in}
 use Rattle.tfs_serve.proofs.run.first_fault.Given as goal

@@ -1,4 +1,4 @@
--- A table that wasn't shared has the opening journal.
+-- A table that couldn't be shared has the opening journal.
 use Rattle.std.proofs.Common.{◌∙◌, ap}
 use Rattle.tfs_serve.proofs.Later.{begins_as}
 use Rattle.tfs_serve.proofs.run.serve_named.Goals as goal

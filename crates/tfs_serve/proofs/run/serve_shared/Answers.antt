@@ -1,4 +1,4 @@
--- A table that wasn't served has the opening journal.
+-- A table that couldn't be served has the opening journal.
 use Rattle.tfs_serve.proofs.Later.{begins_as}
 use Rattle.tfs_serve.proofs.run.serve_shared.Goals as goal
 

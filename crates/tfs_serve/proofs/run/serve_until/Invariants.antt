@@ -1,4 +1,4 @@
--- The names of the history and of the ledger that were just opened, and the journal that the table has.
+-- The names of the history and the ledger that were just opened, and the journal of the table.
 use Rattle.std.proofs.Common.{length}
 use Rattle.tfs_serve.proofs.run.serve_until.Given as goal
 

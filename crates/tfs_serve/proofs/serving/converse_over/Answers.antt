@@ -1,4 +1,5 @@
--- The steps of the gated desk keep both loans, and the session goes on; what was written are its replies.
+-- The steps of the gated desk keep both loans, and the session advances; the text is of its
+-- replies.
 use Rattle.tfs_serve.specs.Session.{IsLater}
 use Rattle.tfs_serve.proofs.Later.{later_itself, later_then, step_later}
 use Rattle.tfs_serve.proofs.Reaching.{talk_keeps, talk_reaches}

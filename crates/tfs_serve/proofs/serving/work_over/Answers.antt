@@ -1,4 +1,5 @@
--- One more connection: the session goes on, and has answered calls on it, with the replies that were written.
+-- On the next connection the session advances: it has answered calls, and the text is of its
+-- replies.
 use Rattle.tfs_serve.proofs.Later.{later_itself, later_then}
 use Rattle.tfs_serve.proofs.Working.{replied_on, replied_all, replied_nothing}
 use Rattle.tfs_serve.proofs.serving.work_over.Goals as goal

@@ -1,4 +1,4 @@
--- The session has gone on from what it had seen, and what was written are its replies.
+-- The session has advanced, and the texts are of its replies.
 use Rattle.std.proofs.Common.{[]}
 use Rattle.tfs_connections.specs.Talking.{written_at}
 use Rattle.tfs_serve.specs.Session.{IsLater}

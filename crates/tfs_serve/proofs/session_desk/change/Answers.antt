@@ -1,4 +1,4 @@
--- A change is a step of the session, whether it could be read or not.
+-- A change is a step of the session, whether its body is valid or not.
 use Rattle.std.proofs.Common.{arith, refl}
 use Rattle.tfs_calls.specs.Refusal.{refusal_value}
 use Rattle.tfs_calls.specs.Reply.{done, refused}

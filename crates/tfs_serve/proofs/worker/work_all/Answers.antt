@@ -1,4 +1,5 @@
--- The closure may be called by several threads: all that it borrows may be used by several. Each session goes on.
+-- Several threads may call the closure, since they may use all that it borrows. Each session
+-- advances.
 use Rattle.std.proofs.Common.{◌≡◌, true, false, slice_index_or, subst}
 use denote.Builtin.{unit}
 use denote.Exit.{no}

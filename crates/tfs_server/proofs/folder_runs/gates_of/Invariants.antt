@@ -1,4 +1,4 @@
--- As many gates as were counted.
+-- There are as many gates as were counted.
 use Rattle.std.proofs.Common.{◌≡◌, length}
 use Rattle.tfs_server.proofs.folder_runs.gates_of.Given as goal
 

@@ -1,4 +1,4 @@
--- A folder that isn't read has no run.
+-- If the folder isn't read, there are no runs.
 use Rattle.std.proofs.Common.{refl, ap}
 use Rattle.tfs_table.specs.Table.{model_of}
 use Rattle.tfs_published.proofs.Beginnings.{begins_with_itself}

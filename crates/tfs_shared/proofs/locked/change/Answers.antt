@@ -1,4 +1,4 @@
--- A change that isn't made ready has a cause.
+-- A change that isn't prepared has a cause of refusal.
 use Rattle.tfs_calls.specs.Refusal.{refusal_value}
 use Rattle.tfs_shared.proofs.Refusing.{unready_caused}
 use Rattle.tfs_shared.proofs.locked.change.Goals as goal

@@ -1,4 +1,4 @@
--- The share so far has the parts and the amounts of the sessions so far.
+-- The share has the parts and the amounts of the sessions so far.
 use Rattle.std.proofs.Common.{◌≡◌, ◌+◌, ◌*◌, ◌≤◌, length, sum_by}
 use Rattle.tfs_shared.specs.View.{counted_for}
 use Rattle.tfs_shared.proofs.merge.merge_shares.Given as goal

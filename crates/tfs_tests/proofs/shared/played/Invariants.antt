@@ -1,4 +1,4 @@
--- The names of the history and of the ledger that were just opened, and the journal that the table has.
+-- The names of the history and the ledger that were just opened, and the journal of the table.
 use Rattle.tfs_tests.proofs.shared.played.Given as goal
 
 abbrev pub ghosts-play-J-Naming : goal.ghosts-play-J-Naming

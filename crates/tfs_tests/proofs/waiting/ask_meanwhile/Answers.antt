@@ -1,4 +1,5 @@
--- The closure may be called by several threads: it borrows the handle, a shared table and the flag, which several may use.
+-- Several threads may call the closure: it borrows the handle, a shared table and the flag, which
+-- they may use.
 use denote.Exit.{no}
 use denote.Param.{param}
 use denote.Param.Send.{param_sync, arg_sync, shr_sync}

@@ -1,4 +1,4 @@
--- One name more.
+-- The next name adds its instances.
 use Rattle.std.proofs.Common.{◌<◌, length, arith}
 use Rattle.tfs_records.specs.Journal.{names_of}
 use Rattle.tfs_versions.specs.Counts.{instances_at}

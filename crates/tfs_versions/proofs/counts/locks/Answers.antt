@@ -1,4 +1,4 @@
--- One name more.
+-- The next name adds 1 if its lock is held.
 use Rattle.std.proofs.Common.{◌<◌, length, arith}
 use Rattle.tfs_records.specs.Journal.{names_of}
 use Rattle.tfs_versions.specs.Counts.{lock_at}

@@ -1,4 +1,4 @@
--- The sum over the names so far.
+-- The sum is that of the names so far.
 use Rattle.std.proofs.Common.{◌≡◌, ◌≤◌, take}
 use Rattle.std.specs.List.{sum_by}
 use Rattle.tfs_records.specs.Journal.{names_of}

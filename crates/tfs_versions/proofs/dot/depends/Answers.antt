@@ -1,4 +1,4 @@
--- Two tests of one fact.
+-- The two tests of a dependency give the same result.
 use Rattle.std.proofs.lemmas.Bool.Decides.{same_from_decides}
 use Rattle.tfs_index.specs.Reach.{depends_on}
 use Rattle.tfs_index.proofs.ReachLemmas.{depends_told}

@@ -1,4 +1,4 @@
--- The lines so far were added.
+-- The lines so far were appended.
 use Rattle.std.proofs.Common.{◌≡◌, ◌++◌, take}
 use Rattle.std.specs.List.{flat_map}
 use Rattle.tfs_versions.specs.Picture.{node_line}

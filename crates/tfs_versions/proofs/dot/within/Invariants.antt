@@ -1,4 +1,4 @@
--- Those so far are of the numbers so far.
+-- The result has those of the numbers so far that are numbers of instances.
 use Rattle.std.proofs.Common.{◌≡◌, ◌<◌, All, take, filter, length, nat_lt}
 use Rattle.tfs_versions.proofs.dot.within.Given as goal
 

@@ -1,4 +1,4 @@
--- One name more.
+-- The next name's time is compared with the earliest so far.
 use Rattle.std.proofs.Common.{◌+◌, ◌<◌, Option, ℤ, length, take, arith, ap, sym, subst, ◌∙◌}
 use Rattle.std.specs.List.{filter_map}
 use Rattle.tfs_records.specs.Journal.{names_of}

@@ -1,4 +1,4 @@
--- The names so far.
+-- The time is the earliest of the names so far.
 use Rattle.std.proofs.Common.{take}
 use Rattle.std.specs.List.{filter_map}
 use Rattle.tfs_records.specs.Journal.{names_of}

@@ -1,4 +1,4 @@
--- Each turn takes tokens.
+-- Each iteration takes tokens.
 use Rattle.std.proofs.Common.{length}
 use Rattle.tfs_versions.proofs.place.last_serial_end.Given as goal
 

@@ -1,4 +1,4 @@
--- As many gates as were counted.
+-- There are as many gates as were counted.
 use Rattle.std.proofs.Common.{◌≡◌, length}
 use Rattle.tfstated.proofs.serve.gates_of.Given as goal
 

@@ -1,4 +1,4 @@
--- A copy of a table has the table's places and its position.
+-- A copy of a table has the table's places and position.
 use Rattle.tfs_published.proofs.Places.{same_copy}
 use Rattle.tfs_published.proofs.published.Published.of.Goals as goal
 

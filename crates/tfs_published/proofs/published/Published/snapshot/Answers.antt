@@ -1,4 +1,4 @@
--- What is seen is all of the copy.
+-- The snapshot has the token, the position and the state of the copy.
 use Rattle.std.proofs.Common.{ℕ, List, ap, refl, subst, ◌∙◌}
 use Rattle.tfs_rules.specs.History.{state_of}
 use Rattle.tfs_records.specs.Journal.{acts_of}

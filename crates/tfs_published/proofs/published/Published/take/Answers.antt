@@ -1,4 +1,4 @@
--- The copy after taking in an update.
+-- The copy after an update.
 use Rattle.std.proofs.Common.{refl}
 use Rattle.std.proofs.lemmas.List.{map-set}
 use Rattle.tfs_published.specs.Place.{place_view}

@@ -1,4 +1,5 @@
--- The longer of two tokens of one history begins with the shorter; and the shorter stands for a journal of a lower position.
+-- The longer of two tokens of one history begins with the shorter, whose journal has a lower
+-- position.
 use Rattle.std.proofs.Common.{ℕ, List, ◌<◌, subst}
 use mathlib.Core.List.{IsPrefix}
 use Rattle.tfs_records.specs.Journal.{Journal, position_of}

@@ -1,4 +1,4 @@
--- What shows readers the opening journal.
+-- The publisher shows the opening journal to readers.
 use Rattle.std.proofs.Common.{sym, ◌∙◌, ap}
 use Rattle.tfs_records.specs.Journal.{position_of}
 use Rattle.tfs_published.specs.Change.{journal_after}

@@ -1,4 +1,4 @@
--- Publishing keeps what a publisher keeps.
+-- Publishing keeps the invariant of the publisher.
 use Rattle.std.proofs.Common.{refl, sym, ◌∙◌, ap, drop, option_map, Some, None}
 use Rattle.tfs_published.proofs.Publishers.{publisher_along, publisher_published}
 use Rattle.tfs_published.proofs.publisher.Publisher.publish.Goals as goal

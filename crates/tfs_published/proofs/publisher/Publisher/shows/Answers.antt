@@ -1,4 +1,4 @@
--- The copy that readers are shown has the newest token.
+-- The copy that readers enter has the newest token.
 use Rattle.std.proofs.Common.{arith, length, ap, sym, subst, ◌∙◌}
 use Rattle.tfs_records.specs.Journal.{Journal}
 use Rattle.tfs_published.specs.Change.{journal_after}

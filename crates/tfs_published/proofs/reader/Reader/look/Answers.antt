@@ -1,4 +1,4 @@
--- What is seen begins with what was seen.
+-- What the reader sees begins with what it had seen.
 use Rattle.std.proofs.Common.{Option, subst, IfSome}
 use Rattle.tfs_published.specs.Snapshot.{IsSeen}
 use Rattle.tfs_published.specs.declared.snapshot.Snapshot.{Snapshot}

@@ -1,4 +1,4 @@
--- Of two tokens the longer begins with the shorter.
+-- The longer of two tokens begins with the shorter.
 use Rattle.std.proofs.Common.{ap, subst, arith, ◌≤◌, length, List}
 use Rattle.std.proofs.lemmas.Bool.Decides.{nat_tests}
 use mathlib.Core.List.{IsPrefix}

@@ -1,4 +1,4 @@
--- What was written since the reception began is all that it has.
+-- All texts of the reception were written since it began.
 use Rattle.std.proofs.Common.{[], is_some, sym, ◌∙◌, ap, subst}
 use Rattle.tfs_serve.specs.Working.{HasReplied, end_of_work}
 use Rattle.tfs_serve.proofs.Working.{replied_since}

@@ -1,4 +1,4 @@
--- The session that is compared is one more.
+-- The next session is covered too.
 use Rattle.std.proofs.Common.{arith, refl}
 use mathlib.Core.List.{IsPrefix}
 use Rattle.tfs_published.specs.Beginning.{BeginsWith}

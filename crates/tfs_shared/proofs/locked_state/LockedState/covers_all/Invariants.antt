@@ -1,4 +1,4 @@
--- What the sessions so far have seen is begun with, and so are its makers.
+-- The table's journal and makers begin with those of each session so far.
 use Rattle.std.proofs.Common.{ℕ, ◌<◌, get_or}
 use mathlib.Core.List.{IsPrefix}
 use Rattle.tfs_published.specs.Beginning.{BeginsWith}

@@ -1,4 +1,4 @@
--- All sessions are there, so that the total has just what they count.
+-- All sessions are given back, so that the total has exactly their counts.
 use Rattle.std.proofs.Common.{◌+◌, length, ◌∙◌, sym, ap, arith}
 use Rattle.tfs_shared.proofs.Shares.{all_counted, not_none, one_stopped}
 use Rattle.tfs_shared.proofs.locked_state.LockedState.end.Goals as goal

@@ -1,4 +1,4 @@
--- Want of memory, or a stopped table, is answered over the table's journal.
+-- `OutOfMemory` or `JournalStopped` is the reply over the table's journal.
 use Rattle.std.proofs.Common.{refl, sym, ap, subst, ◌∙◌, inr}
 use Rattle.tfs_records.specs.Journal.{Journal}
 use Rattle.tfs_table.specs.Lawful.{IsLawful}

@@ -1,4 +1,4 @@
--- The changes that a session has seen after its own.
+-- The changes that the session has seen after its own.
 use Rattle.std.proofs.Common.{refl, sym, ap}
 use Rattle.tfs_shared.specs.View.{SessionView}
 use Rattle.tfs_shared.proofs.Signing.{signs_nothing, signs_change, signs_counted}
