@@ -219,7 +219,7 @@ part_behind rest count body left behind (Ok (Part.Chunk bytes after)) ends p = (
 part_behind rest count body left behind (Ok (Part.Last after)) ends p = (ends_on left behind after.now ends p.0, p.1, p.2, p.3)
 part_behind rest count body left behind (Err flaw) ends p = p
 
--- The next part by the contract is the next part after the decoded bytes.
+-- The next part that the contract states is the next part after the decoded bytes.
 pub part_told : (rest left : List ℕ) (b : ChunkedBody) (h : HasPassed rest b left) (part told : Part) → part ≡ told
     → ((t body : List ℕ) → IsPassed t b.count body b.ahead left → b.total ≡ length body → IsPart t b.count body left (Ok part))
     → IsPart rest b.count h.body left (Ok told)

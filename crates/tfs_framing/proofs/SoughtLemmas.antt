@@ -20,7 +20,8 @@ none_in_window n text beyond yet = λ before after e less starts.
     yet [] before (after ++ beyond)
     (append-nil (text ++ beyond) ∙ ap (λ t. t ++ beyond) e ∙ append_assoc before (line_feed ∷ after) beyond) less (starts_more after beyond starts)
 
--- The same for the text after a front, with the length of the front subtracted from `n`.
+-- If no head ends in the first `n` bytes of a front and a text, none ends in the bytes of the text
+-- among them.
 pub none_behind : (n : ℕ) (front text : List ℕ) → HasNoEndIn n (front ++ text) → HasNoEndIn (n - length front) text
 none_behind n front text none = λ before after e less starts.
     let long = length-append front before in
