@@ -14,7 +14,7 @@ end_left text left told within e =
     shorter : (xs ys : List ℕ) (k : ℕ) → ys ≡ drop k xs → length ys ≤ length xs
     shorter xs ys k is = let count : length ys ≡ length xs - k = ap length is ∙ length-drop k xs in omega (arith, count)
 
--- The same, with names for the end and for the length of the text.
+-- The same as `end_left`, with names for the end and for the length of the text.
 pub end_of : (text behind left : List ℕ) (told size : ℕ) → behind ≡ drop told text → told ≤ length text → size ≡ length text
     → left ≡ drop (length behind - length left) behind → left ≡ drop (size - length left) text
 end_of text behind left told size is within full e =

@@ -91,7 +91,7 @@ pub told_before : (out old now was ending whole : List ℕ) → out ++ now ≡ o
 told_before out old now was ending whole told is =
     sym (append_assoc out now ending) ∙ ap (λ (t : List ℕ). t ++ ending) told ∙ append_assoc old was ending ∙ ap (λ (t : List ℕ). old ++ t) (sym is)
 
--- The same if the text is fully produced, and a part of the ending is.
+-- A part of the ending can be appended once the text before it is fully produced.
 pub told_behind : (out between old now was ending left whole : List ℕ) → between ++ now ≡ old ++ was → now ≡ [] → out ++ left ≡ between ++ ending
     → whole ≡ was ++ ending → out ++ (now ++ left) ≡ old ++ whole
 told_behind out between old now was ending left whole told none step is =
