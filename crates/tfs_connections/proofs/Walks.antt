@@ -1,4 +1,4 @@
--- What the walks of `src/written.rt` share.
+-- Definitions shared by the proofs for `src/written.rt`.
 use seplogic.Ra.Ura.{Ura}
 use types.Logic.{Logic}
 use types.Kit.{Goal, Step, step, Item, feq_i, fpack}
@@ -37,12 +37,12 @@ pub use denote.Triple.Spec.{Meets, triple_of}
 pub use denote.Triple.Table.{entered}
 pub use denote.Triple.Walked.{says, Stays, stay_dropped, stay_ref, stay_none_slice, walk_of, Walks, walked, walk_Meets, ends_at, AllGo, Goes-dropped, Goes-ref, Goes-none_slice}
 
--- The value of a struct that has no fields.
+-- The value of a struct without fields.
 abbrev pub none : Val
 none = vstruct vnil
 
 module _ {M : Type 1} {𝓤 : Ura M} {𝓛 : Logic 𝓤} {K : Type 0} {Γ : List (Item 𝓤)} {G : Goal 𝓤 𝓛.H} where
-  -- It owns nothing.
+  -- A proof can create this value: it owns nothing.
   pub none_made : K → Step K 𝓛 (‵ ((Struct (record { name = []; args = []; types = []; fields = [] })).own_val tt (none ∷ [])) ∷ Γ) G Γ G
   none_made t = step (λ s.
       nothing t $ feq_i t (List Val) (none ∷ []) (none ∷ []) refl $ fjoin t $

@@ -1,4 +1,4 @@
--- Laws of what comes next of the input of a conversation.
+-- Lemmas about the next input of a conversation.
 use Rattle.std.proofs.Common.{◌≡◌, ◌≤◌, ◌<◌, ◌+◌, ◌-◌, ◌*◌, ◌⊎◌, ℕ, List, [], ◌∷◌, ◌++◌, length, drop, Option, Some, None, IfSome, Result, IfOk, IfErr, refl, sym, ◌∙◌, ap, subst, arith, inl, inr, length-append}
 use Rattle.std.specs.Io.KnownBytes.{Consumes, Keeps}
 use Rattle.tfs_framing.specs.Request.{RequestValue}
@@ -12,7 +12,7 @@ use Rattle.tfs_conversation.specs.declared.ended.Ended.{Ended}
 use Rattle.tfs_conversation.specs.declared.ended.Ended.TheVariants.{Clean, Cut}
 use Rattle.tfs_http.specs.declared.fault.ServeFault.{ServeFault}
 
--- What is told of a result is told of what it is.
+-- What holds of a result also holds of a result equal to it.
 pub what_comes : (bytes left : List ℕ) (before after : ℕ) (a b : Result (Option Arrived) ServeFault) → a ≡ b
     → IfOk b (ArrivesOrStays bytes left) × IfErr b (λ fault. BreaksThere bytes fault before after)
     → IfOk a (ArrivesOrStays bytes left) × IfErr a (λ fault. BreaksThere bytes fault before after)
@@ -20,23 +20,23 @@ what_comes bytes left before after a b is p =
     subst (λ (r : Result (Option Arrived) ServeFault). IfOk r (ArrivesOrStays bytes left) × IfErr r (λ fault. BreaksThere bytes fault before after))
     (sym is) p
 
--- What has come comes of the bytes.
+-- Input that has arrived is the next input of the bytes.
 pub some_arrives : (bytes left : List ℕ) (next : Option Arrived) (a b : Arrived) → next ≡ Some a → a ≡ b → ArrivesOrStays bytes left next
     → Arrives bytes left b
 some_arrives bytes left next a b is also p =
     subst (λ (x : Arrived). Arrives bytes left x) also (subst (λ (o : Option Arrived). ArrivesOrStays bytes left o) is p)
 
--- Where nothing has come all bytes are left.
+-- If no input has arrived, all bytes are left.
 pub none_arrives : (bytes left : List ℕ) (next : Option Arrived) → next ≡ None → ArrivesOrStays bytes left next → left ≡ bytes
 none_arrives bytes left next is p = subst (λ (o : Option Arrived). ArrivesOrStays bytes left o) is p
 
--- Where the input has ended the reader is at its end.
+-- If the input has ended, the reader is at its end.
 pub ended_through : (reader : Option (List ℕ)) (next : Option Arrived) (a : Arrived) (e : Ended) → next ≡ Some a → a ≡ Arrived.Ended e
     → IfSome next (EndsThere reader) → IsReadThrough e reader
 ended_through reader next a e is also p =
     subst (λ (x : Arrived). EndsThere reader x) also (subst (λ (o : Option Arrived). IfSome o (EndsThere reader)) is p)
 
--- Behind a message there is less work left, however much was read for it.
+-- After a message there is less work left, no matter how many reads it took.
 pub less_behind : (before after : ℕ) (input more left : List ℕ) (r : RequestValue) (used : ℕ) → ComesInReads more before after
     → BeginsWith (input ++ more) r used → left ≡ drop used (input ++ more) → (after ≡ before) ⊎ (after ≤ 1048576)
     → work_left after left < work_left before input
@@ -56,26 +56,26 @@ less_behind before after input more left r used came b is limit =
     by (inl same) some all parts both short counted pace = omega arith
     by (inr few) some all parts both short counted pace = omega arith
 
--- What one read gives comes in one read.
+-- At most 65,536 bytes can come in one read.
 pub one_read : (x : List ℕ) (a b : ℕ) → length x ≤ 65536 → b ≡ a + 1 → ComesInReads x a b
 one_read x a b few is = record { counted = omega arith; pace = omega arith }
 
--- What a reader keeps it has not consumed.
+-- A reader that keeps its bytes has consumed none.
 pub kept_nothing : (a b : Option (List ℕ)) → Keeps a b → Consumes a b []
 kept_nothing None b k = tt
 kept_nothing (Some xs) None k = absurd k
 kept_nothing (Some xs) (Some ys) k = sym k
 
--- No reads were made where none came.
+-- The empty list of bytes can come in any number of reads.
 pub no_reads : (a b : ℕ) → a ≤ b → ComesInReads [] a b
 no_reads a b more = record { counted = more; pace = omega arith }
 
--- A list of no length is empty.
+-- A list of length 0 is empty.
 pub nothing_read : (l : List ℕ) → length l ≡ 0 → l ≡ []
 nothing_read [] e = refl
 nothing_read (x ∷ l) e = absurd (omega arith)
 
--- With the input the conversation ends, between messages or inside one.
+-- When the input ends, the conversation ends between messages or inside one.
 pub ends_so : (bytes all : List ℕ) (ended : Ended) → all ≡ bytes → IsUnfinished bytes → ((ended ≡ Clean) × (bytes ≡ [])) ⊎ ((ended ≡ Cut) × ¬ (bytes ≡ []))
     → EndsSo all ended
 ends_so bytes all ended same unfinished (inl p) = inl (p.0, same ∙ p.1)

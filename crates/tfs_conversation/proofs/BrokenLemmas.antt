@@ -1,4 +1,4 @@
--- Laws of conversations that a fault breaks off.
+-- Lemmas about conversations that an error breaks off.
 use Rattle.std.proofs.Common.{◌≡◌, ℕ, List, [], ◌∷◌, ◌++◌, drop, Option, Some}
 use Rattle.std.proofs.Common.{refl, ◌∙◌, inl, inr}
 use Rattle.std.proofs.Common.{append-nil}
@@ -22,7 +22,7 @@ use Rattle.tfs_conversation.proofs.FaultLemmas.{comes_between, comes_writing}
 use Rattle.tfs_conversation.proofs.ConversationLemmas.{moved_reading, moved_writing}
 
 module _ {S : Type 0} (step : S → Call → ReplyValue → S → Type 0) where
-  -- A fault between messages: while more was read, or memory was refused.
+  -- An error between messages, while reading or for lack of memory, breaks the conversation off.
   pub broken_between : (desk : S) (from reader writer : Option (List ℕ)) (before after : ℕ) (input left more : List ℕ) (fault : ServeFault)
       → Consumes from reader more → ComesInReads more before after → BreaksThere (input ++ more) fault before after
       → HasBroken step (moment desk from writer before input) (moment desk reader writer after left) fault
@@ -39,7 +39,7 @@ module _ {S : Type 0} (step : S → Call → ReplyValue → S → Type 0) where
     };
   }
 
-  -- A fault while a reply was written.
+  -- An error while a reply is written breaks the conversation off.
   pub broken_answering : (old new : S) (reader into writer : Option (List ℕ)) (reads : ℕ) (input left : List ℕ) (r : RequestValue) (used : ℕ)
       (reply : ReplyValue)
       (fault : ServeFault) → BeginsWith input r used → left ≡ drop used input → AnswersRequest step old r reply new
@@ -62,7 +62,7 @@ module _ {S : Type 0} (step : S → Call → ReplyValue → S → Type 0) where
         };
       }
 
-  -- A fault while the refusal was written that was to end the conversation.
+  -- An error while the closing refusal is written breaks the conversation off.
   pub broken_refusing : (desk : S) (reader into writer : Option (List ℕ)) (reads : ℕ) (input left : List ℕ) (refusal : Refusal) (fault : ServeFault)
       → framing_refusal input refusal → WritesPart into writer (reply_text (refused (refusal_value refusal)) closing_form) fault
       → HasBroken step (moment desk reader into reads input) (moment desk reader writer reads left) fault

@@ -1,4 +1,4 @@
--- Laws of conversations: one more read, one more message, and each way to end.
+-- Lemmas about conversations: one more read, one more message, and each way to end.
 use Rattle.std.proofs.Common.{◌≡◌, ℕ, Bool, true, false, List, [], ◌∷◌, ◌++◌, drop, Option, Some, None, IfSome, if◌then◌else◌}
 use Rattle.std.proofs.Common.{refl, sym, ◌∙◌, ap, subst, inl, inr}
 use Rattle.std.proofs.Common.{append_assoc, append-nil}
@@ -24,7 +24,7 @@ use Rattle.tfs_http.proofs.OutputLemmas.{appends_more, appends_nothing}
 use Rattle.tfs_conversation.proofs.CourseLemmas.{later, later_text, replies_then, asked_behind, stop_later, takes_then, takes_none, takes_refusal, takes_one}
 use Rattle.tfs_conversation.proofs.FaultLemmas.{comes_later}
 
--- What was read and written in turn was read and written.
+-- What was read and written in two steps was read and written in both together.
 pub moved_then : {S : Type 0} (a b c : Moment S) (bytes more text later : List ℕ) → Moved a b bytes text → Moved b c more later
     → Moved a c (bytes ++ more) (text ++ later)
 moved_then a b c bytes more text later p q = record {
@@ -33,30 +33,30 @@ moved_then a b c bytes more text later p q = record {
   came = comes_more bytes more a.reads b.reads c.reads p.came q.came;
 }
 
--- Where the conversation goes on after a reply, no one asked to close.
+-- If the conversation continues after a reply, the request didn't ask to close.
 pub not_asked : (asks : Bool) (end : Option Ended) → end ≡ (if asks then Some Asked else None) → end ≡ None → asks ≡ false
 not_asked true end is none = let wrong : Some Asked ≡ None = sym is ∙ none in absurd (cc)
 not_asked false end is none = refl
 
--- Where it ends after a reply, it was asked to.
+-- If the conversation ends after a reply, the request asked to close.
 pub asked_ends : (P : Ended → Type 0) (asks : Bool) (end : Option Ended) → end ≡ (if asks then Some Asked else None) → (asks ≡ true → P Asked)
     → IfSome end P
 asked_ends P true end is so = subst (λ (o : Option Ended). IfSome o P) (sym is) (so refl)
 asked_ends P false end is so = subst (λ (o : Option Ended). IfSome o P) (sym is) tt
 
 module _ {S : Type 0} (step : S → Call → ReplyValue → S → Type 0) where
-  -- A course behind the exchanges of a turn, from the moment at which the turn begins.
+  -- The exchanges of a turn and a course after it are a course from the start of the turn.
   takes_later : (a b : Moment S) (w : Went step a b) (new : S) (more : List ℕ) (c : Course) → TakesCourse step b.desk new (b.input ++ more) c
       → TakesCourse step a.desk new (a.input ++ (w.more ++ more)) (later w.served.exchanges c)
   takes_later a b w new more c t =
       subst (λ (bytes : List ℕ). TakesCourse step a.desk new bytes (later w.served.exchanges c)) (append_assoc a.input w.more more)
       (takes_then step a.desk b.desk new (a.input ++ w.more) b.input more w.served.exchanges c w.served.goes_on w.served.takes t)
 
-  -- Its text.
+  -- The text of this course is the text of the turn, then that of the later course.
   text_later : (a b : Moment S) (w : Went step a b) (c : Course) → course_text (later w.served.exchanges c) ≡ w.text ++ course_text c
   text_later a b w c = later_text w.served.exchanges c ∙ ap (λ t. t ++ course_text c) (sym w.served.text_is)
 
-  -- Two turns in a row.
+  -- Two turns, one after the other, are a turn.
   pub went_then : (a b c : Moment S) → Went step a b → Went step b c → Went step a c
   went_then a b c w v = record {
     more = w.more ++ v.more;
@@ -71,7 +71,7 @@ module _ {S : Type 0} (step : S → Call → ReplyValue → S → Type 0) where
     };
   }
 
-  -- A turn, and an end.
+  -- If the conversation ends after a turn, it ends from the moment before the turn.
   pub went_then_ended : (a b c : Moment S) (ended : Ended) → Went step a b → HasEnded step b c ended → HasEnded step a c ended
   went_then_ended a b c ended w e =
       let d = e.converses in
@@ -88,7 +88,8 @@ module _ {S : Type 0} (step : S → Call → ReplyValue → S → Type 0) where
         };
       }
 
-  -- A turn, and a fault.
+  -- If an error breaks the conversation off after a turn, it does so from the moment before the
+  -- turn.
   pub went_then_broken : (a b c : Moment S) (fault : ServeFault) → Went step a b → HasBroken step b c fault → HasBroken step a c fault
   went_then_broken a b c fault w e =
       let d = e.breaks in
@@ -107,7 +108,7 @@ module _ {S : Type 0} (step : S → Call → ReplyValue → S → Type 0) where
 
   -- ---- the turns
 
-  -- Nothing was read or written yet.
+  -- Nothing is read or written between two moments with the same reader, writer and count of reads.
   pub moved_nowhere : (desk new : S) (reader writer : Option (List ℕ)) (reads : ℕ) (input left : List ℕ)
       → Moved (moment desk reader writer reads input) (moment new reader writer reads left) [] []
   moved_nowhere desk new reader writer reads input left = record {
@@ -116,19 +117,19 @@ module _ {S : Type 0} (step : S → Call → ReplyValue → S → Type 0) where
     came = comes_nothing reads;
   }
 
-  -- More was read, and nothing written.
+  -- Bytes were read, and nothing was written.
   pub moved_reading : (desk new : S) (from reader writer : Option (List ℕ)) (before after : ℕ) (input left more : List ℕ) → Consumes from reader more
       → ComesInReads more before after → Moved (moment desk from writer before input) (moment new reader writer after left) more []
   moved_reading desk new from reader writer before after input left more consumed came =
       record { consumed = consumed; appended = appends_nothing writer; came = came }
 
-  -- A text was written, and nothing read.
+  -- A text was written, and nothing was read.
   pub moved_writing : (desk new : S) (reader into writer : Option (List ℕ)) (reads : ℕ) (input left text : List ℕ) → Appends into writer text
       → Moved (moment desk reader into reads input) (moment new reader writer reads left) [] text
   moved_writing desk new reader into writer reads input left text appended =
       record { consumed = consumes_nothing reader; appended = appended; came = comes_nothing reads }
 
-  -- No turn yet.
+  -- From a moment to itself the conversation continues.
   pub went_nowhere : (a : Moment S) → Went step a a
   went_nowhere a = record {
     more = [];
@@ -137,7 +138,7 @@ module _ {S : Type 0} (step : S → Call → ReplyValue → S → Type 0) where
     served = record { exchanges = []; takes = takes_none step a.desk (a.input ++ []) a.input (append-nil a.input); goes_on = refl; text_is = refl };
   }
 
-  -- More was read.
+  -- If more bytes are read, the conversation continues.
   pub went_reading : (desk : S) (from reader writer : Option (List ℕ)) (before after : ℕ) (input left more : List ℕ) → left ≡ input ++ more
       → Consumes from reader more → ComesInReads more before after → Went step (moment desk from writer before input) (moment desk reader writer after left)
   went_reading desk from reader writer before after input left more is consumed came = record {
@@ -147,7 +148,7 @@ module _ {S : Type 0} (step : S → Call → ReplyValue → S → Type 0) where
     served = record { exchanges = []; takes = takes_none step desk (input ++ more) left (sym is); goes_on = refl; text_is = refl };
   }
 
-  -- A message was answered.
+  -- After the reply to a message that doesn't ask to close, the conversation continues.
   pub went_answering : (old new : S) (reader into writer : Option (List ℕ)) (reads : ℕ) (input left : List ℕ) (r : RequestValue) (used : ℕ)
       (reply : ReplyValue)
       → BeginsWith input r used → left ≡ drop used input → AnswersRequest step old r reply new → Appends into writer (reply_text reply (form_of r))
@@ -164,7 +165,7 @@ module _ {S : Type 0} (step : S → Call → ReplyValue → S → Type 0) where
     };
   }
 
-  -- A message was answered that asks to close.
+  -- After the reply to a message that asks to close, the conversation ends.
   pub ended_asked : (old new : S) (reader into writer : Option (List ℕ)) (reads : ℕ) (input left : List ℕ) (r : RequestValue) (used : ℕ)
       (reply : ReplyValue)
       → BeginsWith input r used → left ≡ drop used input → AnswersRequest step old r reply new → Appends into writer (reply_text reply (form_of r))
@@ -182,7 +183,7 @@ module _ {S : Type 0} (step : S → Call → ReplyValue → S → Type 0) where
     };
   }
 
-  -- The input ended.
+  -- The end of the input ends the conversation.
   pub ended_with_input : (desk : S) (from reader writer : Option (List ℕ)) (before after : ℕ) (input left more : List ℕ) (ended : Ended)
       → Consumes from reader more → ComesInReads more before after → EndsSo (input ++ more) ended → IsReadThrough ended reader
       → HasEnded step (moment desk from writer before input) (moment desk reader writer after left) ended
@@ -202,7 +203,7 @@ module _ {S : Type 0} (step : S → Call → ReplyValue → S → Type 0) where
     };
   }
 
-  -- A message was refused.
+  -- After the reply to a refused message, the conversation ends.
   pub ended_refusing : (desk : S) (reader into writer : Option (List ℕ)) (reads : ℕ) (input left : List ℕ) (refusal : Refusal)
       → framing_refusal input refusal → Appends into writer (reply_text (refused (refusal_value refusal)) closing_form)
       → HasEnded step (moment desk reader into reads input) (moment desk reader writer reads left) Refused

@@ -1,4 +1,4 @@
--- Laws of courses: of a course behind exchanges, and of a course of one exchange or none.
+-- Lemmas about courses: a course after exchanges, and a course of at most one exchange.
 use Rattle.std.proofs.Common.{◌≡◌, ◌||◌, ℕ, Bool, true, false, List, [], ◌∷◌, ◌++◌, drop, Some, refl, sym, ◌∙◌, ap, subst}
 use Rattle.std.proofs.Common.{append_assoc, append-nil}
 use Rattle.std.proofs.lemmas.List.{map-append}
@@ -18,7 +18,8 @@ use Rattle.tfs_conversation.specs.declared.ended.Ended.TheVariants.{Clean, Cut, 
 
 -- ---- messages
 
--- Where none of the first asks to close, one of all does just where one of the others does.
+-- If no request of the first list asks to close, one of both lists does exactly if one of the
+-- second does.
 asks_behind : (rs ss : List RequestValue) → one_asks rs ≡ false → one_asks (rs ++ ss) ≡ one_asks ss
 asks_behind [] ss e = refl
 asks_behind (r ∷ rs) ss e = by r.close e (λ f. asks_behind rs ss f)
@@ -28,7 +29,8 @@ asks_behind (r ∷ rs) ss e = by r.close e (λ f. asks_behind rs ss f)
     by true f behind = let wrong : true ≡ false = f in absurd (cc)
     by false f behind = behind f
 
--- Messages, and with more bytes messages of the rest behind them.
+-- The messages of some bytes, and those of their rest with more bytes, are the messages of all
+-- bytes.
 messages_then : (bytes rest left more : List ℕ) (rs ss : List RequestValue) → one_asks rs ≡ false → AreMessages bytes rs rest
     → AreMessages (rest ++ more) ss left → AreMessages (bytes ++ more) (rs ++ ss) left
 messages_then bytes rest left more [] ss goes_on a b = subst (λ (t : List ℕ). AreMessages (t ++ more) ss left) (sym a) b
@@ -47,31 +49,32 @@ messages_then bytes rest left more (r ∷ rs) ss goes_on a b =
 
 -- ---- exchanges
 
--- The requests of exchanges in a row.
+-- The requests of two lists of exchanges, joined, are those of the joined lists.
 requests_then : (xs ys : List Exchange) → requests_of (xs ++ ys) ≡ requests_of xs ++ requests_of ys
 requests_then xs ys = map-append (λ x. x.request) xs ys
 
--- The texts of exchanges in a row.
+-- The texts of two lists of exchanges, joined, are the text of the joined lists.
 pub replies_then : (xs ys : List Exchange) → replies_text (xs ++ ys) ≡ replies_text xs ++ replies_text ys
 replies_then xs ys = flat_map-append exchange_text xs ys
 
--- Where none of the first asked to close, one of all did just where one of the others did.
+-- If no request of the first exchanges asks to close, one of all does exactly if one of the others
+-- does.
 pub asked_behind : (xs ys : List Exchange) → one_asks (requests_of xs) ≡ false
     → one_asks (requests_of (xs ++ ys)) ≡ one_asks (requests_of ys)
 asked_behind xs ys goes_on = ap one_asks (requests_then xs ys) ∙ asks_behind (requests_of xs) (requests_of ys) goes_on
 
 -- ---- courses
 
--- A course with exchanges before it.
+-- The course with exchanges before it.
 abbrev pub later : List Exchange → Course → Course
 later xs c = record { exchanges = xs ++ c.exchanges; rest = c.rest; refusal = c.refusal }
 
--- Its text.
+-- The text of this course is the text of the exchanges, then that of the course.
 pub later_text : (xs : List Exchange) (c : Course) → course_text (later xs c) ≡ replies_text xs ++ course_text c
 later_text xs c = ap (λ t. t ++ refusal_text c.refusal) (replies_then xs c.exchanges)
     ∙ append_assoc (replies_text xs) (replies_text c.exchanges) (refusal_text c.refusal)
 
--- It stops as the course does.
+-- This course stops as the course does.
 pub stop_later : (xs : List Exchange) (c : Course) (ended : Ended) → one_asks (requests_of xs) ≡ false → Stop (messages_of c) ended
     → Stop (messages_of (later xs c)) ended
 stop_later xs c Clean goes_on s = (asked_behind xs c.exchanges goes_on ∙ s.0, s.1, s.2)
@@ -80,12 +83,13 @@ stop_later xs c Asked goes_on s = (asked_behind xs c.exchanges goes_on ∙ s.0, 
 stop_later xs c Refused goes_on s = s
 
 module _ {S : Type 0} (step : S → Call → ReplyValue → S → Type 0) where
-  -- The desk gives replies in turn, and then others.
+  -- Running two lists of exchanges, one after the other, runs the joined lists.
   runs_then : (old between new : S) (xs ys : List Exchange) → Runs step old xs between → Runs step between ys new → Runs step old (xs ++ ys) new
   runs_then old between new [] ys a b = subst (λ (o : S). Runs step o ys new) a b
   runs_then old between new (x ∷ xs) ys a b = (a.0, a.1, runs_then a.0 between new xs ys a.2 b)
 
-  -- Exchanges, and with more bytes a course of the rest behind them.
+  -- Exchanges for some bytes, and a course for their rest with more bytes, are a course for all
+  -- bytes.
   pub takes_then : (old between new : S) (bytes rest more : List ℕ) (xs : List Exchange) (c : Course) → one_asks (requests_of xs) ≡ false
       → TakesCourse step old between bytes (course_of xs rest) → TakesCourse step between new (rest ++ more) c
       → TakesCourse step old new (bytes ++ more) (later xs c)
@@ -99,16 +103,16 @@ module _ {S : Type 0} (step : S → Call → ReplyValue → S → Type 0) where
     run = runs_then old between new xs c.exchanges s.run t.run;
   }
 
-  -- No exchange yet.
+  -- Zero exchanges are a course whose rest is all bytes.
   pub takes_none : (desk : S) (bytes rest : List ℕ) → bytes ≡ rest → TakesCourse step desk desk bytes (course_of [] rest)
   takes_none desk bytes rest is = record { has = record { messages = is; refused = tt }; run = refl }
 
-  -- A message that is refused.
+  -- A refused message is a course without exchanges.
   pub takes_refusal : (desk : S) (bytes rest : List ℕ) (refusal : Refusal) → bytes ≡ rest → framing_refusal rest refusal
       → TakesCourse step desk desk bytes (record { exchanges = []; rest = rest; refusal = Some refusal })
   takes_refusal desk bytes rest refusal is refused = record { has = record { messages = is; refused = (refl, refused) }; run = refl }
 
-  -- One exchange.
+  -- One answered message is a course of one exchange.
   pub takes_one : (old new : S) (input left : List ℕ) (r : RequestValue) (used : ℕ) (reply : ReplyValue) → BeginsWith input r used
       → left ≡ drop used input → AnswersRequest step old r reply new
       → TakesCourse step old new (input ++ []) (course_of (record { request = r; reply = reply } ∷ []) left)

@@ -1,4 +1,4 @@
--- Laws of the desk over a table.
+-- Lemmas about the desk over a table.
 use Rattle.std.proofs.Common.{◌≡◌, ◌≢◌, ℕ, List, Bool, true, false, Option, Some, None, refl, inl, inr, ap}
 use Rattle.tfs_rules.specs.Act.{ActValue}
 use Rattle.tfs_records.specs.Journal.{with_entry}
@@ -12,7 +12,7 @@ use Rattle.tfs_calls.specs.Transition.{TableModel, AnswersAct, act_refusal}
 use Rattle.tfs_table.specs.Table.{TableValue}
 use Rattle.tfs_conversation.specs.Desk.{AnswersCall, CallMayLackMemory, Leaves}
 
--- Where an act is answered by a position, the journal has its entry, and nothing else has changed.
+-- If the reply to an act is a position, the journal gets the act's entry, and nothing else changes.
 pub entered_by : (m n : TableModel) (name : List ℕ) (act : ActValue) (position : ℕ) → AnswersAct m name act (done position) n
     → (n.journal ≡ with_entry m.journal (record { name = name; act = act })) × (n.stopped ≡ m.stopped)
 entered_by m n name act position (inl (inl a)) = by (act_refusal m name act) refl
@@ -24,7 +24,7 @@ entered_by m n name act position (inl (inl a)) = by (act_refusal m name act) ref
 entered_by m n name act position (inl (inr a)) = let wrong = a.0 in cc
 entered_by m n name act position (inr a) = let wrong = a.1 in cc
 
--- A step leaves a table whose sink tells its bytes just where it did so before.
+-- A step doesn't change whether the sink's bytes were known at first.
 pub still_tells : (old new : TableValue) (call : Call) (reply : ReplyValue) → AnswersCall old call reply new → new.tells ≡ old.tells
 still_tells old new call (done position) a = a.leaves.tells
 still_tells old new call (state d) a = a.leaves.tells
@@ -35,16 +35,16 @@ still_tells old new call (refused refusal) a = by refusal a.leaves
     by journal_fault l = (l.1 refl).tells
     by r l = (l.0 (λ e. cc)).tells
 
--- A refusal for want of memory is told as such, and has its cause.
+-- What follows if a refusal is `out_of_memory` also follows if the reply is this refusal.
 pub lacks_by : (A : Type 0) (refusal : RefusalValue) → (refusal ≡ out_of_memory → A) → refused refusal ≡ refused out_of_memory → A
 lacks_by A refusal may lacks = may (cc lacks)
 
--- A change that can't be read without memory isn't one that is read so.
+-- If reading a change is refused for lack of memory, reading it takes memory.
 pub unread_lacks : (m : TableModel) (name : List ℕ) (raw : Raw) (refusal : RefusalValue) → (TakesNoMemory raw → refusal ≢ out_of_memory)
     → refused refusal ≡ refused out_of_memory → CallMayLackMemory m (Change name raw)
 unread_lacks m name raw refusal never lacks takes = absurd (never takes (cc lacks))
 
--- A change whose act lacks memory is one of a table that isn't stopped.
+-- If the act of a change is refused for lack of memory, the table isn't stopped.
 pub applied_lacks : (m : TableModel) (name : List ℕ) (raw : Raw) (act : ActValue) (refusal : RefusalValue) → act_of raw ≡ Some act
     → (m.stopped ≡ true → refusal ≡ journal_stopped) → refused refusal ≡ refused out_of_memory → CallMayLackMemory m (Change name raw)
 applied_lacks m name raw act refusal is stops lacks takes = (λ none. cc (is, none), by m.stopped stops)

@@ -1,4 +1,4 @@
--- Each list of bytes has an output over each table.
+-- For each table, all bytes have an output.
 use Rattle.std.specs.List.{AllByRecursion}
 use Rattle.std.specs.Io.KnownBytes.{Appends}
 use Rattle.std.specs.Option.{option_map_or}
@@ -33,21 +33,21 @@ use Rattle.tfs_conversation.proofs.MessagesLemmas.{messages_some}
 
 -- ---- tables
 
--- A table is the same as itself.
+-- `IsSameTable` is reflexive.
 same_table : (t : TableValue) → IsSameTable t t
 same_table t = record { journal = refl; stopped = refl; tells = refl; told = refl; faults = refl }
 
--- What a sink was told, with more.
+-- The bytes that the sink has received, with more bytes.
 abbrev told_more : Option (List ℕ) → List ℕ → Option (List ℕ)
 told_more None text = None
 told_more (Some bytes) text = Some (bytes ++ text)
 
--- They grew by it.
+-- Between the two, the sink received exactly this text.
 appends_more : (told : Option (List ℕ)) (text : List ℕ) → Appends told (told_more told text) text
 appends_more None text = tt
 appends_more (Some bytes) text = refl
 
--- A table with an entry more, whose record was told.
+-- The table with one more entry, whose record the sink has received.
 abbrev entered : TableValue → EntryValue → TableValue
 entered t e = record {
   journal = with_entry t.journal e;
@@ -58,19 +58,19 @@ entered t e = record {
   spare = t.spare;
 }
 
--- A refusal that is no fault of the sink leaves the table as it was.
+-- A refusal other than `journal_fault` doesn't change the table.
 refusal_leaves : (r : RefusalValue) (t : TableValue) → refused r ≢ refused journal_fault → Leaves (refused r) t t
 refusal_leaves r t other = (λ more. same_table t, λ is. absurd (other (ap refused is)))
 
 -- ---- calls
 
--- A table answers a call by the model's answer.
+-- The table can answer the call with the reply of the model.
 abbrev HasAnswer : TableValue → Call → Type 0
 HasAnswer old call = (new : TableValue) × AnswersCall old call (answer_of (model_of old) call) new
 
 module _ (told : (m : TableModel) (call : Call) → answer_of m call ≢ refused journal_fault)
     (had : (m : TableModel) (call : Call) → answer_of m call ≢ refused out_of_memory) where
-  -- A read has an answer.
+  -- A table can answer each read.
   read_answered : (old : TableValue) (name : List ℕ) → HasAnswer old (Read name)
   read_answered old name = (
     old,
@@ -86,7 +86,7 @@ module _ (told : (m : TableModel) (call : Call) → answer_of m call ≢ refused
       by None other = refusal_leaves no_state old other
       by (Some d) other = same_table old
 
-  -- So has a query.
+  -- A table can answer each query.
   impact_answered : (old : TableValue) (name : List ℕ) (query : Query) → HasAnswer old (Impact name query)
   impact_answered old name query = (
     old,
@@ -111,7 +111,7 @@ module _ (told : (m : TableModel) (call : Call) → answer_of m call ≢ refused
       by None other = refusal_leaves no_state old other
       by (Some d) other = chosen d (query_refusal d query) other
 
-  -- So has a change.
+  -- A table can answer each change.
   change_answered : (old : TableValue) (name : List ℕ) (raw : Raw) → HasAnswer old (Change name raw)
   change_answered old name raw = by (act_of raw) refl (told (model_of old) (Change name raw))
     where
@@ -152,7 +152,7 @@ module _ (told : (m : TableModel) (call : Call) → answer_of m call ≢ refused
       )
       by (Some act) is other = by_act act (act_refusal (model_of old) name act) is refl other
 
-  -- So has each call.
+  -- A table can answer each call.
   call_answered : (old : TableValue) (call : Call) → HasAnswer old call
   call_answered old (Read name) = read_answered old name
   call_answered old (Change name raw) = change_answered old name raw
@@ -160,7 +160,7 @@ module _ (told : (m : TableModel) (call : Call) → answer_of m call ≢ refused
 
   -- ---- requests
 
-  -- A refusal by routing tells neither of want of memory nor of a fault of the sink.
+  -- A refusal by routing is neither `out_of_memory` nor `journal_fault`.
   routing_told : (r : RequestValue) (refusal : Refusal) → routing_refusal r refusal
       → (refused (refusal_value refusal) ≢ refused out_of_memory) × (refused (refusal_value refusal) ≢ refused journal_fault)
   routing_told r OutOfMemory is = absurd is
@@ -168,12 +168,12 @@ module _ (told : (m : TableModel) (call : Call) → answer_of m call ≢ refused
   routing_told r refusal is = (λ e. cc, λ e. cc)
 
   module _ (routed : (r : RequestValue) → (x : Result Call Refusal) × RoutesTo r x) where
-    -- A request is answered, by neither.
+    -- The request has a reply that is neither `out_of_memory` nor `journal_fault`.
     abbrev IsAnswered : TableValue → RequestValue → Type 0
     IsAnswered old r = (reply : ReplyValue) × (new : TableValue) × AnswersRequest AnswersCall old r reply new
         × (reply ≢ refused out_of_memory) × (reply ≢ refused journal_fault)
 
-    -- Each request is answered.
+    -- Each request has a reply of this kind.
     request_answered : (old : TableValue) (r : RequestValue) → IsAnswered old r
     request_answered old r = by (routed r).0 (routed r).1
       where
@@ -183,12 +183,12 @@ module _ (told : (m : TableModel) (call : Call) → answer_of m call ≢ refused
         by (Ok call) is = let a = call_answered old call in
             (answer_of (model_of old) call, a.0, inr (inr (call, is, a.1)), had (model_of old) call, told (model_of old) call)
 
-    -- So are requests in turn.
+    -- The requests have replies of this kind, one after the other.
     abbrev AreAnswered : TableValue → List RequestValue → Type 0
     AreAnswered old requests = (xs : List Exchange) × (new : TableValue) × (requests_of xs ≡ requests) × Runs AnswersCall old xs new
         × AllByRecursion IsUndisturbed xs
 
-    -- Each list of requests is.
+    -- Each list of requests has replies of this kind.
     requests_answered : (old : TableValue) (requests : List RequestValue) → AreAnswered old requests
     requests_answered old [] = ([], old, refl, refl, tt)
     requests_answered old (r ∷ rs) =
@@ -201,7 +201,7 @@ module _ (told : (m : TableModel) (call : Call) → answer_of m call ≢ refused
           ((first.3, first.4), others.4),
         )
 
-    -- The bytes' messages are answered in turn, and that is their output.
+    -- The replies to the messages of the bytes, one after the other, are their output.
     pub output_some : ((bytes : List ℕ) → (t : Take) × Frames bytes t) → (old : TableValue) (bytes : List ℕ)
         → (new : TableValue) × (text : List ℕ) × (ended : Ended) × HasOutput old new bytes text ended
     output_some framed old bytes =

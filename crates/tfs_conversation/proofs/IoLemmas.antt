@@ -1,4 +1,4 @@
--- Laws of the bytes that readers have left and writers hold, over several reads and writes.
+-- Lemmas about the bytes that readers have left and writers hold, over several reads and writes.
 use Rattle.std.proofs.Common.{◌≡◌, ℕ, List, [], ◌++◌, Option, Some, None, Result, Ok, Err, IfErr, refl, sym, ◌∙◌, ap, subst, inl, inr, arith, Bool, true, false, if◌then◌else◌}
 use Rattle.std.specs.Result.{OnOk}
 use Rattle.std.proofs.Common.{append_assoc, append-nil}
@@ -14,19 +14,19 @@ use Rattle.tfs_http.proofs.OutputLemmas.{appends_nothing}
 use Rattle.tfs_http.specs.declared.fault.ServeFault.{ServeFault}
 use Rattle.tfs_http.specs.declared.fault.ServeFault.TheVariants.{Write, NoMemory}
 
--- Two reads in turn consume both.
+-- Two reads, one after the other, consume the bytes of both.
 pub consumes_more : (a b c : Option (List ℕ)) (x y : List ℕ) → Consumes a b x → Consumes b c y → Consumes a c (x ++ y)
 consumes_more None b c x y p q = tt
 consumes_more (Some xs) None c x y p q = absurd p
 consumes_more (Some xs) (Some ys) None x y p q = absurd q
 consumes_more (Some xs) (Some ys) (Some zs) x y p q = p ∙ ap (λ t. x ++ t) q ∙ sym (append_assoc x y zs)
 
--- What stays as it is has consumed nothing.
+-- A reader that doesn't change has consumed no bytes.
 pub consumes_nothing : (a : Option (List ℕ)) → Consumes a a []
 consumes_nothing None = tt
 consumes_nothing (Some xs) = refl
 
--- What came in reads, and what came in reads after them, came in all these reads.
+-- Bytes that came in reads, and more bytes that came in later reads, came in all these reads.
 pub comes_more : (x y : List ℕ) (a b c : ℕ) → ComesInReads x a b → ComesInReads y b c → ComesInReads (x ++ y) a c
 comes_more x y a b c p q =
     let long = length-append x y in
@@ -36,21 +36,21 @@ comes_more x y a b c p q =
     let next = q.pace in
     record { counted = omega arith; pace = omega arith }
 
--- Nothing comes in no reads.
+-- The empty list of bytes comes in zero reads.
 pub comes_nothing : (a : ℕ) → ComesInReads [] a a
 comes_nothing a = record { counted = omega arith; pace = omega arith }
 
--- Where there was no memory for a text, none of it was written.
+-- If there is no memory for a text, none of it is written.
 pub none_written : (a : Option (List ℕ)) (text : List ℕ) → WritesPart a a text NoMemory
 none_written a text = record { part = []; rest = text; split = refl; appended = appends_nothing a; one_of = inr (refl, refl) }
 
--- What is written of a text is written of the same text by another name.
+-- Writing a text writes each text equal to it.
 pub written_as : {A : Type 0} (r : Result A ServeFault) (a b : Option (List ℕ)) (text whole : List ℕ) → text ≡ whole → OnOk r (Appends a b text)
     → OnOk r (Appends a b whole)
 written_as (Ok u) a b text whole e p = subst (Appends a b) e p
 written_as (Err fault) a b text whole e p = tt
 
--- A writer that got a part of the text of a reply has a part of the reply.
+-- A writer that received a part of a reply's text has received a part of each text equal to it.
 pub part_written : {A : Type 0} (r : Result A ServeFault) (a b : Option (List ℕ)) (text whole : List ℕ) → text ≡ whole
     → IfErr r (λ fault. (fault ≡ Write) × WritesFront a b text) → IfErr r (λ fault. WritesPart a b whole fault)
 part_written (Ok u) a b text whole e p = tt
@@ -58,18 +58,18 @@ part_written (Err fault) a b text whole e p =
     let w = p.1 in
     record { part = w.0; rest = w.1; split = sym e ∙ w.3; appended = w.4; one_of = inl (p.0, w.2) }
 
--- A part of a text is a part of the same text by another name.
+-- A part of a text is a part of each text equal to it.
 pub part_as : {A : Type 0} (r : Result A ServeFault) (a b : Option (List ℕ)) (text whole : List ℕ) → text ≡ whole → IfErr r (WritesPart a b text)
     → IfErr r (WritesPart a b whole)
 part_as (Ok u) a b text whole e p = tt
 part_as (Err fault) a b text whole e p = subst (λ (t : List ℕ). WritesPart a b t fault) e p
 
--- A head, with a text behind it that is all of a body.
+-- A head and all of a body are the head, the body and an empty rest.
 pub all_told : (head text items left : List ℕ) → items ≡ text → left ≡ [] → head ++ items ≡ head ++ (text ++ left)
 all_told head text items left is none =
     ap (λ (t : List ℕ). head ++ t) (is ∙ sym (append-nil text) ∙ ap (λ (t : List ℕ). text ++ t) (sym none))
 
--- Where the form is bare, the head of an answer's reply is its text.
+-- If the form is bare, the text of an impact's reply is its head.
 pub bare_text : (d : Document) (chosen : List ℕ) (position : ℕ) (form : Form) (head told : List ℕ) → form.bare ≡ true
     → told ≡ impact_body d chosen position → head ≡ head_text 200 [] form told → head ≡ reply_text (impact d chosen position) form
 bare_text d chosen position form head told bare is e =
@@ -77,7 +77,7 @@ bare_text d chosen position form head told bare is e =
     e ∙ ap (head_text 200 [] form) is ∙ sym (append-nil (head_text 200 [] form body))
     ∙ ap (λ (x : Bool). head_text 200 [] form body ++ (if x then [] else body)) (sym bare)
 
--- Where it isn't, the head and the body behind it are.
+-- If the form isn't bare, the text of an impact's reply is its head and its body.
 pub full_text : (d : Document) (chosen : List ℕ) (position : ℕ) (form : Form) (head told : List ℕ) → form.bare ≡ false
     → told ≡ impact_body d chosen position → head ≡ head_text 200 [] form told → head ++ told ≡ reply_text (impact d chosen position) form
 full_text d chosen position form head told whole is e =

@@ -1,4 +1,4 @@
--- A list of bytes has one list of messages, which stops in one way.
+-- Lemmas about messages: bytes have exactly one list of messages, which stops in exactly one way.
 use Rattle.std.proofs.Common.{◌≡◌, ◌<◌, ◌+◌, ◌||◌, zero, suc, ℕ, Bool, true, false, List, [], ◌∷◌, ◌++◌, length, Option, Some, None, refl, sym, ◌∙◌, ap, ap₂, subst}
 use Rattle.std.proofs.Common.{arith}
 use Rattle.std.proofs.lemmas.List.{length-append}
@@ -12,22 +12,22 @@ use Rattle.tfs_conversation.specs.Messages.{one_asks, AreMessages, IsRefused, Me
 use Rattle.tfs_conversation.specs.declared.ended.Ended.{Ended}
 use Rattle.tfs_conversation.specs.declared.ended.Ended.TheVariants.{Clean, Cut, Asked, Refused}
 
--- The refusal that a rest has.
+-- The refusal of the rest is a refusal by framing, and no request asked to close.
 refusal_in : (asked : Bool) (rest : List ℕ) (p : Option Refusal) (r : Refusal) → p ≡ Some r → IsRefused asked rest p
     → (asked ≡ false) × framing_refusal rest r
 refusal_in asked rest p r is refused = subst (IsRefused asked rest) is refused
 
--- Behind a request that asks to close nothing is refused.
+-- After a request that asks to close, nothing is refused.
 asked_stops : (rest : List ℕ) (p : Option Refusal) (d : Ended) → IsRefused true rest p → StopsAt true rest p d → (p ≡ None) × (d ≡ Asked)
 asked_stops rest p Clean refused s = let wrong : true ≡ false = s.0 in cc
 asked_stops rest p Cut refused s = let wrong : true ≡ false = s.0 in cc
 asked_stops rest p Asked refused s = (s.1, refl)
 asked_stops rest p Refused refused s = let wrong : true ≡ false = (refusal_in true rest p s.0 s.1 refused).0 in cc
 
--- ---- one list
+-- ---- at most one list
 
 module _ (framed : (bytes : List ℕ) (t u : Take) → Frames bytes t → Frames bytes u → t ≡ u) where
-  -- A rest stops in one way, where no request asked to close.
+  -- If no request asked to close, the rest stops in only one way.
   stops_once : (rest : List ℕ) (p q : Option Refusal) (d e : Ended) → IsRefused false rest p → StopsAt false rest p d
       → IsRefused false rest q → StopsAt false rest q e → (p ≡ q) × (d ≡ e)
   stops_once rest p q Clean Clean had a has b = (a.2 ∙ sym b.2, refl)
@@ -50,7 +50,7 @@ module _ (framed : (bytes : List ℕ) (t u : Take) → Frames bytes t → Frames
   stops_once rest p q Cut Asked had a has b = let wrong : false ≡ true = b.0 in cc
   stops_once rest p q Refused Asked had a has b = let wrong : false ≡ true = b.0 in cc
 
-  -- Messages don't stop before a message.
+  -- If no request asked to close and another message follows, the messages don't stop.
   no_stop_before : (bytes rest frame after : List ℕ) (p : Option Refusal) (d : Ended) (r : RequestValue) → bytes ≡ rest → IsRefused false rest p
       → StopsAt false rest p d → bytes ≡ frame ++ after → ReadsMessage frame r → ⊥
   no_stop_before bytes rest frame after p Clean r is refused s parts m =
@@ -64,7 +64,7 @@ module _ (framed : (bytes : List ℕ) (t u : Take) → Frames bytes t → Frames
       framed rest (Fault s.0) (Got r (length frame)) (refusal_in false rest p s.0 s.1 refused).1 (begins rest frame after r (sym is ∙ parts) m) in
       cc
 
-  -- Lists of messages of the same bytes that stop are one.
+  -- Two lists of messages of the same bytes that stop are equal.
   lists_once : (bytes rest left : List ℕ) (p q : Option Refusal) (d e : Ended) (rs ss : List RequestValue)
       → AreMessages bytes rs rest → IsRefused (one_asks rs) rest p → StopsAt (one_asks rs) rest p d
       → AreMessages bytes ss left → IsRefused (one_asks ss) left q → StopsAt (one_asks ss) left q e
@@ -118,21 +118,21 @@ module _ (framed : (bytes : List ℕ) (t u : Take) → Frames bytes t → Frames
       ap (λ rs. record { requests = rs; rest = m.rest; refusal = m.refusal }) requests
       ∙ ap₂ (λ t p. record { requests = n.requests; rest = t; refusal = p }) rest refusal
 
-  -- The messages of bytes, and how they stop, are one.
+  -- Bytes have at most one list of messages that stops, and it stops in only one way.
   pub messages_once : (bytes : List ℕ) (m n : Messages) (d e : Ended) → HasMessages bytes m → Stop m d → HasMessages bytes n → Stop n e
       → (m ≡ n) × (d ≡ e)
   messages_once bytes m n d e a s b t =
       let same = lists_once bytes m.rest n.rest m.refusal n.refusal d e m.requests n.requests a.messages a.refused s b.messages b.refused t in
       (same_messages m n same.0 same.1 same.2, same.3)
 
--- ---- there is one
+-- ---- at least one list
 
--- Some messages of the bytes stop.
+-- The bytes have messages that stop.
 abbrev pub HaveMessages : List ℕ → Type 0
 HaveMessages bytes = (m : Messages) × (ended : Ended) × HasMessages bytes m × Stop m ended
 
 module _ (each : (bytes : List ℕ) → (t : Take) × Frames bytes t) where
-  -- Bytes that neither begin with a message nor have a refusal stop there.
+  -- Unfinished bytes have no messages, and stop between messages or inside one.
   unfinished_stop : (bytes : List ℕ) → Frames bytes Need → HaveMessages bytes
   unfinished_stop [] more = (
     record { requests = []; rest = []; refusal = None },
@@ -147,7 +147,8 @@ module _ (each : (bytes : List ℕ) → (t : Take) × Frames bytes t) where
     (refl, (λ none. cc), more, refl),
   )
 
-  -- A message, and what the bytes behind it have, where they are fewer than so many.
+  -- Bytes shorter than `n` have messages that stop: the first message, and those of the bytes after
+  -- it.
   messages_up_to : (n : ℕ) (bytes : List ℕ) → length bytes < n → HaveMessages bytes
   messages_up_to zero bytes few = elim few [ ]
   messages_up_to (suc n) bytes few = by (λ rest fewer. messages_up_to n rest fewer) (each bytes).0 (each bytes).1
@@ -192,6 +193,6 @@ module _ (each : (bytes : List ℕ) → (t : Take) × Frames bytes t) where
                 subst (λ (v : Bool). StopsAt (v || one_asks m.requests) m.rest m.refusal more.1) (sym is) more.3,
               )
 
-  -- Each list of bytes has messages that stop.
+  -- All bytes have messages that stop.
   pub messages_some : (bytes : List ℕ) → HaveMessages bytes
   messages_some bytes = messages_up_to (suc (length bytes)) bytes (omega arith)

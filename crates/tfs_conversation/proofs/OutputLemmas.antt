@@ -1,4 +1,4 @@
--- Bytes have one output over a table.
+-- Lemmas about outputs: bytes have at most one output over a table.
 use Rattle.std.specs.List.{AllByRecursion}
 use Rattle.std.proofs.Common.{◌≡◌, ◌≢◌, ℕ, List, [], ◌∷◌, Result, Ok, Err, refl, sym, ◌∙◌, ap, ap₂, subst}
 use Rattle.std.proofs.Common.{inl, inr}
@@ -21,19 +21,19 @@ use Rattle.tfs_conversation.proofs.MessagesLemmas.{messages_once}
 use Rattle.tfs_conversation.proofs.StepLemmas.{takes_over}
 use Rattle.tfs_conversation.specs.declared.ended.Ended.{Ended}
 
--- ---- the answer to a request
+-- ---- the reply to a request
 
--- A fault of the sink is told as such.
+-- After an error of the sink the reply is `journal_fault`.
 fault_is_told : (m n : TableModel) (call : Call) (reply : ReplyValue) → FaultsJournal m call reply n → reply ≡ refused journal_fault
 fault_is_told m n (Read name) reply f = absurd f
 fault_is_told m n (Impact name query) reply f = absurd f
 fault_is_told m n (Change name raw) reply f = f.2.1
 
--- The reply tells neither of want of memory nor of a fault of the sink.
+-- The reply is neither `out_of_memory` nor `journal_fault`.
 abbrev IsModels : ReplyValue → Type 0
 IsModels reply = (reply ≢ refused out_of_memory) × (reply ≢ refused journal_fault)
 
--- A table that had memory, and whose sink hasn't failed, gives the model's answer.
+-- Without these two refusals, a call has only one reply, and only one table after it.
 step_once : (m k l : TableModel) (call : Call) (given also : ReplyValue) → Answers m call given k → Answers m call also l
     → IsModels given → IsModels also → (given ≡ also) × (k ≡ l)
 step_once m k l call given also (inl (inl a)) (inl (inl b)) had has = (a.0 ∙ sym b.0, a.1 ∙ sym b.1)
@@ -43,7 +43,7 @@ step_once m k l call given also (inl (inl a)) (inl (inr b)) had has = absurd (ha
 step_once m k l call given also (inl (inl a)) (inr b) had has = absurd (has.1 (fault_is_told m l call also b))
 
 module _ (routed : (r : RequestValue) (x y : Result Call Refusal) → RoutesTo r x → RoutesTo r y → x ≡ y) where
-  -- A request has one answer of a table that had memory, and whose sink hasn't failed.
+  -- Without these two refusals, a request has only one reply, and only one table after it.
   answers_once : (j k l : TableModel) (r : RequestValue) (reply also : ReplyValue) → AnswersRequest Answers j r reply k
       → AnswersRequest Answers j r also l → IsModels reply → IsModels also → (reply ≡ also) × (k ≡ l)
   answers_once j k l r reply also (inr (inl a)) b had has = absurd (had.0 a.0)
@@ -61,7 +61,8 @@ module _ (routed : (r : RequestValue) (x y : Result Call Refusal) → RoutesTo r
       let call : a.0 ≡ b.0 = cc in
       step_once j k l b.0 reply also (subst (λ (x : Call). Answers j x reply k) call a.2) b.2 had has
 
-  -- The desk gives one list of replies to requests.
+  -- Without these two refusals, requests have only one list of replies, and only one table after
+  -- them.
   runs_once : (j k l : TableModel) (xs ys : List Exchange) → requests_of xs ≡ requests_of ys → Runs Answers j xs k → Runs Answers j ys l
       → AllByRecursion IsUndisturbed xs → AllByRecursion IsUndisturbed ys → (xs ≡ ys) × (k ≡ l)
   runs_once j k l [] [] is run also had has = (refl, run ∙ sym also)

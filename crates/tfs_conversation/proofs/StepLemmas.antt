@@ -1,4 +1,4 @@
--- Steps of one desk that are steps of another, and what steps keep.
+-- Lemmas about desks whose steps are steps of another desk, and about what steps don't change.
 use Rattle.std.proofs.Common.{◌≡◌, List, ℕ, [], ◌∷◌, Option, Some, None, Result, Ok, Err, IfOk, IfErr, MatchResult, refl, sym, ◌∙◌, ap, subst, inl, inr, arith}
 use Rattle.std.specs.Io.KnownBytes.{Appends, Consumes}
 use Rattle.tfs_calls.specs.declared.call.Call.{Call}
@@ -9,7 +9,7 @@ use Rattle.tfs_conversation.specs.declared.ended.Ended.{Ended}
 use Rattle.tfs_conversation.specs.declared.ended.Ended.TheVariants.{Clean}
 use Rattle.tfs_http.specs.declared.fault.ServeFault.{ServeFault}
 
--- Where each step of a desk is one of another over a view of it, the same holds of whole conversations.
+-- If each step of a desk is a step of another desk over a view of it, so is the reply to a request.
 module _ {S T : Type 0} (step : S → Call → ReplyValue → S → Type 0) (other : T → Call → ReplyValue → T → Type 0) (view : S → T)
     (over : (old new : S) (call : Call) (reply : ReplyValue) → step old call reply new → other (view old) call reply (view new)) where
   answers_over : (old new : S) (r : RequestValue) (reply : ReplyValue) → AnswersRequest step old r reply new
@@ -18,22 +18,22 @@ module _ {S T : Type 0} (step : S → Call → ReplyValue → S → Type 0) (oth
   answers_over old new r reply (inr (inl a)) = inr (inl (a.0, ap view a.1, a.2))
   answers_over old new r reply (inr (inr a)) = inr (inr (a.0, a.1, over old new a.0 reply a.2))
 
-  -- The same of exchanges in turn.
+  -- Exchanges with the desk are exchanges with the other desk.
   runs_over : (old new : S) (xs : List Exchange) → Runs step old xs new → Runs other (view old) xs (view new)
   runs_over old new [] run = ap view run
   runs_over old new (x ∷ xs) run = (view run.0, answers_over old run.0 x.request x.reply run.1, runs_over run.0 new xs run.2)
 
-  -- The same of a course.
+  -- A course with the desk is a course with the other desk.
   pub takes_over : (old new : S) (bytes : List ℕ) (c : Course) → TakesCourse step old new bytes c → TakesCourse other (view old) (view new) bytes c
   takes_over old new bytes c t = record { has = t.has; run = runs_over old new c.exchanges t.run }
 
-  -- The same of a conversation that ended.
+  -- A conversation with the desk is a conversation with the other desk.
   pub converses_over : (old new : S) (bytes text : List ℕ) (ended : Ended) → Converses step old new bytes text ended
       → Converses other (view old) (view new) bytes text ended
   converses_over old new bytes text ended c =
       record { course = c.course; takes = takes_over old new bytes c.course c.takes; stop = c.stop; text_is = c.text_is }
 
-  -- The same of a conversation that a fault broke off.
+  -- A conversation that an error broke off is one with the other desk too.
   pub breaks_over : (old new : S) (bytes text : List ℕ) (fault : ServeFault) (before after : ℕ)
       → BreaksOff step old new bytes text fault before after → BreaksOff other (view old) (view new) bytes text fault before after
   breaks_over old new bytes text fault before after b = record {
@@ -44,7 +44,7 @@ module _ {S T : Type 0} (step : S → Call → ReplyValue → S → Type 0) (oth
     comes_at = b.comes_at;
   }
 
-  -- The same of a call that had a conversation and ended well.
+  -- If a call had a conversation with the desk, it had one with the other desk.
   pub ended_over : (old new : S) (from to into onto : Option (List ℕ)) (before after : ℕ) (result : Result Ended ServeFault)
       → IfOk result (λ ended. (bytes : List ℕ) × (text : List ℕ) × Consumes from to bytes × Appends into onto text
       × ComesInReads bytes before after × Converses step old new bytes text ended)
@@ -53,7 +53,7 @@ module _ {S T : Type 0} (step : S → Call → ReplyValue → S → Type 0) (oth
   ended_over old new from to into onto before after (Ok ended) c = (c.0, c.1, c.2, c.3, c.4, converses_over old new c.0 c.1 ended c.5)
   ended_over old new from to into onto before after (Err fault) c = c
 
-  -- The same of a call that a fault broke off.
+  -- If an error broke off the conversation of a call, it broke off one with the other desk.
   pub broken_over : (old new : S) (from to into onto : Option (List ℕ)) (before after : ℕ) (result : Result Ended ServeFault)
       → IfErr result (λ fault. (bytes : List ℕ) × (text : List ℕ) × Consumes from to bytes × Appends into onto text
       × ComesInReads bytes before after × BreaksOff step old new bytes text fault before after)
@@ -63,7 +63,7 @@ module _ {S T : Type 0} (step : S → Call → ReplyValue → S → Type 0) (oth
   broken_over old new from to into onto before after (Err fault) c =
       (c.0, c.1, c.2, c.3, c.4, breaks_over old new c.0 c.1 fault before after c.5)
 
--- What each step of a desk keeps is kept by exchanges in turn.
+-- If no step of a desk changes a part of it, exchanges don't change this part either.
 pub runs_keep : {S U : Type 0} (step : S → Call → ReplyValue → S → Type 0) (part : S → U)
     → ((old new : S) (call : Call) (reply : ReplyValue) → step old call reply new → part new ≡ part old)
     → (old new : S) (xs : List Exchange) → Runs step old xs new → part new ≡ part old
@@ -75,7 +75,7 @@ runs_keep {S} step part keeps old new (x ∷ xs) run = runs_keep step part keeps
     between (inr (inl a)) = ap part a.1
     between (inr (inr a)) = keeps old run.0 a.0 x.reply a.2
 
--- What each step of a desk keeps is kept by a call that had a conversation.
+-- If no step of a desk changes a part of it, a conversation doesn't change this part either.
 pub call_keeps : {S U : Type 0} (step : S → Call → ReplyValue → S → Type 0) (part : S → U)
     → ((old new : S) (call : Call) (reply : ReplyValue) → step old call reply new → part new ≡ part old)
     → (old new : S) (from to into onto : Option (List ℕ)) (before after : ℕ) (result : Result Ended ServeFault)
@@ -89,7 +89,7 @@ call_keeps step part keeps old new from to into onto before after (Ok ended) c b
 call_keeps step part keeps old new from to into onto before after (Err fault) c b =
     runs_keep step part keeps old new b.5.course.exchanges b.5.takes.run
 
--- A call that had a conversation, into a writer that held nothing, has written this text.
+-- A conversation with a writer that held no bytes wrote the text that the writer holds after it.
 pub has_talked : {S : Type 0} (step : S → Call → ReplyValue → S → Type 0) (old new : S) (from to : Option (List ℕ)) (text : List ℕ) (after : ℕ)
     (result : Result Ended ServeFault)
     → IfOk result (λ ended. (bytes : List ℕ) × (t : List ℕ) × Consumes from to bytes × Appends (Some []) (Some text) t
@@ -112,7 +112,7 @@ has_talked step old new from to text after (Err fault) c b = record {
   talk = subst (λ (t : List ℕ). BreaksOff step old new b.0 t fault 0 after) (sym b.3) b.5;
 }
 
--- A conversation of no bytes: nothing is written, and the desk stays.
+-- A conversation of no bytes writes nothing and doesn't change the desk.
 pub talked_nothing : {S : Type 0} (step : S → Call → ReplyValue → S → Type 0) (s : S) → HasTalked step s s []
 talked_nothing step s = record {
   bytes = [];
@@ -127,7 +127,7 @@ talked_nothing step s = record {
   };
 }
 
--- The exchanges of a conversation.
+-- A conversation has exchanges that the desk ran.
 pub talked_run : {S : Type 0} (step : S → Call → ReplyValue → S → Type 0) (old new : S) (text : List ℕ) → HasTalked step old new text
     → (exchanges : List Exchange) × Runs step old exchanges new
 talked_run {S} step old new text t = by t.end t.talk

@@ -1,4 +1,4 @@
--- A text as blocks.
+-- Lemmas about a padded text as blocks of 64 bytes.
 use Rattle.std.proofs.Common.{◌≡◌, ℕ, suc, ◌+◌, ◌-◌, ◌*◌, ◌/◌, ◌%◌, ◌^◌, ◌<◌, ◌≤◌, List, ◌∷◌, ◌++◌, length, take, drop, set, replicate, arith, refl, sym, ap, ◌∙◌, length-append, length-drop, append_assoc}
 use Rattle.std.proofs.lemmas.List.{take-append-le, drop-append-le, drop-drop, drop-replicate, take-take, take_all, take_at, length-replicate, replicate-append-replicate}
 use Rattle.std.proofs.Math.Seq.{set-append_seam}
@@ -19,7 +19,7 @@ length_padding n =
 length_padded : (m : List ℕ) → length (padded_message m) ≡ length m + 9 + (119 - length m % 64) % 64
 length_padded m = omega (arith, length-append m (padding (length m)), length_padding (length m))
 
--- The length fits behind the bytes that are left, or needs one more block.
+-- After the whole blocks, the rest needs one block if it has fewer than 56 bytes, otherwise two.
 pub count_with_short_end : (m : List ℕ) → length m % 64 < 56 → block_count m ≡ length m / 64 + 1
 unfolding block_count
 count_with_short_end m short = omega (arith, length_padded m)
@@ -36,7 +36,7 @@ count_is : (m : List ℕ) → (length m / 64 + 1 ≤ block_count m) × (block_co
 unfolding block_count
 count_is m = (omega (arith, length_padded m), omega (arith, length_padded m))
 
--- A whole block of a text.
+-- A whole block of the text is the block of the padded text with this number.
 pub whole_block : (m : List ℕ) (i : ℕ) → i < length m / 64 → take (64 * i + 64 - 64 * i) (drop (64 * i) m) ≡ block_of m i
 unfolding block_of
 whole_block m i low =
@@ -48,14 +48,14 @@ whole_block m i low =
     let first : take 64 (drop (i * 64) m ++ p) ≡ take 64 (drop (i * 64) m) = take-append-le 64 (drop (i * 64) m) p fits in
     rw (size, place) (sym (ap (take 64) behind ∙ first))
 
--- The first block behind the whole ones.
+-- The first block of a text's end is the block after its whole blocks.
 pub first_block_of_end : (m e : List ℕ) → BeginsWithEnd m e → take 64 e ≡ block_of m (length m / 64)
 unfolding block_of end_of
 first_block_of_end m e begins =
     let fits : 64 ≤ length (end_of m) = omega (arith, length_end m, count_is m) in
     sym (take-take 64 (length (end_of m)) e fits) ∙ ap (take 64) begins
 
--- The second one.
+-- The second block of a text's end is the block after that one.
 pub second_block_of_end : (m e : List ℕ) (i : ℕ) → BeginsWithEnd m e → length e ≡ 128 → i < block_count m → length m / 64 < i
     → mid_of 64 64 e ≡ block_of m i
 unfolding block_of end_of
@@ -66,7 +66,7 @@ second_block_of_end m e i begins size low behind =
     ap (drop 64) (sym all ∙ begins) ∙ drop-drop 64 (length m / 64 * 64) (padded_message m) ∙ ap (λ n. drop n (padded_message m)) place in
     ap (take 64) rest
 
--- Bytes with a mark behind them, before zeros.
+-- Bytes followed by the byte 0x80 and zeros.
 abbrev marked : List ℕ → ℕ → List ℕ
 marked left n = left ++ 0x80 ∷ replicate n 0
 
@@ -94,7 +94,8 @@ take_marked left n at low fits =
     let cut : marked left n ≡ marked left z ++ replicate r 0 = rw split (sym (append_assoc left (0x80 ∷ replicate z 0) (replicate r 0))) in
     rw cut (take_at (marked left z) (replicate r 0) at (omega (arith, length_marked left z)))
 
--- The bytes left of a text, the mark, zeros up to the last 8 bytes of a block, and the length in bits.
+-- A text's end is the bytes after its whole blocks, the byte 0x80, zeros up to the last 8 bytes of
+-- a block, and the length in bits.
 pub end_is : (m left bits : List ℕ) (at k : ℕ) → left ≡ drop (length m / 64 * 64) m → bits ≡ to_le_bytes w64 (length m * 8 % 2 ^ 64)
     → at ≡ length m % 64 + 1 + (119 - length m % 64) % 64 → at ≤ 120
     → BeginsWithEnd m (put_mid at k (marked left (127 - length left)) bits)

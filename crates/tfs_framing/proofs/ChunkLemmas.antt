@@ -1,4 +1,4 @@
--- Laws of bodies in chunks: what comes next is one thing.
+-- Lemmas about the next part of a chunked body: bytes have at most one.
 use Rattle.std.proofs.Common.{◌≡◌, ◌≤◌, ◌<◌, ◌+◌, ℕ, List, [], ◌∷◌, ◌++◌, length, Bool, true, false, All, refl, sym, ◌∙◌, ap, subst, arith, append_assoc}
 use Rattle.std.proofs.Common.{inl, inr, Option, Some, None}
 use Rattle.std.proofs.lemmas.List.Elements.{All-nil, All-cons, All-head, All-tail}
@@ -12,11 +12,11 @@ use Rattle.tfs_framing.specs.declared.chunks.Flaw.{Flaw}
 use Rattle.tfs_framing.specs.declared.chunks.Flaw.TheVariants.{TooLarge, Unreadable}
 use Rattle.tfs_framing.proofs.HeadLemmas.{message_head_once, same_cut}
 
--- A byte is no line feed.
+-- The byte isn't a line feed.
 abbrev IsInside : ℕ → Type 0
 IsInside b = ¬ (b ≡ 10)
 
--- Bytes that pass a test that a line feed fails.
+-- If a line feed fails a test, bytes that pass it have no line feed.
 passes_inside : (test : ℕ → Bool) (text : List ℕ) → test 10 ≡ false → AllPass test text → All IsInside text
 passes_inside test [] fails all = All-nil IsInside
 passes_inside test (b ∷ text) fails all =
@@ -24,12 +24,12 @@ passes_inside test (b ∷ text) fails all =
     All-cons IsInside b text (λ is. let wrong : test 10 ≡ true = subst (λ c. test c ≡ true) is first in cc)
     (passes_inside test text fails (All-tail (λ c. test c ≡ true) b text all))
 
--- Two texts without line feeds, one after the other.
+-- Joining two texts without line feeds gives a text without line feeds.
 inside_both : (a b : List ℕ) → All IsInside a → All IsInside b → All IsInside (a ++ b)
 inside_both [] b p q = q
 inside_both (c ∷ a) b p q = All-cons IsInside c (a ++ b) (All-head IsInside c a p) (inside_both a b (All-tail IsInside c a p) q)
 
--- A chunk line is a text without line feeds and then one.
+-- A chunk line is a text without line feeds, followed by a line feed.
 pub line_parts : (line : ChunkLine) → IsChunkLine line → (front : List ℕ) × All IsInside front × (print_chunk_line line ≡ front ++ line_feed ∷ [])
 unfolding print_chunk_line
 line_parts line is = (
@@ -46,7 +46,7 @@ line_parts line is = (
     extension None all = All-nil IsInside
     extension (Some text) all = All-cons IsInside 59 text (λ is. omega arith) (passes_inside is_extension_byte text refl all)
 
--- Where a text without line feeds has one behind it, nothing comes behind the first line feed.
+-- In a text without line feeds followed by a line feed, nothing follows the first line feed.
 feed_alone : (front a b : List ℕ) → All IsInside front → front ++ line_feed ∷ [] ≡ a ++ line_feed ∷ b → b ≡ []
 feed_alone [] [] b all e = cc
 feed_alone [] (x ∷ []) b all e = cc
@@ -54,23 +54,23 @@ feed_alone [] (x ∷ y ∷ a) b all e = cc
 feed_alone (c ∷ front) [] b all e = let is : c ≡ 10 = cc in absurd (All-head IsInside c front all is)
 feed_alone (c ∷ front) (x ∷ a) b all e = feed_alone front a b (All-tail IsInside c front all) (cc)
 
--- A chunk line ends with its first line feed.
+-- A chunk line ends at its first line feed.
 pub line_feed_last : (line : ChunkLine) (a b : List ℕ) → IsChunkLine line → print_chunk_line line ≡ a ++ line_feed ∷ b → b ≡ []
 line_feed_last line a b is e = let parts = line_parts line is in feed_alone parts.0 a b parts.1 (sym parts.2 ∙ e)
 
--- Bytes begin with one chunk line.
+-- Bytes begin with at most one chunk line.
 pub line_once : (line other : ChunkLine) (after behind : List ℕ) → IsShortLine line → IsShortLine other
     → print_chunk_line line ++ after ≡ print_chunk_line other ++ behind → (line ≡ other) × (after ≡ behind)
 line_once line other after behind is also e =
     chunk_line_unique (print_chunk_line line ++ after) line other after behind (is.is_line, refl) (also.is_line, e)
 
--- A chunk and what comes behind it, with its line first.
+-- The text of a chunk begins with its chunk line.
 pub chunk_split : (c : Chunk) (after : List ℕ) → print_chunk c ++ after ≡ print_chunk_line c.line ++ (c.bytes ++ (print_end crlf ++ after))
 chunk_split c after =
     append_assoc (print_chunk_line c.line) (c.bytes ++ print_end crlf) after
     ∙ ap (λ t. print_chunk_line c.line ++ t) (append_assoc c.bytes (print_end crlf) after)
 
--- Bytes begin with one chunk.
+-- Bytes begin with at most one chunk.
 pub chunk_once : (c d : Chunk) (after behind : List ℕ) → IsChunk c → IsChunk d → print_chunk c ++ after ≡ print_chunk d ++ behind
     → (c ≡ d) × (after ≡ behind)
 chunk_once c d after behind is also e =
@@ -83,14 +83,14 @@ chunk_once c d after behind is also e =
     let three : one ≡ d = ap (λ (t : List ℕ). record { line = d.line; bytes = t }) bytes.0 in
     (two ∙ three, (same_cut (print_end crlf) after (print_end crlf) behind bytes.1 refl).1)
 
--- Bytes begin with one trailer.
+-- Bytes begin with at most one trailer.
 pub trailer_once : (trailer other after behind : List ℕ) → IsTrailer trailer → IsTrailer other → trailer ++ after ≡ other ++ behind
     → (trailer ≡ other) × (after ≡ behind)
 trailer_once trailer other after behind is also e =
     let same = message_head_once (line_feed ∷ trailer) (line_feed ∷ other) after behind is.is_head also.is_head (ap (λ t. line_feed ∷ t) e) in
     (let heads = same.0 in cc, same.1)
 
--- Where a line comes first, what can't be there is behind it.
+-- If bytes begin with a chunk line, their flaw comes after that line.
 pub flaw_behind : (count total : ℕ) (left after : List ℕ) (line : ChunkLine) (flaw : Flaw) → IsShortLine line → left ≡ print_chunk_line line ++ after
     → IsFlawAt count total left flaw → IsFlawBehind count total (chunk_size line) after flaw
 flaw_behind count total left after line flaw is e p = elim p [
@@ -101,7 +101,7 @@ flaw_behind count total left after line flaw is e p = elim p [
       (subst (λ (l : ChunkLine). IsFlawBehind count total (chunk_size l) q.1 flaw) same.0 q.4)
 ]
 
--- Behind the line of a chunk there is nothing that can't be there.
+-- The bytes of a valid chunk are no flaw after its chunk line.
 chunk_is_no_flaw : (count total : ℕ) (c : Chunk) (after : List ℕ) (flaw : Flaw) → IsChunk c → count < 65536 → total + length c.bytes ≤ 16777216
     → ¬ (IsFlawBehind count total (chunk_size c.line) (c.bytes ++ (print_end crlf ++ after)) flaw)
 chunk_is_no_flaw count total c after TooLarge is few small p = let size = is.size in omega (arith, p)
@@ -117,7 +117,7 @@ chunk_is_no_flaw count total c after Unreadable is few small p = elim p.1 [
   ]
 ]
 
--- Behind the line of the end there is nothing that can't be there.
+-- A trailer is no flaw after the last chunk line.
 end_is_no_flaw : (count total size : ℕ) (trailer after : List ℕ) (flaw : Flaw) → total ≤ 16777216 → size ≡ 0 → IsTrailer trailer
     → ¬ (IsFlawBehind count total size (trailer ++ after) flaw)
 end_is_no_flaw count total size trailer after TooLarge small none is p = omega (arith, p)
@@ -126,21 +126,21 @@ end_is_no_flaw count total size trailer after Unreadable small none is p = elim 
   | inr r ↦ elim r [ inl q ↦ let some = q.0 in omega arith | inr q ↦ q.1.none trailer after is refl ]
 ]
 
--- What can't be there is so for one reason.
+-- The bytes after a chunk line have at most one flaw.
 flaw_behind_once : (count total size : ℕ) (after : List ℕ) (f g : Flaw) → IsFlawBehind count total size after f → IsFlawBehind count total size after g → f ≡ g
 flaw_behind_once count total size after TooLarge TooLarge p q = refl
 flaw_behind_once count total size after TooLarge Unreadable p q = let small = q.0 in absurd (omega (arith, p))
 flaw_behind_once count total size after Unreadable TooLarge p q = let small = p.0 in absurd (omega (arith, q))
 flaw_behind_once count total size after Unreadable Unreadable p q = refl
 
--- The same wherever it comes.
+-- The next bytes of a body have at most one flaw.
 flaw_at_once : (count total : ℕ) (left : List ℕ) (f g : Flaw) → IsFlawAt count total left f → IsFlawAt count total left g → f ≡ g
 flaw_at_once count total left f g p q = elim p [
   | inl a ↦ elim q [ inl b ↦ a.0 ∙ sym b.0 | inr b ↦ absurd (a.1.none b.0 b.1 b.2 b.3) ]
   | inr a ↦ flaw_behind_once count total (chunk_size a.0) a.1 f g a.4 (flaw_behind count total left a.1 a.0 g a.2 a.3 q)
 ]
 
--- A chunk isn't the end.
+-- Bytes that begin with a chunk don't begin with the last chunk line.
 chunk_is_no_end : (c : Chunk) (line : ChunkLine) (left after behind : List ℕ) → IsChunk c → IsShortLine line → chunk_size line ≡ 0
     → left ≡ print_chunk c ++ after → ¬ (left ≡ print_chunk_line line ++ behind)
 chunk_is_no_end c line left after behind is also none e f =
@@ -150,7 +150,7 @@ chunk_is_no_end c line left after behind is also none e f =
     let size = is.size in
     omega arith
 
--- What comes next is one thing.
+-- Bytes have at most one next part.
 pub next_once : (count total : ℕ) (left : List ℕ) (a b : Next) → total ≤ 16777216 → ComesNext count total left a → ComesNext count total left b → a ≡ b
 next_once count total left (next_chunk c x) (next_chunk d y) small p q =
     let same = chunk_once c d x y p.0 q.0 (sym p.1 ∙ q.1) in

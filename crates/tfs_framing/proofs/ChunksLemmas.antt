@@ -1,4 +1,4 @@
--- Laws of bodies in chunks: bytes begin with one body or can't begin with one, and stay so whatever bytes follow.
+-- Lemmas about chunked bodies: bytes begin with at most one body or have at most one flaw.
 use Rattle.std.proofs.Common.{◌≡◌, ◌≤◌, ◌+◌, ℕ, List, [], ◌∷◌, ◌++◌, length, All, refl, sym, ◌∙◌, ap, subst, arith, append_assoc}
 use Rattle.std.proofs.Common.{length-append}
 use Rattle.std.proofs.lemmas.List.Elements.{All-head, All-tail}
@@ -15,13 +15,13 @@ use Rattle.tfs_framing.proofs.ChunkLemmas.{chunk_once, next_once}
 abbrev pub HasNoChunk : ℕ → ℕ → List ℕ → Type 0
 HasNoChunk count total left = (c : Chunk) (after : List ℕ) → ¬ (ComesNext count total left (next_chunk c after))
 
--- Chunks that may come behind so many with so many bytes.
+-- These chunks are valid after `count` chunks with `total` bytes, within the limits.
 pub record MayCome (count total : ℕ) (chunks : List Chunk) : Type 0 where
   pub each : All IsChunk chunks
   pub few : count + length chunks ≤ 65536
   pub small : total + length (joined chunks) ≤ 16777216
 
--- The chunks behind the first.
+-- Without their first chunk, the others are valid after it.
 rest_may_come : (count total : ℕ) (c : Chunk) (chunks : List Chunk) → MayCome count total (c ∷ chunks) → MayCome (count + 1) (total + length c.bytes) chunks
 rest_may_come count total c chunks may =
     let few = may.few in
@@ -29,7 +29,7 @@ rest_may_come count total c chunks may =
     let size = length-append c.bytes (joined chunks) in
     record { each = All-tail IsChunk c chunks may.each; few = omega arith; small = omega arith }
 
--- Chunks behind which none comes are the same, and so is what comes behind them.
+-- If no chunk follows, equal bytes have the same chunks and the same rest.
 same_front : (count total : ℕ) (a b : List Chunk) (left other : List ℕ) → MayCome count total a → MayCome count total b
     → HasNoChunk (count + length a) (total + length (joined a)) left → HasNoChunk (count + length b) (total + length (joined b)) other
     → print_chunks a ++ left ≡ print_chunks b ++ other → (a ≡ b) × (left ≡ other)
@@ -63,7 +63,7 @@ same_front count total (c ∷ a) (d ∷ b) left other m n p q e =
     at : (k n s t : ℕ) (text : List ℕ) → k ≡ n → s ≡ t → HasNoChunk k s text → HasNoChunk n t text
     at k n s t text e f none = subst (λ (j : ℕ). HasNoChunk n j text) f (subst (λ (j : ℕ). HasNoChunk j s text) e none)
 
--- Chunks come first, and behind them no chunk but what comes next.
+-- The bytes are chunks, and the next part after them isn't a chunk.
 pub record Stands (rest : List ℕ) (next : Next) : Type 0 where
   pub chunks : List Chunk
   pub are : AreChunks chunks
@@ -72,11 +72,11 @@ pub record Stands (rest : List ℕ) (next : Next) : Type 0 where
   pub none : HasNoChunk (length chunks) (length (joined chunks)) left
   pub comes : ComesNext (length chunks) (length (joined chunks)) left next
 
--- The chunks of a body may come at its start.
+-- The chunks of a body are valid from its start.
 pub from_start : (chunks : List Chunk) → AreChunks chunks → MayCome 0 0 chunks
 from_start chunks are = let few = are.few in let small = are.small in record { each = are.each; few = omega arith; small = omega arith }
 
--- What comes where no chunk comes, from the start.
+-- Adding 0 to both counts keeps that no chunk comes next.
 start_none : (chunks : List Chunk) (left : List ℕ) → HasNoChunk (length chunks) (length (joined chunks)) left
     → HasNoChunk (0 + length chunks) (0 + length (joined chunks)) left
 start_none chunks left none =
@@ -84,13 +84,13 @@ start_none chunks left none =
     let total : length (joined chunks) ≡ 0 + length (joined chunks) = omega arith in
     subst (λ (k : ℕ). HasNoChunk (0 + length chunks) k left) total (subst (λ (k : ℕ). HasNoChunk k (length (joined chunks)) left) count none)
 
--- The chunks that come first, and what is behind them, are one thing.
+-- Bytes have one longest list of chunks at their start, and one rest after it.
 pub front_once : (a b : List Chunk) (left other : List ℕ) → AreChunks a → AreChunks b → HasNoChunk (length a) (length (joined a)) left
     → HasNoChunk (length b) (length (joined b)) other → print_chunks a ++ left ≡ print_chunks b ++ other → (a ≡ b) × (left ≡ other)
 front_once a b left other is also p q e =
     same_front 0 0 a b left other (from_start a is) (from_start b also) (start_none a left p) (start_none b other q) e
 
--- What stands there is one thing.
+-- Bytes have only one first part that isn't a chunk, and only one list of chunks before it.
 pub stands_once : (rest : List ℕ) (a b : Next) → (p : Stands rest a) → (q : Stands rest b) → (a ≡ b) × (p.chunks ≡ q.chunks)
 stands_once rest a b p q =
     let same = front_once p.chunks q.chunks p.left q.left p.are q.are p.none q.none (sym p.parts ∙ q.parts) in
@@ -98,17 +98,17 @@ stands_once rest a b p q =
     (subst (λ (t : List Chunk). ComesNext (length t) (length (joined t)) q.left b) (sym same.0) q.comes) in
     (next_once (length p.chunks) (length (joined p.chunks)) p.left a b p.are.small p.comes also, same.0)
 
--- Where the end comes no chunk does.
+-- If the end of the body comes next, no chunk does.
 pub end_no_chunk : (count total : ℕ) (left after : List ℕ) → total ≤ 16777216 → ComesNext count total left (next_end after) → HasNoChunk count total left
 end_no_chunk count total left after small p c behind q =
     let same = next_once count total left (next_end after) (next_chunk c behind) small p q in cc
 
--- Nor where something comes that can't be there.
+-- If a flaw comes next, no chunk does.
 pub flaw_no_chunk : (count total : ℕ) (left : List ℕ) (flaw : Flaw) → total ≤ 16777216 → IsFlawAt count total left flaw → HasNoChunk count total left
 flaw_no_chunk count total left flaw small p c behind q =
     let same = next_once count total left (next_flaw flaw) (next_chunk c behind) small p q in cc
 
--- A body in chunks stands before what is behind it.
+-- After the chunks of a body, its end comes next.
 pub body_stands : (coded body after : List ℕ) → SpellsChunks coded body → Stands (coded ++ after) (next_end after)
 body_stands coded body after s =
     let next : ComesNext (length s.chunks) (length (joined s.chunks)) (print_chunk_line s.last ++ (s.trailer ++ after)) (next_end after) =
@@ -123,7 +123,7 @@ body_stands coded body after s =
       comes = next;
     }
 
--- What can't be there stands behind chunks.
+-- After the chunks before a flaw, the flaw comes next.
 pub flaw_stands : (rest : List ℕ) (flaw : Flaw) → HasFlaw rest flaw → Stands rest (next_flaw flaw)
 flaw_stands rest flaw f = record {
   chunks = f.chunks;
@@ -134,7 +134,7 @@ flaw_stands rest flaw f = record {
   comes = f.is_flaw;
 }
 
--- Bytes begin with one body in chunks.
+-- Bytes begin with at most one chunked body.
 pub chunks_once : (coded body after other also last : List ℕ) → SpellsChunks coded body → SpellsChunks other also
     → coded ++ after ≡ other ++ last → (coded ≡ other) × (body ≡ also) × (after ≡ last)
 unfolding body_stands
@@ -160,18 +160,18 @@ chunks_once coded body after other also last s t e =
         let two = body_stands other also last t in
         (front_once s.chunks t.chunks one.left two.left s.are t.are one.none two.none (sym one.parts ∙ e ∙ two.parts)).0
 
--- Bytes that begin with a body in chunks have nothing that can't be there.
+-- Bytes that begin with a chunked body have no flaw.
 pub body_no_flaw : (rest coded body after : List ℕ) (flaw : Flaw) → SpellsChunks coded body → rest ≡ coded ++ after → ¬ (HasFlaw rest flaw)
 body_no_flaw rest coded body after flaw s e f =
     let first = subst (λ (l : List ℕ). Stands l (next_end after)) (sym e) (body_stands coded body after s) in
     let same = (stands_once rest (next_end after) (next_flaw flaw) first (flaw_stands rest flaw f)).0 in
     cc
 
--- What can't be there is so for one reason.
+-- Bytes have at most one flaw.
 pub flaw_once : (rest : List ℕ) (f g : Flaw) → HasFlaw rest f → HasFlaw rest g → f ≡ g
 flaw_once rest f g p q = let same = (stands_once rest (next_flaw f) (next_flaw g) (flaw_stands rest f p) (flaw_stands rest g q)).0 in cc
 
--- Behind chunks where nothing comes next yet there is no body, and nothing is wrong yet.
+-- If nothing comes next after the chunks, the bytes have neither a body nor a flaw yet.
 pub open_no_body : (rest left : List ℕ) (chunks : List Chunk) → AreChunks chunks → rest ≡ print_chunks chunks ++ left
     → IsOpen (length chunks) (length (joined chunks)) left → HasNoBody Chunked rest
 open_no_body rest left chunks are parts none = record {

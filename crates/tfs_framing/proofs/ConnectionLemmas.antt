@@ -1,4 +1,4 @@
--- Laws of the parts of a list's text.
+-- Lemmas about the parts of a comma-separated list.
 use Rattle.std.proofs.Common.{◌≡◌, ◌<◌, ◌+◌, ◌==◌, ℕ, zero, suc, List, [], ◌∷◌, length, take, drop, slice_index, true, false}
 use Rattle.std.proofs.Common.{refl, arith}
 use Rattle.std.proofs.lemmas.Bool.{false_from_ne_true}
@@ -17,7 +17,7 @@ parts_at (b ∷ text) (suc p) within is none =
     let next : suc p + 1 ≡ suc (p + 1) = omega arith in
     rw (other, later, next) refl
 
--- Without a comma there is one part.
+-- A text without a comma is a single part.
 pub parts_whole : (text : List ℕ) → Nowhere (Passes (is_byte 44) text) 0 (length text) → parts_of text ≡ text ∷ []
 unfolding parts_of
 parts_whole [] none = refl

@@ -1,4 +1,4 @@
--- Laws of bodies in chunks that are decoded as they come.
+-- Lemmas about chunked bodies that are decoded while they arrive.
 use Rattle.std.proofs.Common.{◌≡◌, ◌<◌, ℕ, List, ◌++◌, length, Result, Ok}
 use Rattle.std.specs.declared.alloc.AllocError.{AllocError}
 use Rattle.tfs_framing.specs.Decoded.{Decodes, IsDecoded}
@@ -11,7 +11,7 @@ use Rattle.tfs_framing.specs.declared.request.OpenRequest.{OpenRequest}
 use Rattle.tfs_framing.proofs.OpensLemmas.{opens_more, opens_unfinished}
 use Rattle.tfs_framing.proofs.PassedLemmas.{passed_more}
 
--- What was decoded stays whatever bytes follow.
+-- The decoded bytes remain decoded when more bytes follow.
 pub decoded_more : (bytes more left : List ℕ) (request : Result OpenRequest AllocError) (b : ChunkedBody) → Decodes bytes request b left
     → Decodes (bytes ++ more) request b (left ++ more)
 decoded_more bytes more left request b d = record {
@@ -25,7 +25,8 @@ decoded_more bytes more left request b d = record {
   };
 }
 
--- Where more are wanted the bytes are unfinished, and this is known of those that are left.
+-- If more bytes are needed, the message is unfinished, and the new state of decoding is right for
+-- the bytes left.
 pub decoded_wanted : (bytes left : List ℕ) (request : Result OpenRequest AllocError) (b new : ChunkedBody) (n : ℕ) → (d : Decodes bytes request b left)
     → IsDecoded d.rest left (Ok (Decoded.Wanted new n))
     → IsUnfinished bytes × (after : List ℕ) × EndsWith left after × (n ≡ length after) × (n < 17408) × Decodes bytes request new after

@@ -1,4 +1,4 @@
--- Laws of the texts of digests.
+-- Lemmas about the text of a digest.
 use Rattle.std.proofs.Common.{◌≡◌, ◌≢◌, ℕ, List, length, replicate, Bool, true, false, refl, ◌∙◌, ap, arith, length-append}
 use Rattle.std.specs.Bool.{Decides}
 use Rattle.std.specs.Str.{bytes_eq}
@@ -22,7 +22,7 @@ digest_text_size body =
     (replicate (padding_len (length (md5 body))) standard.padding.value) in
     omega arith
 
--- A text of another length is no digest's.
+-- A text of another length isn't the text of a digest.
 pub no_digest : (text body : List ℕ) → length text ≢ 24 → false ≡ bytes_eq text (digest_text body)
 no_digest text body other = by (bytes_eq text (digest_text body)) (bytes_eq-Decides text (digest_text body))
   where

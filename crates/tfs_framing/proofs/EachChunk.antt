@@ -1,4 +1,4 @@
--- Each list of bytes begins with a body in chunks, or can't, or not yet.
+-- All bytes begin with a chunked body, have a flaw, or need more bytes.
 use Rattle.std.proofs.Common.{◌≡◌, ◌≤◌, ◌<◌, ◌+◌, ◌⊎◌, ◌∙◌, ℕ, zero, suc, List, [], ◌∷◌, ◌++◌, length, take, drop, min, nat_eq, Bool, true, false}
 use Rattle.std.proofs.Common.{Option, Some, None, refl, sym, ap, subst, inl, inr, arith, length-take, length-append, take-append-drop}
 use Rattle.std.specs.List.{list_any}
@@ -24,7 +24,7 @@ use Rattle.tfs_framing.proofs.WalkLemmas.{walk_start, walk_on, whole_there, walk
 use Rattle.tfs_framing.proofs.EachPiece.{IsDecided, first_decided, line_end_decided, run_decided, span_decided, then_decided}
 use Rattle.tfs_framing.proofs.EachEnd.{found_from}
 
--- One to sixteen digits come first, or not.
+-- It is decidable whether a text begins with 1 to 16 hexadecimal digits.
 hex_decided : IsDecided HexDigits
 hex_decided text = elim (run_decided is_ascii_hexdigit text) [
   | inl x ↦ elim (cases_lt 0 (length x.0)) [
@@ -40,7 +40,7 @@ hex_decided text = elim (run_decided is_ascii_hexdigit text) [
     once : (a b c d : List ℕ) → Run is_ascii_hexdigit a text b → Run is_ascii_hexdigit c text d → length a ≡ length c
     once a b c d p q = ap length ((Run_deterministic is_ascii_hexdigit).unique a c text b d p q).0
 
--- An extension and CR LF come first, or not.
+-- It is decidable whether a text begins with an optional chunk extension and CR LF.
 extension_decided : IsDecided Extension
 extension_decided text = elim (first_decided 59 text) [
   | inl x ↦ with_text x.0 x.1
@@ -73,15 +73,15 @@ extension_decided text = elim (first_decided 59 text) [
       | inr none ↦ inr (λ w. let found = only left is w.0 w.1 w.2 in none (found.0, 10 ∷ w.1, found.1, found.2))
     ]
 
--- A chunk line comes first.
+-- The bytes begin with a valid chunk line.
 abbrev BeginsWithLine : List ℕ → Type 0
 BeginsWithLine left = (line : ChunkLine) × (after : List ℕ) × IsShortLine line × (left ≡ print_chunk_line line ++ after)
 
--- None does.
+-- The bytes don't begin with a valid chunk line.
 abbrev BeginsWithNone : List ℕ → Type 0
 BeginsWithNone left = (line : ChunkLine) (after : List ℕ) → IsShortLine line → ¬ (left ≡ print_chunk_line line ++ after)
 
--- A chunk line of at most 1,024 bytes comes first, or not.
+-- It is decidable whether bytes begin with a chunk line of at most 1,024 bytes.
 line_decided : (left : List ℕ) → BeginsWithLine left ⊎ BeginsWithNone left
 line_decided left = elim (then_decided HexDigits_deterministic hex_decided
     (then_decided (Run_deterministic is_ows) (run_decided is_ows) extension_decided) left) [
@@ -98,11 +98,11 @@ line_decided left = elim (then_decided HexDigits_deterministic hex_decided
       | inr none ↦ inr (λ line after is e. none ((line.digits, (line.pad, line.extension)), after, chunk_pieces left line after (is.is_line, e)))
     ]
 
--- Something comes next, or nothing yet.
+-- A part comes next, or none does yet.
 abbrev IsSettled : ℕ → ℕ → List ℕ → Type 0
 IsSettled count total left = ((next : Next) × ComesNext count total left next) ⊎ IsOpen count total left
 
--- Where no line comes first.
+-- If no chunk line comes first, it is decided whether a part comes next.
 settled_without_line : (count total : ℕ) (left : List ℕ) → BeginsWithNone left → IsSettled count total left
 settled_without_line count total left none = elim (cases_lt (length left) 1024) [
   | inl short ↦ by short (list_any (λ b. nat_eq b 10) left) refl
@@ -121,7 +121,7 @@ settled_without_line count total left none = elim (cases_lt (length left) 1024) 
       ];
     }))
 
--- Behind the last line.
+-- After the last chunk line, the trailer decides whether a part comes next.
 settled_at_end : (count total len : ℕ) (left : List ℕ) (line : ChunkLine) → IsLineAt left len 0 line → total ≤ 16777216 → IsSettled count total left
 settled_at_end count total len left line at small =
     let from : List ℕ = line_feed ∷ at.after in
@@ -140,7 +140,7 @@ settled_at_end count total len left line at small =
           ]
     ]
 
--- Behind the line of a chunk.
+-- After the line of a chunk, its bytes and its end decide whether a part comes next.
 settled_at_chunk : (count total : ℕ) (after : List ℕ) (line : ChunkLine) → IsBegun count total line [] (chunk_size line)
     → IsSettled count total (print_chunk_line line ++ after)
 settled_at_chunk count total after line b = elim (cases_lt (length after) (chunk_size line + 2)) [
@@ -163,7 +163,7 @@ settled_at_chunk count total after line b = elim (cases_lt (length after) (chunk
       ]
 ]
 
--- Behind each line.
+-- After any chunk line, it is decided whether a part comes next.
 settled_at_line : (count total : ℕ) (left after : List ℕ) (line : ChunkLine) → count ≤ 65536 → total ≤ 16777216 → IsShortLine line
     → left ≡ print_chunk_line line ++ after → IsSettled count total left
 settled_at_line count total left after line most small is e = elim (cases_lt 16777216 (total + chunk_size line)) [
@@ -181,19 +181,19 @@ settled_at_line count total left after line most small is e = elim (cases_lt 167
   ]
 ]
 
--- Something comes next, or nothing yet.
+-- It is decidable whether a part comes next.
 next_decided : (count total : ℕ) (left : List ℕ) → count ≤ 65536 → total ≤ 16777216 → IsSettled count total left
 next_decided count total left few small = elim (line_decided left) [
   | inl x ↦ settled_at_line count total left x.1 x.0 few small x.2 x.3
   | inr none ↦ settled_without_line count total left none
 ]
 
--- Bytes begin with a body in chunks, or can't, or not yet.
+-- The bytes begin with a chunked body, have a flaw, or need more bytes.
 abbrev pub AreDecided : List ℕ → Type 0
 AreDecided rest = ((coded : List ℕ) × (after : List ℕ) × (body : List ℕ) × (rest ≡ coded ++ after) × SpellsChunks coded body)
     ⊎ (((flaw : Flaw) × HasBadBody Chunked rest flaw) ⊎ HasNoBody Chunked rest)
 
--- The part that comes next decides, where it is no chunk.
+-- The next part decides this, unless it is a chunk.
 decided_by : (rest left : List ℕ) (count total : ℕ) (chunks : List Chunk) → Walked rest left count total chunks
     → ((after : List ℕ) (k t : ℕ) (more : List Chunk) → Walked rest after k t more → length after < length left → AreDecided rest) → AreDecided rest
 decided_by rest left count total chunks w goes_on = elim (next_decided count total left few small) [
@@ -217,7 +217,7 @@ decided_by rest left count total chunks w goes_on = elim (next_decided count tot
     by (next_end after) comes = let whole = whole_there rest left after count total chunks w comes in inl (whole.0, after, _, whole.1, whole.2)
     by (next_flaw flaw) comes = inr (inl (flaw, walk_flawed rest left count total chunks flaw w comes))
 
--- Each list of bytes is one of these.
+-- All bytes begin with a chunked body, have a flaw, or need more bytes.
 pub chunks_decided : (rest : List ℕ) → AreDecided rest
 chunks_decided rest = within (length rest) rest 0 0 [] (walk_start rest) (omega arith)
   where

@@ -1,22 +1,23 @@
--- Bytes have a part at their front that ends with an empty line, or have none.
+-- It is decidable whether bytes have a prefix that ends with an empty line.
 use Rattle.std.proofs.Common.{◌≡◌, ◌⊎◌, ℕ, List, [], ◌∷◌, ◌++◌, refl, inl, inr}
 use Rattle.httparse.specs.Ascii.{line_feed}
 use Rattle.tfs_framing.specs.Head.{EndsWithEmptyLine, IsMessageHead}
 use Rattle.tfs_framing.proofs.HeadLemmas.{PassedOver, byte_passed, head_found, passed_all}
 use Rattle.tfs_framing.proofs.EachPiece.{same_or_not, newline_decided}
 
--- A part of the bytes at their front is a head.
+-- The bytes begin with a message head.
 pub record FindsHead (bytes : List ℕ) : Type 0 where
   pub head : List ℕ
   pub rest : List ℕ
   pub parts : bytes ≡ head ++ rest
   pub is_head : IsMessageHead head
 
--- No part of the bytes at their front ends with an empty line.
+-- No prefix of the bytes ends with an empty line.
 abbrev pub FindsNone : List ℕ → Type 0
 FindsNone bytes = (part rest : List ℕ) → bytes ≡ part ++ rest → ¬ (EndsWithEmptyLine part)
 
--- From a place on, the first line feed with an empty line behind it ends a head; without one there is none.
+-- After the searched bytes, the first line feed before an empty line ends the head. Otherwise no
+-- prefix of the bytes ends with an empty line.
 pub found_from : (bytes front rest : List ℕ) → PassedOver bytes front rest → FindsHead bytes ⊎ FindsNone bytes
 found_from bytes front [] passed = inr (passed_all bytes front passed)
 found_from bytes front (byte ∷ after) passed = by (λ next p. found_from bytes next after p)

@@ -1,4 +1,4 @@
--- Each text is a head of the grammar, or none.
+-- It is decidable whether a text is a head of the grammar.
 use Rattle.std.proofs.Common.{◌≡◌, ◌≤◌, ◌<◌, ◌⊎◌, ◌∙◌, ℕ, zero, suc, List, [], ◌∷◌, ◌++◌, length}
 use Rattle.std.proofs.Common.{flat_map, append-nil, refl, sym, ap, inl, inr, arith, append_assoc, length-append}
 use Rattle.std.proofs.lemmas.Bool.{cases_lt}
@@ -14,7 +14,7 @@ use Rattle.tfs_framing.specs.Head.{IsHeadOf}
 use Rattle.tfs_framing.proofs.EachPiece.{IsDecided, then_decided, nothing_begins, newline_decided, blank_decided, word_decided}
 use Rattle.tfs_framing.proofs.EachPiece.{target_decided, version_decided, text_decided}
 
--- A field line comes first, or not.
+-- It is decidable whether a text begins with a field line.
 field_line_decided : IsDecided FieldLine
 field_line_decided text = elim (then_decided Name_deterministic (word_decided is_token_byte 58 colon_ends_token) text_decided text) [
   | inl x ↦
@@ -23,7 +23,7 @@ field_line_decided text = elim (then_decided Name_deterministic (word_decided is
   | inr none ↦ inr (λ w. none ((w.0.name, (w.0.raw, w.0.end)), w.1, FieldLine_parts w.0 text w.1 w.2))
 ]
 
--- The fields of a head and the empty line behind them come first, or not.
+-- It is decidable whether a text begins with the fields of a head and the empty line after them.
 section_decided : IsDecided Section
 section_decided text = within (length text) text (omega arith)
   where
@@ -65,14 +65,14 @@ section_decided text = within (length text) text (omega arith)
       ]
     ]
 
--- A request line comes first, or not.
+-- It is decidable whether a text begins with a request line.
 start_decided : IsDecided RequestStart
 start_decided =
     then_decided Blank_deterministic blank_decided
     (then_decided Method_deterministic (word_decided is_token_byte 32 space_ends_token)
     (then_decided Target_deterministic target_decided (then_decided Version_deterministic version_decided newline_decided)))
 
--- A text is a head of the grammar, or none.
+-- It is decidable whether a text is a head of the grammar.
 pub head_decided : (head : List ℕ) → ((h : RequestHead) × IsHeadOf head h) ⊎ ((h : RequestHead) → ¬ (IsHeadOf head h))
 head_decided head = elim (then_decided RequestStart_deterministic start_decided section_decided head) [
   | inl x ↦ whole (request_head x.0) x.1 (request_from_pieces head x.0 x.1 x.2)

@@ -1,4 +1,4 @@
--- Each list of bytes begins with a message, or is refused, or is unfinished.
+-- All bytes begin with a message, are refused, or are unfinished.
 use Rattle.std.proofs.Common.{◌≡◌, ◌≤◌, ◌⊎◌, ◌∙◌, ℕ, zero, suc, List, [], ◌∷◌, ◌++◌, length, take, drop, min}
 use Rattle.std.proofs.Common.{Result, Ok, Err, refl, sym, ap, inl, inr, arith, append_assoc, length-take, take-append-drop}
 use Rattle.std.proofs.lemmas.Bool.{cases_lt}
@@ -21,14 +21,14 @@ use Rattle.tfs_framing.proofs.EachChunk.{chunks_decided}
 use Rattle.tfs_framing.proofs.EachPiece.{longer, newline_decided, nothing_begins}
 use Rattle.tfs_framing.proofs.EachHead.{head_decided}
 
--- Bytes are empty lines, and behind them bytes that begin with none.
+-- The bytes are empty lines, then a rest that doesn't begin with an empty line.
 pub record Stripped (bytes : List ℕ) : Type 0 where
   pub skipped : List LineEnd
   pub rest : List ℕ
   pub parts : bytes ≡ print_blank skipped ++ rest
   pub none : ¬ (StartsWithEmptyLine rest)
 
--- All bytes are.
+-- All bytes have this form.
 stripped : (bytes : List ℕ) → Stripped bytes
 stripped bytes = within (length bytes) bytes (omega arith)
   where
@@ -47,7 +47,7 @@ stripped bytes = within (length bytes) bytes (omega arith)
           }
     ]
 
--- Bytes have a head that ends in time, or have none.
+-- Bytes either have a head within the limit or don't.
 head_or_none : (bytes : List ℕ) → ((skipped : List LineEnd) × (head : List ℕ) × (rest : List ℕ) × HasHead bytes skipped head rest) ⊎ HasNoHead bytes
 head_or_none bytes =
     let k = min (length bytes) 16384 in
@@ -65,7 +65,7 @@ head_or_none bytes =
       | inr none ↦ inr (no_head_of_window bytes (take k bytes) s.rest s.skipped k refl refl s.parts s.none none)
     ]
 
--- Bytes that have a head begin with something.
+-- Bytes with a head have a result of `take`.
 with_head : (bytes : List ℕ) (skipped : List LineEnd) (head rest : List ℕ) → HasHead bytes skipped head rest → (t : Take) × Frames bytes t
 with_head bytes skipped head rest has = elim (cases_lt 66 (line_feeds head)) [
   | inl many ↦ refused HeadTooLarge many
@@ -108,7 +108,7 @@ with_head bytes skipped head rest has = elim (cases_lt 66 (line_feeds head)) [
     )
     by_length h (Err refusal) few is e = refused refusal ((length_refused h refusal e).1 head (few, h, is, e))
 
--- Each list of bytes begins with something, or is unfinished.
+-- All bytes have a result of `take`.
 pub each_framed : (bytes : List ℕ) → (t : Take) × Frames bytes t
 each_framed bytes = elim (head_or_none bytes) [
   | inl w ↦ with_head bytes w.0 w.1 w.2 w.3

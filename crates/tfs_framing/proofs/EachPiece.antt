@@ -1,4 +1,4 @@
--- Each text begins with a piece of a head or doesn't, for each piece of the grammar.
+-- For each piece of the grammar it is decidable whether a text begins with it.
 use Rattle.std.proofs.Common.{◌≡◌, ◌≤◌, ◌<◌, ◌+◌, ◌⊎◌, ◌==◌, ◌∙◌, ℕ, zero, suc, List, [], ◌∷◌, ◌++◌, length, drop, nat_eq, Bool, true, false}
 use Rattle.std.proofs.Common.{codes, refl, sym, ap, subst, inl, inr, arith, append_assoc}
 use Rattle.std.specs.List.{starts_with}
@@ -14,7 +14,7 @@ use Rattle.httparse.proofs.PieceLemmas.{IsDeterministic, Newline_deterministic, 
 use Rattle.httparse.proofs.PieceLemmas.{newline_not_stopped}
 use Rattle.tfs_framing.proofs.PrefixLemmas.{front_split, front_joined}
 
--- Two numbers are the same or not.
+-- Equality of two numbers is decidable.
 pub same_or_not : (a b : ℕ) → (a ≡ b) ⊎ ¬ (a ≡ b)
 same_or_not a b = by (a == b) refl
   where
@@ -22,11 +22,11 @@ same_or_not a b = by (a == b) refl
     by true e = inl (eqb-true a b e)
     by false e = inr (λ same. grind (arith, nat_tests))
 
--- Each text begins with the piece or doesn't.
+-- It is decidable for every text whether it begins with the piece.
 abbrev pub IsDecided : {A : Type 0} → Piece A → Type 0
 IsDecided G = (text : List ℕ) → Begins G text ⊎ ¬ (Begins G text)
 
--- Two pieces that are decided, in a row.
+-- Two decidable pieces in sequence are decidable.
 pub then_decided : {A B : Type 0} {G : Piece A} {H : Piece B} → IsDeterministic G → IsDecided G → IsDecided H → IsDecided (Then G H)
 then_decided {G} {H} det g h text = elim (g text) [
   | inl x ↦ elim (h x.1) [
@@ -38,7 +38,7 @@ then_decided {G} {H} det g h text = elim (g text) [
   | inr none ↦ inr (λ w. none (w.0.0, w.2.0, w.2.1))
 ]
 
--- No bytes begin with no line end.
+-- The empty text doesn't begin with a line end.
 pub nothing_begins : ¬ (Begins Newline [])
 nothing_begins w = by w.0 w.1 w.2
   where
@@ -46,7 +46,7 @@ nothing_begins w = by w.0 w.1 w.2
     by crlf rest e = cc
     by lf rest e = cc
 
--- The bytes begin with this one, or not.
+-- It is decidable whether bytes begin with a given byte.
 pub first_decided : (b : ℕ) (text : List ℕ) → ((rest : List ℕ) × (text ≡ b ∷ rest)) ⊎ ¬ ((rest : List ℕ) × (text ≡ b ∷ rest))
 first_decided b [] = inr (λ w. let e = w.1 in cc)
 first_decided b (c ∷ text) = elim (same_or_not c b) [
@@ -54,7 +54,7 @@ first_decided b (c ∷ text) = elim (same_or_not c b) [
   | inr other ↦ inr (λ w. let e = w.1 in other (cc))
 ]
 
--- CR LF comes first, or not.
+-- It is decidable whether a text begins with CR LF.
 pub line_end_decided : (text : List ℕ) → ((rest : List ℕ) × (text ≡ print_end crlf ++ rest)) ⊎ ¬ ((rest : List ℕ) × (text ≡ print_end crlf ++ rest))
 line_end_decided text = elim (first_decided 13 text) [
   | inl x ↦ elim (first_decided 10 x.0) [
@@ -64,7 +64,7 @@ line_end_decided text = elim (first_decided 13 text) [
   | inr none ↦ inr (λ w. none (10 ∷ w.0, w.1))
 ]
 
--- A line end comes first or doesn't.
+-- It is decidable whether a text begins with a line end.
 pub newline_decided : IsDecided Newline
 newline_decided text = elim (first_decided 10 text) [
   | inl x ↦ inl (lf, x.0, x.1)
@@ -79,7 +79,7 @@ newline_decided text = elim (first_decided 10 text) [
     none not_lf not_crlf crlf rest e = not_crlf (rest, e)
     none not_lf not_crlf lf rest e = not_lf (rest, e)
 
--- A text has a first byte that fails the test, or not.
+-- It is decidable whether the first byte of a text fails the test.
 stops_decided : (test : ℕ → Bool) (text : List ℕ) → Stops test text ⊎ ¬ (Stops test text)
 stops_decided test [] = inr (λ stops. stops)
 stops_decided test (b ∷ text) = by (test b) refl
@@ -88,12 +88,12 @@ stops_decided test (b ∷ text) = by (test b) refl
     by true e = inr (λ fails. cc)
     by false e = inl e
 
--- Behind a line end fewer bytes are left.
+-- The rest after a line end is shorter than the text.
 pub longer : (end : LineEnd) (rest left : List ℕ) → left ≡ print_end end ++ rest → length rest < length left
 longer crlf rest left e = let same = ap (λ (t : List ℕ). length t) e in omega arith
 longer lf rest left e = let same = ap (λ (t : List ℕ). length t) e in omega arith
 
--- All empty lines come first, and then something else, or not.
+-- It is decidable whether a text is empty lines followed by something else.
 pub blank_decided : IsDecided Blank
 blank_decided text = within (length text) text (omega arith)
   where
@@ -127,7 +127,7 @@ blank_decided text = within (length text) text (omega arith)
             (same ∙ append_assoc (print_end first) (print_blank ends) last) in
             none (ends, last, (one.1, stops))
 
--- Bytes that pass a test come first, and behind them one that fails it, or not.
+-- It is decidable whether a text is bytes that pass a test followed by one that fails it.
 pub run_decided : (test : ℕ → Bool) → IsDecided (Run test)
 run_decided test [] = inr (λ w. none w.0 w.1 w.2.1 w.2.2)
   where
@@ -147,11 +147,11 @@ run_decided test (b ∷ text) = by (test b) refl (run_decided test text)
     ]
     by false e behind = inl ([], b ∷ text, (All-nil (λ c. test c ≡ true), refl, e))
 
--- Bytes that pass a test come first, and then the byte that ends them.
+-- Bytes that pass the test are followed by the byte `stop`.
 abbrev Spans : (ℕ → Bool) → ℕ → List ℕ → Type 0
 Spans test stop text = (word : List ℕ) × (rest : List ℕ) × AllPass test word × (text ≡ word ++ stop ∷ rest)
 
--- They do or don't.
+-- This is decidable if `stop` fails the test.
 pub span_decided : (test : ℕ → Bool) (stop : ℕ) → test stop ≡ false → (text : List ℕ) → Spans test stop text ⊎ ¬ (Spans test stop text)
 span_decided test stop fails text = elim (run_decided test text) [
   | inl x ↦ elim (first_decided stop x.1) [
@@ -161,7 +161,7 @@ span_decided test stop fails text = elim (run_decided test text) [
   | inr none ↦ inr (λ w. none (w.0, stop ∷ w.1, (w.2, w.3, fails)))
 ]
 
--- A word comes first, and then the byte that ends it, or not.
+-- It is decidable whether a text begins with a word and the byte that ends it.
 pub word_decided : (test : ℕ → Bool) (stop : ℕ) → test stop ≡ false → IsDecided (Word test stop)
 word_decided test stop fails text = elim (span_decided test stop fails text) [
   | inl x ↦ by x.0 x.1 x.2 x.3
@@ -179,7 +179,7 @@ word_decided test stop fails text = elim (span_decided test stop fails text) [
             cc
     by (c ∷ word) rest all e = inl (c ∷ word, rest, (omega arith, all, e))
 
--- A target in UTF-8 and a space come first, or not.
+-- It is decidable whether a text begins with a target in UTF-8 and a space.
 pub target_decided : IsDecided Target
 target_decided text = elim (word_decided is_uri_byte 32 refl text) [
   | inl x ↦ by x.0 x.1 x.2 (is_utf8 x.0) refl
@@ -193,7 +193,7 @@ target_decided text = elim (word_decided is_uri_byte 32 refl text) [
         let valid : is_utf8 target ≡ true = is_utf8-from_IsUtf8 target (subst IsUtf8 same.0 w.2.1) in
         cc)
 
--- A version comes first, or not.
+-- It is decidable whether a text begins with a version.
 pub version_decided : IsDecided Version
 version_decided text = by (starts_with nat_eq text (codes "HTTP/1.")) refl
   where
@@ -218,7 +218,7 @@ version_decided text = by (starts_with nat_eq text (codes "HTTP/1.")) refl
         ap (λ t. starts_with nat_eq t (codes "HTTP/1.")) w.2.1 ∙ front_joined (codes "HTTP/1.") ((48 + w.0) ∷ w.1) in
         cc)
 
--- The bytes of a value and a line end come first, or not.
+-- It is decidable whether a text begins with the bytes of a field value and a line end.
 pub text_decided : IsDecided Text
 text_decided text = elim (run_decided is_value_byte text) [
   | inl x ↦ elim (newline_decided x.1) [

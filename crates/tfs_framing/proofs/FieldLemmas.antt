@@ -1,4 +1,4 @@
--- Laws of the fields of a head: `http_header` takes each of them.
+-- Lemmas about the fields of a head: `http_header` accepts each of them.
 use Rattle.std.proofs.Common.{slice_index_or, true, zero, suc, ◌≡◌, ◌≤◌, ◌<◌, ◌∙◌, ℕ, List, [], ◌∷◌, length, flat_map, All, refl, ap, subst, arith}
 use Rattle.std.proofs.Common.{append-nil, length-append}
 use Rattle.httparse.specs.Grammar.{Field, IsField, RequestHead, print_field, print_request, field_value}
@@ -9,23 +9,23 @@ use Rattle.http_header.specs.FieldValue.{IsFieldValue}
 use Rattle.http_header.specs.Token.{is_token_byte as header_token_byte, is_value_byte}
 use Rattle.tfs_framing.specs.Head.{IsHeadOf}
 
--- Both have the same bytes in a name.
+-- `httparse` and `http_header` allow the same bytes in a name.
 same_bytes : (b : ℕ) → is_token_byte b ≡ header_token_byte b
 unfolding is_token_byte header_token_byte
 same_bytes b = refl
 
--- A name is no longer than all fields.
+-- The name of a field is at most as long as the text of all fields.
 names_fit : (fields : List Field) (k : ℕ) (f : Field) → k < length fields → length (slice_index_or fields k f).name ≤ length (flat_map print_field fields)
 names_fit [] k f low = absurd (omega arith)
 names_fit (first ∷ fields) zero f low = simp (length-append) (omega arith)
 names_fit (first ∷ fields) (suc k) f low = let one = names_fit fields k f (omega (arith, low)) in simp (length-append) (omega arith)
 
--- All fields are no longer than the head.
+-- The text of all fields is at most as long as the head.
 fields_fit : (h : RequestHead) → length (flat_map print_field h.fields) ≤ length (print_request h)
 unfolding print_request
 fields_fit h = simp (length-append) (omega arith)
 
--- Each field of a head is one that `http_header` takes.
+-- `http_header` accepts the name and the value of each field of a head.
 pub fields_taken : (head : List ℕ) (h : RequestHead) → length head ≤ 16384 → IsHeadOf head h
     → All (λ f. IsFieldName f.name × IsFieldValue (field_value f)) h.fields
 fields_taken head h short is k f low =

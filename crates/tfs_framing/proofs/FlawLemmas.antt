@@ -1,4 +1,4 @@
--- Laws of what can't be there in a body in chunks: it stays so whatever bytes follow.
+-- Lemmas about flaws in chunked bodies: they remain when more bytes follow.
 use Rattle.std.proofs.Common.{◌≡◌, ◌≤◌, ◌⊎◌, ℕ, List, [], ◌∷◌, ◌++◌, length, sym, ◌∙◌, ap, arith, append_assoc}
 use Rattle.std.proofs.Common.{append-nil, length-append, inl, inr}
 use Rattle.httparse.specs.Ascii.{line_feed}
@@ -9,7 +9,7 @@ use Rattle.tfs_framing.specs.declared.chunks.Flaw.TheVariants.{TooLarge, Unreada
 use Rattle.tfs_framing.proofs.HeadLemmas.{cuts, nothing_appended, nothing_left}
 use Rattle.tfs_framing.proofs.ChunkLemmas.{line_feed_last}
 
--- Where a chunk line goes on behind such bytes, it doesn't.
+-- A chunk line can't continue after bytes that contain a line feed, or after 1,024 bytes.
 line_goes_on : (left more : List ℕ) (line : ChunkLine) → IsShortLine line
     → (1024 ≤ length left) ⊎ ((before : List ℕ) × (after : List ℕ) × (left ≡ before ++ line_feed ∷ after)) → print_chunk_line line ≡ left ++ more → more ≡ []
 line_goes_on left more line is (inl long) e =
@@ -20,7 +20,7 @@ line_goes_on left more line is (inr w) e =
     nothing_appended w.1 more (sym (line_feed_last line w.0 (w.1 ++ more) is.is_line
     (e ∙ ap (λ t. t ++ more) w.2 ∙ append_assoc w.0 (line_feed ∷ w.1) more)))
 
--- A bad line stays one.
+-- A bad chunk line remains bad.
 bad_line_more : (left more : List ℕ) → HasBadLine left → HasBadLine (left ++ more)
 bad_line_more left more bad = record {
   there = elim bad.there [
@@ -35,7 +35,7 @@ bad_line_more left more bad = record {
   ];
 }
 
--- A trailer that is too long stays so.
+-- A trailer that is too long remains too long.
 long_trailer_more : (after more : List ℕ) → HasLongTrailer after → HasLongTrailer (after ++ more)
 long_trailer_more after more bad = record {
   long = let sizes = length-append after more in let long = bad.long in omega arith;
@@ -50,7 +50,7 @@ long_trailer_more after more bad = record {
   ];
 }
 
--- A bad end of a chunk stays one.
+-- A bad chunk end remains bad.
 bad_end_more : (size : ℕ) (after more : List ℕ) → HasBadEnd size after → HasBadEnd size (after ++ more)
 bad_end_more size after more bad = record {
   bytes = bad.bytes;
@@ -62,7 +62,7 @@ bad_end_more size after more bad = record {
   other = bad.other;
 }
 
--- What can't be behind a line still can't.
+-- A flaw after a chunk line remains.
 behind_more : (count total size : ℕ) (after more : List ℕ) (flaw : Flaw) → IsFlawBehind count total size after flaw
     → IsFlawBehind count total size (after ++ more) flaw
 behind_more count total size after more TooLarge p = p
@@ -77,7 +77,7 @@ behind_more count total size after more Unreadable p = (
   ],
 )
 
--- What can't be there still can't.
+-- A flaw in the next bytes remains.
 at_more : (count total : ℕ) (left more : List ℕ) (flaw : Flaw) → IsFlawAt count total left flaw → IsFlawAt count total (left ++ more) flaw
 at_more count total left more flaw p = elim p [
   | inl q ↦ inl (q.0, bad_line_more left more q.1)
@@ -90,7 +90,7 @@ at_more count total left more flaw p = elim p [
   )
 ]
 
--- Bytes that can't begin with a body in chunks never do.
+-- A flaw in a chunked body remains when more bytes follow.
 pub flaw_more : (rest more : List ℕ) (flaw : Flaw) → HasFlaw rest flaw → HasFlaw (rest ++ more) flaw
 flaw_more rest more flaw f = record {
   chunks = f.chunks;

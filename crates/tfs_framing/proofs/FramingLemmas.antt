@@ -1,4 +1,4 @@
--- Laws of framing: what bytes begin with is one thing, and stays whatever bytes follow.
+-- Lemmas about framing: bytes have at most one result, and it remains when more bytes follow.
 use Rattle.std.proofs.Common.{◌≡◌, ◌≤◌, ◌<◌, ◌⊎◌, ℕ, List, [], ◌++◌, length, Result, Ok, Err, refl, sym, ◌∙◌, ap, subst, arith}
 use Rattle.std.proofs.Common.{append_assoc, append-nil, length-append, inl, inr}
 use Rattle.httparse.specs.Grammar.{LineEnd, print_blank, RequestHead}
@@ -17,7 +17,7 @@ use Rattle.tfs_framing.proofs.HeadLemmas.{cuts, message_head_once, nothing_left,
 use Rattle.tfs_framing.proofs.ChunksLemmas.{chunks_once}
 use Rattle.tfs_framing.proofs.BadBodyLemmas.{spelled_not_bad, bad_once, bad_more}
 
--- A head stays the head whatever bytes follow.
+-- The head of the bytes doesn't change when more bytes follow.
 pub head_more : (bytes more : List ℕ) (skipped : List LineEnd) (head rest : List ℕ) → HasHead bytes skipped head rest
     → HasHead (bytes ++ more) skipped head (rest ++ more)
 head_more bytes more skipped head rest has = record {
@@ -28,13 +28,13 @@ head_more bytes more skipped head rest has = record {
   size = has.size;
 }
 
--- Bytes have one head.
+-- Two heads of the same bytes are equal in all parts.
 pub record SameHead (a b : List LineEnd) (head other rest last : List ℕ) : Type 0 where
   pub skipped : a ≡ b
   pub heads : head ≡ other
   pub rests : rest ≡ last
 
--- Two heads of the same bytes are one.
+-- Bytes have at most one head.
 pub head_unique : (bytes : List ℕ) (a b : List LineEnd) (head other rest last : List ℕ) → HasHead bytes a head rest → HasHead bytes b other last
     → SameHead a b head other rest last
 head_unique bytes a b head other rest last has also =
@@ -43,14 +43,14 @@ head_unique bytes a b head other rest last has also =
     let texts = message_head_once head other rest last has.is_head also.is_head same.1 in
     record { skipped = same.0; heads = texts.0; rests = texts.1 }
 
--- A head is read in one way.
+-- A head is parsed in only one way.
 pub reads_once : (head : List ℕ) (h k : RequestHead) (m n : BodyLength) → ReadsHead head h m → ReadsHead head k n → (h ≡ k) × (m ≡ n)
 reads_once head h k m n r s =
     let same : h ≡ k = (request_unique head h k [] [] r.is_head_of.reads s.is_head_of.reads).0 in
     let sizes : ◌≡◌ {A = Result BodyLength Refusal} (Ok m) (Ok n) = sym r.body ∙ ap body_length same ∙ s.body in
     (same, cc)
 
--- Bytes begin with one body of a length.
+-- For a given length, bytes begin with at most one body.
 pub spells_once : (size : BodyLength) (coded body after other also last : List ℕ) → SpellsBody size coded body → SpellsBody size other also
     → coded ++ after ≡ other ++ last → (coded ≡ other) × (body ≡ also) × (after ≡ last)
 spells_once Absent coded body after other also last s t e =
@@ -63,19 +63,19 @@ spells_once (Sized n) coded body after other also last s t e =
     (same.0, sym s.0 ∙ same.0 ∙ t.0, same.1)
 spells_once Chunked coded body after other also last s t e = chunks_once coded body after other also last s t e
 
--- How a head is refused, by its three reasons.
+-- The three reasons for refusing a head: too many lines, no valid head, or a refused body length.
 abbrev pub Reasons : List ℕ → Refusal → Type 0
 Reasons head refusal = ((66 < line_feeds head) × (refusal ≡ HeadTooLarge))
     ⊎ (((line_feeds head ≤ 66) × ((h : RequestHead) → ¬ (IsHeadOf head h)) × (refusal ≡ BadHead))
     ⊎ ((line_feeds head ≤ 66) × (h : RequestHead) × IsHeadOf head h × (body_length h ≡ Err refusal)))
 
--- A refused head is refused for one of them.
+-- A refused head has one of these reasons.
 pub reasons : (head : List ℕ) (refusal : Refusal) → IsHeadRefused head refusal → Reasons head refusal
 reasons head HeadTooLarge p = inl (p, refl)
 reasons head BadHead p = inr (inl (p.0, p.1, refl))
 reasons head _ p = inr (inr p)
 
--- A head that is read isn't refused.
+-- A head that is parsed isn't refused.
 pub reads_not_refused : (head : List ℕ) (h : RequestHead) (n : BodyLength) (refusal : Refusal) → ReadsHead head h n → ¬ (IsHeadRefused head refusal)
 reads_not_refused head h n refusal r refused = elim (reasons head refusal refused) [
   | inl p ↦ let few = r.lines in omega arith
@@ -88,7 +88,7 @@ reads_not_refused head h n refusal r refused = elim (reasons head refusal refuse
   ]
 ]
 
--- A head is refused for one reason.
+-- A head has at most one refusal.
 pub refused_once : (head : List ℕ) (f g : Refusal) → IsHeadRefused head f → IsHeadRefused head g → f ≡ g
 refused_once head f g p q = by (reasons head f p) (reasons head g q)
   where
@@ -106,13 +106,13 @@ refused_once head f g p q = by (reasons head f p) (reasons head g q)
         let both : ◌≡◌ {A = Result BodyLength Refusal} (Err f) (Err g) = sym a.3 ∙ ap body_length same ∙ b.3 in
         cc
 
--- A message's head is the head of the bytes that it begins.
+-- The head of a message is the head of all bytes that begin with it.
 pub head_of_message : (bytes frame rest : List ℕ) (r : RequestValue) → bytes ≡ frame ++ rest → (m : ReadsMessage frame r)
     → HasHead bytes m.skipped m.head (m.coded ++ rest)
 head_of_message bytes frame rest r e m = subst (λ (t : List ℕ). HasHead t m.skipped m.head (m.coded ++ rest)) (sym e)
     (head_more frame rest m.skipped m.head m.coded m.has_head)
 
--- Two messages at the beginning of the same bytes are one.
+-- Bytes begin with at most one message.
 pub message_once : (bytes : List ℕ) (r q : RequestValue) (m n : ℕ) → BeginsWith bytes r m → BeginsWith bytes q n → (r ≡ q) × (m ≡ n)
 message_once bytes r q m n b d =
     let one = head_of_message bytes b.frame b.rest r b.parts b.reads in
@@ -133,7 +133,7 @@ message_once bytes r q m n b d =
       omega arith,
     )
 
--- A message isn't refused.
+-- Bytes that begin with a message aren't refused.
 pub message_not_refused : (bytes : List ℕ) (r : RequestValue) (m : ℕ) (refusal : Refusal) → BeginsWith bytes r m → ¬ (framing_refusal bytes refusal)
 message_not_refused bytes r m refusal b p = by (head_of_message bytes b.frame b.rest r b.parts b.reads) p
   where
@@ -150,13 +150,13 @@ message_not_refused bytes r m refusal b p = by (head_of_message bytes b.frame b.
         spelled_not_bad b.reads.size q.rest b.reads.coded b.reads.body b.rest q.flaw b.reads.spells (sym same.rests)
         (subst (λ (n : BodyLength). HasBadBody n q.rest q.flaw) (sym lines.1) q.bad)
 
--- A head whose body is refused isn't refused itself.
+-- If the body is refused, the head isn't.
 body_not_head : (bytes : List ℕ) (f g : Refusal) → HasRefusedBody bytes f → ¬ (HasRefusedHead bytes g)
 body_not_head bytes f g a b =
     let same = head_unique bytes a.skipped b.skipped a.head b.head a.rest b.rest a.has_head b.has_head in
     reads_not_refused a.head a.h a.size g a.reads (subst (λ (t : List ℕ). IsHeadRefused t g) (sym same.heads) b.refused)
 
--- A body is refused for one reason.
+-- A body has at most one refusal.
 body_refused_once : (bytes : List ℕ) (f g : Refusal) → HasRefusedBody bytes f → HasRefusedBody bytes g → f ≡ g
 body_refused_once bytes f g a b =
     let same = head_unique bytes a.skipped b.skipped a.head b.head a.rest b.rest a.has_head b.has_head in
@@ -165,7 +165,7 @@ body_refused_once bytes f g a b =
     (subst (λ (n : BodyLength). HasBadBody n b.rest b.flaw) (sym lines.1) b.bad) in
     a.refused ∙ ap refusal_of (bad_once a.size a.rest a.flaw b.flaw a.bad bad) ∙ sym b.refused
 
--- Bytes have one refusal.
+-- Bytes have at most one refusal.
 pub refusal_once : (bytes : List ℕ) (f g : Refusal) → framing_refusal bytes f → framing_refusal bytes g → f ≡ g
 refusal_once bytes f g (inl a) (inl b) = a.2 ∙ sym b.2
 refusal_once bytes f g (inl a) (inr (inl b)) = absurd (a.1 b.skipped b.head b.rest b.has_head)
@@ -179,7 +179,7 @@ refusal_once bytes f g (inr (inr a)) (inl b) = absurd (b.1 a.skipped a.head a.re
 refusal_once bytes f g (inr (inr a)) (inr (inl b)) = absurd (body_not_head bytes f g a b)
 refusal_once bytes f g (inr (inr a)) (inr (inr b)) = body_refused_once bytes f g a b
 
--- A message stays whatever bytes follow, and so does a refusal.
+-- A message remains when more bytes follow.
 pub message_more : (bytes more : List ℕ) (r : RequestValue) (n : ℕ) → BeginsWith bytes r n → BeginsWith (bytes ++ more) r n
 message_more bytes more r n b = record {
   frame = b.frame;
@@ -189,7 +189,7 @@ message_more bytes more r n b = record {
   reads = b.reads;
 }
 
--- Where no head ends in time there is none, whatever bytes follow.
+-- If no head ends in the first 16,384 bytes, this remains so when more bytes follow.
 no_head_more : (bytes more : List ℕ) → 16384 ≤ length bytes → HasNoHead bytes → HasNoHead (bytes ++ more)
 no_head_more bytes more many none skipped head rest has =
     let whole : bytes ++ more ≡ (print_blank skipped ++ head) ++ rest = has.parts ∙ sym (append_assoc (print_blank skipped) head rest) in
@@ -210,7 +210,7 @@ no_head_more bytes more many none skipped head rest has =
           })
     ]
 
--- A refusal stays whatever bytes follow.
+-- A refusal remains when more bytes follow.
 pub refusal_more : (bytes more : List ℕ) (refusal : Refusal) → framing_refusal bytes refusal → framing_refusal (bytes ++ more) refusal
 refusal_more bytes more refusal p = elim p [
   | inl q ↦ inl (let longer = length-append bytes more in let many = q.0 in omega arith, no_head_more bytes more q.0 q.1, q.2)
@@ -237,7 +237,7 @@ refusal_more bytes more refusal p = elim p [
   ]
 ]
 
--- What bytes begin with is one thing.
+-- Bytes have at most one result of `take`.
 pub framed_once : (bytes : List ℕ) (t u : Take) → Frames bytes t → Frames bytes u → t ≡ u
 framed_once bytes Need Need p q = refl
 framed_once bytes Need (Got r n) p q = absurd (p.no_message q.frame q.rest r q.parts q.reads)
@@ -249,7 +249,7 @@ framed_once bytes (Fault f) Need p q = absurd (q.no_refusal f p)
 framed_once bytes (Fault f) (Got r n) p q = absurd (message_not_refused bytes r n f q p)
 framed_once bytes (Fault f) (Fault g) p q = ap Fault (refusal_once bytes f g p q)
 
--- A message or a refusal stays.
+-- A message or a refusal remains when more bytes follow.
 pub framed_more : (bytes more : List ℕ) (t : Take) → ¬ (t ≡ Need) → Frames bytes t → Frames (bytes ++ more) t
 framed_more bytes more Need other p = absurd (other refl)
 framed_more bytes more (Got r n) other p = message_more bytes more r n p

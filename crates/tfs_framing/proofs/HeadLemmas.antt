@@ -1,4 +1,4 @@
--- Laws of heads: where one ends, and that it ends there alone.
+-- Lemmas about heads: where they end, and that the end is unique.
 use Rattle.std.proofs.Common.{◌≡◌, ◌≤◌, ◌+◌, ◌-◌, ◌⊎◌, ℕ, List, [], ◌∷◌, ◌++◌, length, refl, sym, ◌∙◌, ap, arith, append_assoc, length-append, inl}
 use Rattle.std.proofs.Common.{inr, subst, take, drop, min, take-append-drop, length-take, append-nil}
 use Rattle.std.proofs.Math.Seq.{take-append_seam, drop-append_seam}
@@ -6,12 +6,12 @@ use Rattle.httparse.specs.Ascii.{line_feed, carriage_return}
 use Rattle.httparse.specs.Grammar.{LineEnd, crlf, lf, print_end, print_blank}
 use Rattle.tfs_framing.specs.Head.{StartsWithEmptyLine, EndsWithEmptyLine, IsMessageHead, HasHead, HasNoHead}
 
--- The front was passed over: no line feed in it has an empty line behind it.
+-- The front of the bytes was searched: no line feed in it is followed by an empty line.
 pub record PassedOver (bytes front rest : List ℕ) : Type 0 where
   pub parts : bytes ≡ front ++ rest
   pub none : (before after : List ℕ) → bytes ≡ before ++ line_feed ∷ after → StartsWithEmptyLine after → length front ≤ length before
 
--- One more empty line in front of a rest.
+-- An empty line can be moved from the rest to the skipped lines.
 pub print_blank-snoc : (skipped : List LineEnd) (end : LineEnd) (rest : List ℕ)
     → print_blank (skipped ++ end ∷ []) ++ rest ≡ print_blank skipped ++ (print_end end ++ rest)
 print_blank-snoc [] crlf rest = refl
@@ -21,7 +21,7 @@ print_blank-snoc (first ∷ skipped) end rest =
     ∙ ap (λ t. print_end first ++ t) (print_blank-snoc skipped end rest)
     ∙ sym (append_assoc (print_end first) (print_blank skipped) (print_end end ++ rest))
 
--- Two cuts of one list: one front goes on with the rest of the other.
+-- Of two splits of one list, one front is a prefix of the other.
 pub cuts : (a b c d : List ℕ) → a ++ b ≡ c ++ d
     → ((z : List ℕ) × (a ≡ c ++ z) × (d ≡ z ++ b)) ⊎ ((z : List ℕ) × (c ≡ a ++ z) × (b ≡ z ++ d))
 cuts [] b c d e = inr (c, refl, e)
@@ -39,7 +39,7 @@ pub nothing_left : (z : List ℕ) → length z ≡ 0 → z ≡ []
 nothing_left [] e = refl
 nothing_left (x ∷ z) e = absurd (omega arith)
 
--- Two cuts of one list at one place are one.
+-- Two splits of one list at the same position are equal.
 pub same_cut : (a b c d : List ℕ) → a ++ b ≡ c ++ d → length a ≡ length c → (a ≡ c) × (b ≡ d)
 same_cut [] b [] d e n = (refl, e)
 same_cut [] b (y ∷ c) d e n = absurd (omega arith)
@@ -50,21 +50,21 @@ same_cut (x ∷ a) b (y ∷ c) d e n =
     let rest = same_cut a b c d tails (omega arith) in
     (cc, rest.1)
 
--- Both parts of a list that is split make it.
+-- The two parts of a split list, joined, are the list.
 pub halves : (n : ℕ) (all front back : List ℕ) → front ≡ take n all → back ≡ drop n all → all ≡ front ++ back
 halves n all front back is also = sym (take-append-drop n all) ∙ ap (λ t. t ++ drop n all) (sym is) ∙ ap (λ t. front ++ t) (sym also)
 
--- A line end has one byte or two.
+-- A line end has one or two bytes.
 pub print_end_len : (end : LineEnd) → (1 ≤ length (print_end end)) × (length (print_end end) ≤ 2)
 print_end_len crlf = (omega arith, omega arith)
 print_end_len lf = (omega arith, omega arith)
 
--- What is appended to something and gives nothing is nothing.
+-- If two lists joined are empty, the second is empty.
 pub nothing_appended : (z rest : List ℕ) → [] ≡ z ++ rest → rest ≡ []
 nothing_appended [] rest e = sym e
 nothing_appended (x ∷ z) rest e = cc
 
--- Behind a line feed and an empty line, no later line feed has an empty line.
+-- No proper prefix of a line feed and an empty line ends with an empty line.
 after_end : (z rest : List ℕ) (end last : LineEnd) → line_feed ∷ print_end end ≡ z ++ line_feed ∷ (print_end last ++ rest) → rest ≡ []
 after_end [] rest crlf crlf e = cc
 after_end [] rest crlf lf e = let wrong : carriage_return ≡ line_feed = cc in absurd (omega arith)
@@ -80,7 +80,8 @@ after_end (x ∷ y ∷ z) rest end last e =
     let two = print_end_len last in
     absurd (omega (arith, long, one, two, length-append z (line_feed ∷ (print_end last ++ rest)), length-append (print_end last) rest))
 
--- A front and an empty line end a head there alone, where the front is the shorter.
+-- No proper prefix of a front, a line feed and an empty line ends with an empty line, unless its
+-- last line feed before an empty line is in the front.
 ends_alone : (front before rest : List ℕ) (end last : LineEnd) → front ++ line_feed ∷ print_end end ≡ before ++ line_feed ∷ (print_end last ++ rest)
     → length front ≤ length before → rest ≡ []
 ends_alone front before rest end last e n = elim (cuts front (line_feed ∷ print_end end) before (line_feed ∷ (print_end last ++ rest)) e) [
@@ -91,7 +92,7 @@ ends_alone front before rest end last e n = elim (cuts front (line_feed ∷ prin
   | inr w ↦ after_end w.0 rest end last w.2
 ]
 
--- A front that was passed over, a line feed and an empty line are a head.
+-- A searched front, a line feed and an empty line are a message head.
 pub head_found : (bytes front rest after behind : List ℕ) (byte : ℕ) (end : LineEnd) → PassedOver bytes front rest → rest ≡ byte ∷ after → byte ≡ line_feed
     → after ≡ print_end end ++ behind
     → (head : List ℕ) × (tail : List ℕ) × (bytes ≡ head ++ tail) × (length head ≡ length bytes - length behind) × IsMessageHead head
@@ -118,7 +119,7 @@ head_found bytes front left after behind byte end passed cut same split =
       },
     )
 
--- Where all bytes were passed over, no part ends with an empty line.
+-- If all bytes were searched, no prefix of them ends with an empty line.
 pub passed_all : (bytes front : List ℕ) → PassedOver bytes front [] → (part rest : List ℕ) → bytes ≡ part ++ rest → ¬ (EndsWithEmptyLine part)
 passed_all bytes front passed part rest cut ends =
     let before = ends.0 in
@@ -130,7 +131,7 @@ passed_all bytes front passed part rest cut ends =
     let two = ap length here in
     omega (arith, one, two, length-append front [], length-append before (line_feed ∷ (print_end last ++ rest)))
 
--- One more byte is passed over, where it is no line feed or no empty line is behind it.
+-- The search passes a byte that isn't a line feed or has no empty line after it.
 pub byte_passed : (bytes front rest after : List ℕ) (byte : ℕ) → PassedOver bytes front rest → rest ≡ byte ∷ after
     → (byte ≡ line_feed → ¬ (StartsWithEmptyLine after)) → (next : List ℕ) × PassedOver bytes next after
 byte_passed bytes front rest after byte passed split none =
@@ -150,7 +151,7 @@ byte_passed bytes front rest after byte passed split none =
       },
     )
 
--- Empty lines are read in one way, up to bytes that begin with none.
+-- Bytes have only one way to skip all empty lines at their start.
 pub blank_unique : (a b : List LineEnd) (x y : List ℕ) → print_blank a ++ x ≡ print_blank b ++ y
     → ¬ (StartsWithEmptyLine x) → ¬ (StartsWithEmptyLine y) → (a ≡ b) × (x ≡ y)
 blank_unique [] [] x y e p q = (refl, e)
@@ -167,14 +168,14 @@ blank_unique (lf ∷ a) (lf ∷ b) x y e p q =
 blank_unique (crlf ∷ a) (lf ∷ b) x y e p q = let wrong : carriage_return ≡ line_feed = cc in absurd (omega arith)
 blank_unique (lf ∷ a) (crlf ∷ b) x y e p q = let wrong : line_feed ≡ carriage_return = cc in absurd (omega arith)
 
--- A head has two bytes at least, so that what comes behind it doesn't change how it begins.
+-- A head has at least two bytes, so the bytes after it don't affect how it begins.
 pub head_size : (head : List ℕ) → EndsWithEmptyLine head → 2 ≤ length head
 head_size head ends =
     let long = ap length ends.2 in
     let one = print_end_len ends.1 in
     omega (arith, long, one, length-append ends.0 (line_feed ∷ print_end ends.1))
 
--- What begins with an empty line does so within its first two bytes.
+-- Whether bytes begin with an empty line depends only on the first two bytes.
 starts_in_front : (head rest : List ℕ) → 2 ≤ length head → StartsWithEmptyLine (head ++ rest) → StartsWithEmptyLine head
 starts_in_front [] rest size starts = absurd (omega arith)
 starts_in_front (x ∷ []) rest size starts = absurd (omega arith)
@@ -188,7 +189,7 @@ starts_in_front (x ∷ y ∷ head) rest size starts = by_end starts.0 starts.1 s
 pub head_starts : (head rest : List ℕ) → ¬ (StartsWithEmptyLine head) → IsMessageHead head → ¬ (StartsWithEmptyLine (head ++ rest))
 head_starts head rest none is_head starts = none (starts_in_front head rest (head_size head is_head.ends) starts)
 
--- The head of a window is one of the bytes.
+-- The head found in the first `k` bytes is the head of all bytes.
 head_in_window : (bytes text head tail : List ℕ) (skipped : List LineEnd) (k n : ℕ) → k ≤ 16384
     → take k bytes ≡ print_blank skipped ++ text → ¬ (StartsWithEmptyLine text) → text ≡ head ++ tail → length head ≡ n → IsMessageHead head
     → HasHead bytes skipped (take n text) (drop (length (take k bytes) - length text + n) bytes)
@@ -213,7 +214,7 @@ head_in_window bytes text head tail skipped k n small window none split size is_
       size = omega (arith, text_size, window_size, length-take k bytes);
     })
 
--- Where no head is in the window there is none in the bytes.
+-- If the first 16,384 bytes have no head, the bytes have none.
 pub no_head_of_window : (bytes window text : List ℕ) (skipped : List LineEnd) (k : ℕ) → k ≡ min (length bytes) 16384
     → window ≡ take k bytes → window ≡ print_blank skipped ++ text → ¬ (StartsWithEmptyLine text)
     → ((part rest : List ℕ) → text ≡ part ++ rest → ¬ (EndsWithEmptyLine part)) → HasNoHead bytes
@@ -236,14 +237,14 @@ no_head_of_window bytes window text skipped k small is blank none absent others 
         let same = blank_unique skipped others text (head ++ z) (sym blank ∙ is ∙ e) none (head_starts head z has.starts has.is_head) in
         absent head z same.1 has.is_head.ends
 
--- The same as the code has it, with names for the window and the parts.
+-- The same as `head_in_window`, in the form of the code, with names for the window and the parts.
 pub head_of_window : (bytes window text head tail front back : List ℕ) (skipped : List LineEnd) (k n : ℕ) → k ≡ min (length bytes) 16384
     → window ≡ take k bytes → window ≡ print_blank skipped ++ text → ¬ (StartsWithEmptyLine text) → text ≡ head ++ tail → length head ≡ n → IsMessageHead head
     → front ≡ take n text → back ≡ drop (length window - length text + n) bytes → HasHead bytes skipped front back
 head_of_window bytes window text head tail front back skipped k n small is_window blank none split size is_head is_front is_back =
     rw (is_front, is_back, is_window) (head_in_window bytes text head tail skipped k n (omega arith) (sym is_window ∙ blank) none split size is_head)
 
--- Bytes begin with one text that ends with its first empty line.
+-- Bytes begin with at most one text that ends with its first empty line.
 pub message_head_once : (head other rest last : List ℕ) → IsMessageHead head → IsMessageHead other → head ++ rest ≡ other ++ last
     → (head ≡ other) × (rest ≡ last)
 message_head_once head other rest last is also e = elim (cuts head rest other last e) [

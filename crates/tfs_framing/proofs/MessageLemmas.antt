@@ -1,4 +1,4 @@
--- Laws of messages: how long they and their bodies are, and that bytes begin with one alone.
+-- Lemmas about messages: the lengths of messages and bodies, and that bytes begin with only one.
 use Rattle.std.proofs.Common.{◌≡◌, ◌≢◌, ◌≤◌, ◌<◌, ◌+◌, ℕ, List, [], ◌∷◌, ◌++◌, length, drop, Bool, true, false, ◌&&◌, nat_le, nat_lt, cond, ◌==◌}
 use Rattle.std.proofs.Common.{Result, Ok, Err, refl, sym, ◌∙◌, ap, subst, arith, inl, inr, length-append, codes}
 use Rattle.std.specs.List.{list_all}
@@ -23,13 +23,13 @@ use Rattle.tfs_framing.specs.declared.lines.BodyLength.TheVariants.{Absent, Size
 use Rattle.tfs_framing.proofs.FramingLemmas.{message_once, Reasons, reasons}
 use Rattle.tfs_framing.proofs.HeadLemmas.{head_size}
 
--- A body of this length has at most 16 MiB.
+-- The stated length, if there is one, is at most 16 MiB.
 abbrev pub Fits : BodyLength → Type 0
 Fits Absent = Unit {0}
 Fits (Sized size) = size ≤ 16777216
 Fits Chunked = Unit {0}
 
--- A refusal of a message is one of seven.
+-- The refusal is one of the seven that framing has.
 abbrev pub IsOfMessage : Refusal → Type 0
 IsOfMessage HeadTooLarge = Unit {0}
 IsOfMessage BadHead = Unit {0}
@@ -40,13 +40,14 @@ IsOfMessage BodyTooLarge = Unit {0}
 IsOfMessage BadChunk = Unit {0}
 IsOfMessage refusal = ⊥
 
--- What is told of a length: that it fits, or a refusal of a head whose fields have it.
+-- A stated length fits; a refusal is one of the seven, and refuses each head with at most 66 lines
+-- whose fields have it.
 abbrev IsTold : Result BodyLength Refusal → Type 0
 IsTold (Ok n) = Fits n
 IsTold (Err refusal) = IsOfMessage refusal × ((head : List ℕ)
     → (line_feeds head ≤ 66) × (h : RequestHead) × IsHeadOf head h × (body_length h ≡ Err refusal) → IsHeadRefused head refusal)
 
--- It is told of the length that a text gives.
+-- This holds of the length in a `Content-Length` value.
 text_told : (text : List ℕ) → IsTold (length_of_text text)
 text_told text = by_digits (nat_lt 0 (length text) && list_all is_ascii_digit text)
   where
@@ -59,7 +60,7 @@ text_told text = by_digits (nat_lt 0 (length text) && list_all is_ascii_digit te
     by_digits true = by_size (nat_le (digits_value 10 text) 16777216) refl
     by_digits false = (tt, λ head p. p)
 
--- And of the length that all values give.
+-- This holds of the length by all values.
 values_told : (minor : ℕ) (lengths codings : List (List ℕ)) → IsTold (length_told minor lengths codings)
 values_told minor [] [] = tt
 values_told minor [] (coding ∷ []) = by (minor == 1 && bytes_eq (lower coding) (codes "chunked"))
@@ -73,7 +74,7 @@ values_told minor (text ∷ other ∷ texts) [] = (tt, λ head p. p)
 values_told minor (text ∷ []) (coding ∷ codings) = (tt, λ head p. p)
 values_told minor (text ∷ other ∷ texts) (coding ∷ codings) = (tt, λ head p. p)
 
--- And of what a head says.
+-- This holds of the length that a head states.
 head_told : (h : RequestHead) → IsTold (body_length h)
 head_told h = by (names_host h.minor (values_named (codes "host") (fields_of h)))
   where
@@ -83,15 +84,16 @@ head_told h = by (names_host h.minor (values_named (codes "host") (fields_of h))
     by true = values_told h.minor (values_named (codes "content-length") (fields_of h)) (values_named (codes "transfer-encoding") (fields_of h))
     by false = (tt, λ head p. p)
 
--- A length that a head says is of a body that fits.
+-- The length that a head states is at most 16 MiB.
 pub length_fits : (h : RequestHead) (n : BodyLength) → body_length h ≡ Ok n → Fits n
 length_fits h n e = subst IsTold e (head_told h)
 
--- A head of few lines whose fields are refused is refused.
+-- A refusal of a head's fields is one of the seven, and refuses each head with at most 66 lines
+-- whose fields have it.
 pub length_refused : (h : RequestHead) (refusal : Refusal) → body_length h ≡ Err refusal → IsTold (Err refusal)
 length_refused h refusal e = subst IsTold e (head_told h)
 
--- The refusal of a message is one of those.
+-- A refusal of framing is one of the seven.
 pub is_of_message : (bytes : List ℕ) (refusal : Refusal) → framing_refusal bytes refusal → IsOfMessage refusal
 is_of_message bytes refusal (inl many) = subst IsOfMessage (sym many.2) tt
 is_of_message bytes refusal (inr (inl q)) = by (reasons q.head refusal q.refused)
@@ -106,7 +108,7 @@ is_of_message bytes refusal (inr (inr q)) = subst IsOfMessage (sym q.refused) (o
     of_flaw TooLarge = tt
     of_flaw Unreadable = tt
 
--- One that is none of the other six is `BadHead`.
+-- A refusal of framing that is none of the other six is `BadHead`.
 pub is_bad_head : (r : Refusal) → IsOfMessage r → r ≢ HeadTooLarge → r ≢ NoHost → r ≢ BadLength → r ≢ TransferCoding → r ≢ BodyTooLarge
     → r ≢ BadChunk → BadHead ≡ r
 is_bad_head HeadTooLarge is a b c d e f = absurd (a refl)
@@ -118,20 +120,20 @@ is_bad_head BodyTooLarge is a b c d e f = absurd (e refl)
 is_bad_head BadChunk is a b c d e f = absurd (f refl)
 is_bad_head _ is a b c d e f = absurd is
 
--- A body that is spelled fits where its length does.
+-- A body whose length fits has at most 16 MiB.
 spelled_fits : (n : BodyLength) (coded body : List ℕ) → SpellsBody n coded body → Fits n → length body ≤ 16777216
 spelled_fits Absent coded body s fits = let none : length body ≡ 0 = ap length s.1 in omega arith
 spelled_fits (Sized n) coded body s fits = omega (arith, s.1, fits)
 spelled_fits Chunked coded body s fits = let same = ap length s.is_body in let small = s.are.small in omega arith
 
--- A message's body has at most 16 MiB.
+-- The body of a message has at most 16 MiB.
 pub body_fits : (bytes : List ℕ) (r : RequestValue) (used : ℕ) → BeginsWith bytes r used → length r.body ≤ 16777216
 body_fits bytes r used b =
     let m = b.reads in
     let is : r.body ≡ m.body = ap (λ (q : RequestValue). q.body) m.is_request in
     subst (λ (t : List ℕ). length t ≤ 16777216) (sym is) (spelled_fits m.size m.coded m.body m.spells (length_fits m.h m.size m.reads.body))
 
--- A message has a byte at least.
+-- A message has at least one byte.
 pub frame_is_no_empty_text : (frame : List ℕ) (r : RequestValue) → ReadsMessage frame r → 0 < length frame
 frame_is_no_empty_text frame r m =
     let some = head_size m.head m.has_head.is_head.ends in
@@ -140,7 +142,7 @@ frame_is_no_empty_text frame r m =
     let parts : length (m.head ++ m.coded) ≡ length m.head + length m.coded = length-append m.head m.coded in
     omega arith
 
--- No bytes have no head.
+-- Empty input has no head.
 no_bytes_have_no_head : HasNoHead []
 no_bytes_have_no_head skipped head rest has =
     let some = head_size head has.is_head.ends in
@@ -149,13 +151,13 @@ no_bytes_have_no_head skipped head rest has =
     let parts : length (head ++ rest) ≡ length head + length rest = length-append head rest in
     omega arith
 
--- No bytes have no refusal.
+-- Empty input has no refusal.
 pub no_refusal_of_no_bytes : (refusal : Refusal) → ¬ (framing_refusal [] refusal)
 no_refusal_of_no_bytes refusal (inl few) = omega (arith, few.0)
 no_refusal_of_no_bytes refusal (inr (inl h)) = no_bytes_have_no_head h.skipped h.head h.rest h.has_head
 no_refusal_of_no_bytes refusal (inr (inr h)) = no_bytes_have_no_head h.skipped h.head h.rest h.has_head
 
--- No bytes are unfinished.
+-- Empty input is unfinished.
 pub no_bytes_are_unfinished : IsUnfinished []
 no_bytes_are_unfinished = record {
   no_message = λ frame rest r e m.
@@ -165,16 +167,16 @@ no_bytes_are_unfinished = record {
   no_refusal = no_refusal_of_no_bytes;
 }
 
--- What is left behind the message that comes first.
+-- The bytes after the first message are all bytes without its length.
 pub rest_behind : (bytes left : List ℕ) (r : RequestValue) (used : ℕ) → (b : BeginsWith bytes r used) → left ≡ drop used bytes → left ≡ b.rest
 rest_behind bytes left r used b is =
     is ∙ ap (λ t. drop used t) b.parts ∙ ap (λ n. drop n (b.frame ++ b.rest)) (sym b.used_is) ∙ drop-append_seam b.frame b.rest
 
--- A message at the beginning of bytes.
+-- Bytes that are a message and a rest begin with the message.
 pub begins : (bytes frame rest : List ℕ) (r : RequestValue) → bytes ≡ frame ++ rest → ReadsMessage frame r → BeginsWith bytes r (length frame)
 begins bytes frame rest r parts m = record { frame = frame; rest = rest; parts = parts; used_is = refl; reads = m }
 
--- Bytes begin with one message, and have one rest behind it.
+-- Bytes begin with at most one message, and have one rest after it.
 pub first_message_once : (bytes frame after other behind : List ℕ) (r s : RequestValue) → bytes ≡ frame ++ after → bytes ≡ other ++ behind
     → ReadsMessage frame r → ReadsMessage other s → (r ≡ s) × (after ≡ behind)
 first_message_once bytes frame after other behind r s parts pieces m n =

@@ -1,4 +1,5 @@
--- Laws of bytes whose head was read: with its body they begin with a message, without it they are unfinished.
+-- Lemmas about bytes whose head was parsed: with its body they begin with a message, without it
+-- they are unfinished.
 use Rattle.std.proofs.Common.{◌≡◌, ◌≤◌, ◌<◌, ◌-◌, ℕ, List, [], ◌++◌, length, drop, Result, Ok, Err, IfOk, OnErr, None, refl, sym, ◌∙◌, ap, subst, arith}
 use Rattle.std.proofs.Common.{append_assoc, length-append}
 use Rattle.std.proofs.Math.Seq.{drop-append_seam}
@@ -18,18 +19,18 @@ use Rattle.tfs_framing.specs.declared.request.OpenRequest.{OpenRequest}
 use Rattle.tfs_framing.proofs.FramingLemmas.{head_more}
 use Rattle.tfs_framing.proofs.WantedLemmas.{begins_anyway, begins_with_message, refused_by_body, unfinished_without_body}
 
--- What is left behind all but so many bytes.
+-- Dropping all but the last `n` bytes leaves the end that has length `n`.
 pub left_behind : (left after : List ℕ) (all n : ℕ) → all ≡ length left → EndsWith left after → n ≡ length after → drop (all - n) left ≡ after
 left_behind left after all n all_is ends is =
     let sizes = ap length ends.1 ∙ length-append ends.0 after in
     let at : all - n ≡ length ends.0 = omega arith in
     ap (λ (k : ℕ). drop k left) at ∙ ap (λ (t : List ℕ). drop (length ends.0) t) ends.1 ∙ drop-append_seam ends.0 after
 
--- It is no more than there was.
+-- The end of some bytes is at most as long as they are.
 pub few_left : (left after : List ℕ) → EndsWith left after → length after ≤ length left
 few_left left after ends = let sizes = ap length ends.1 ∙ length-append ends.0 after in omega arith
 
--- What ends the bytes behind a head ends all.
+-- The end of the bytes after a head is an end of all bytes.
 ends_all : (bytes : List ℕ) (skipped : List LineEnd) (head rest after : List ℕ) → HasHead bytes skipped head rest → EndsWith rest after
     → EndsWith bytes after
 ends_all bytes skipped head rest after has ends = (
@@ -38,11 +39,11 @@ ends_all bytes skipped head rest after has ends = (
       ∙ sym (append_assoc (print_blank skipped) (head ++ ends.0) after),
 )
 
--- What is behind a head that was read ends the bytes.
+-- The bytes after a parsed head are an end of all bytes.
 pub opens_end : (bytes rest : List ℕ) (request : Result OpenRequest AllocError) (size : BodyLength) → Opens bytes request size rest → EndsWith bytes rest
 opens_end bytes rest request size k = ends_all bytes k.skipped k.head rest rest k.has_head ([], refl)
 
--- A head that was read stays whatever bytes follow.
+-- A parsed head remains when more bytes follow.
 pub opens_more : (bytes more rest : List ℕ) (request : Result OpenRequest AllocError) (size : BodyLength) → Opens bytes request size rest
     → Opens (bytes ++ more) request size (rest ++ more)
 opens_more bytes more rest request size k = record {
@@ -54,17 +55,17 @@ opens_more bytes more rest request size k = record {
   own = k.own;
 }
 
--- Without its body the bytes are unfinished.
+-- Bytes with a parsed head but no body are unfinished.
 pub opens_unfinished : (bytes rest : List ℕ) (request : Result OpenRequest AllocError) (size : BodyLength) → Opens bytes request size rest
     → HasNoBody size rest → IsUnfinished bytes
 opens_unfinished bytes rest request size k none = unfinished_without_body bytes k.skipped k.head rest k.h size k.has_head k.reads none
 
--- With a bad one they are refused.
+-- Bytes with a parsed head and a flawed body are refused.
 pub opens_refused : (bytes rest : List ℕ) (request : Result OpenRequest AllocError) (size : BodyLength) (flaw : Flaw) → Opens bytes request size rest
     → HasBadBody size rest flaw → framing_refusal bytes (refusal_of flaw)
 opens_refused bytes rest request size flaw k bad = refused_by_body bytes k.skipped k.head rest k.h size flaw k.has_head k.reads bad
 
--- With its body they begin with a message.
+-- Bytes with a parsed head and its body begin with a message.
 pub opens_whole : (bytes rest coded body after : List ℕ) (request : Result OpenRequest AllocError) (size : BodyLength)
     → (k : Opens bytes request size rest) → rest ≡ coded ++ after → SpellsBody size coded body
     → (used : ℕ) × BeginsWith bytes (request_of k.h body) used × (after ≡ drop used bytes)
@@ -74,7 +75,7 @@ opens_whole bytes rest coded body after request size k split spells = (
   sym (left_behind bytes after (length bytes) (length after) refl (ends_all bytes k.skipped k.head rest after k.has_head (coded, split)) refl),
 )
 
--- Then memory may be refused.
+-- This also holds if memory is refused.
 pub whole_anyway : {T E : Type 0} (r : Result T E) (bytes rest coded body after : List ℕ) (request : Result OpenRequest AllocError) (size : BodyLength)
     → Opens bytes request size rest → rest ≡ coded ++ after → SpellsBody size coded body
     → OnErr r ((q : RequestValue) × (n : ℕ) × BeginsWith bytes q n)
@@ -82,7 +83,7 @@ whole_anyway r bytes rest coded body after request size k split spells =
     let whole = opens_whole bytes rest coded body after request size k split spells in
     begins_anyway r bytes (request_of k.h body) whole.0 whole.1
 
--- And the request that was completed is the message's.
+-- The request completed with the body is the request of the message.
 pub whole_framed : (bytes rest coded body after unused : List ℕ) (request : Result OpenRequest AllocError) (size : BodyLength) (o : OpenRequest)
     (q : RequestValue) (left : ℕ) → Opens bytes request size rest → rest ≡ coded ++ after → SpellsBody size coded body → request ≡ Ok o
     → q ≡ completed o body → EndsWith unused after → left ≡ length after → IsFramed bytes unused (Framed.Message q left)
@@ -97,18 +98,19 @@ whole_framed bytes rest coded body after unused request size o q left k split sp
       whole.2,
     )
 
--- Where more are needed, what was kept is known of the bytes that are left, unless memory was refused.
+-- If more bytes are needed, the progress is right for the remaining bytes, unless memory is
+-- refused.
 pub more_framed : (bytes unused after : List ℕ) (left : ℕ) (progress : Result Progress AllocError) → IsUnfinished bytes → EndsWith unused after
     → left ≡ length after → left < 17408 → IfOk progress (λ p. IsAt bytes p after) → IfOk progress (λ p. over_of p ≡ None)
     → IsFramed bytes unused (Framed.More progress left)
 more_framed bytes unused after left (Ok p) none ends is few at over = (none, (after, ends, is, few, at, over))
 more_framed bytes unused after left (Err e) none ends is few at over = (none, tt)
 
--- What ends the end of the bytes ends them.
+-- An end of an end of the bytes is an end of the bytes.
 ends_twice : (bytes rest after : List ℕ) → EndsWith bytes rest → EndsWith rest after → EndsWith bytes after
 ends_twice bytes rest after x y = (x.0 ++ y.0, x.1 ∙ ap (λ t. x.0 ++ t) y.1 ∙ sym (append_assoc x.0 y.0 after))
 
--- What is left of the end of the bytes is left of them.
+-- A result for an end of the bytes is also a result for the bytes.
 pub framed_all : (bytes rest : List ℕ) (r : Result Framed AllocError) → EndsWith bytes rest → IfOk r (IsFramed bytes rest)
     → IfOk r (IsFramed bytes bytes)
 framed_all bytes rest (Ok (Framed.Message q left)) ends p = (p.0, ends_twice bytes rest p.0 ends p.1, p.2, p.3, p.4, p.5)

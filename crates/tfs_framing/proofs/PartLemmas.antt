@@ -1,4 +1,4 @@
--- Laws of what comes next in a body in chunks.
+-- Lemmas about the next part of a chunked body.
 use Rattle.std.proofs.Common.{◌≡◌, ◌≤◌, ◌<◌, ◌+◌, ◌⊎◌, ℕ, List, [], ◌∷◌, ◌++◌, length, refl, sym, ◌∙◌, ap, arith, append_assoc}
 use Rattle.std.proofs.Common.{append-nil, length-append, inl, inr, take, drop, min, take-append-drop, length-take, nat_eq, Bool, true, false, ◌||◌}
 use Rattle.std.specs.List.{list_any}
@@ -15,23 +15,23 @@ use Rattle.tfs_framing.specs.declared.chunks.Flaw.TheVariants.{TooLarge, Unreada
 use Rattle.tfs_framing.proofs.HeadLemmas.{cuts, nothing_left}
 use Rattle.tfs_framing.proofs.ChunkLemmas.{flaw_behind, line_parts, line_once, chunk_split}
 
--- No bytes have no line feed.
+-- An empty list has no line feed.
 pub no_feed_in_nothing : (before after : List ℕ) → ¬ ([] ≡ before ++ line_feed ∷ after)
 no_feed_in_nothing [] after e = cc
 no_feed_in_nothing (b ∷ before) after e = cc
 
--- Of a line nothing was seen.
+-- Zero searched bytes have no line feed.
 pub nothing_seen : (left : List ℕ) → HasNoFeedIn 0 left
 nothing_seen left = record { front = []; rest = left; parts = refl; seen_is = refl; none = no_feed_in_nothing }
 
--- Without a line nothing comes next yet.
+-- Without a chunk line, nothing comes next yet.
 pub open_without_line : (count total : ℕ) (left : List ℕ) → HasNoLine left → IsOpen count total left
 open_without_line count total left without (next_chunk c after) p =
     without.none c.line (c.bytes ++ (print_end crlf ++ after)) p.0.line (p.1 ∙ chunk_split c after)
 open_without_line count total left without (next_end after) p = without.none p.0 (p.1 ++ after) p.2 p.5
 open_without_line count total left without (next_flaw flaw) p = elim p [ inl q ↦ without.not_bad q.1 | inr q ↦ without.none q.0 q.1 q.2 q.3 ]
 
--- Behind a line nothing comes next yet, where it neither goes on nor ends nor fails.
+-- After a chunk line, nothing comes next yet if there is no complete chunk, no trailer and no flaw.
 pub open_behind_line : (count total : ℕ) (left after : List ℕ) (line : ChunkLine) → IsShortLine line → left ≡ print_chunk_line line ++ after
     → ((bytes rest : List ℕ) → length bytes ≡ chunk_size line → 0 < chunk_size line → ¬ (after ≡ bytes ++ (print_end crlf ++ rest)))
     → ((trailer rest : List ℕ) → chunk_size line ≡ 0 → IsTrailer trailer → ¬ (after ≡ trailer ++ rest))
@@ -48,14 +48,14 @@ open_behind_line count total left after line is e no_chunk no_end no_flaw (next_
 open_behind_line count total left after line is e no_chunk no_end no_flaw (next_flaw flaw) p =
     no_flaw flaw (flaw_behind count total left after line flaw is e p)
 
--- A chunk line has a byte at least.
+-- A chunk line has at least one byte.
 pub line_has_bytes : (line : ChunkLine) → IsShortLine line → 0 < length (print_chunk_line line)
 line_has_bytes line is =
     let parts = line_parts line is.is_line in
     let size = ap length parts.2 ∙ length-append parts.0 (line_feed ∷ []) in
     omega arith
 
--- Without the bytes that lack of a chunk that has begun, and an end, nothing comes next yet.
+-- Until the missing bytes of a chunk and its end have arrived, nothing comes next yet.
 pub begun_open : (count total lacking : ℕ) (line : ChunkLine) (seen left : List ℕ) → IsBegun count total line seen lacking
     → length left < lacking + 2 → IsOpen count total (print_chunk_line line ++ (seen ++ left))
 begun_open count total lacking line seen left b short =
@@ -89,7 +89,7 @@ begun_open count total lacking line seen left b short =
       ]
     ]
 
--- With them and CR LF behind them it is a chunk.
+-- The missing bytes and CR LF complete the chunk.
 pub begun_whole : (count total lacking : ℕ) (line : ChunkLine) (seen left bytes behind : List ℕ) → IsBegun count total line seen lacking
     → length bytes ≡ lacking → left ≡ bytes ++ (print_end crlf ++ behind)
     → (c : Chunk) × (c.bytes ≡ seen ++ bytes) × ComesNext count total (print_chunk_line line ++ (seen ++ left)) (next_chunk c behind)
@@ -110,7 +110,7 @@ begun_whole count total lacking line seen left bytes behind b is_long split =
       ),
     )
 
--- With another end it can't be there.
+-- If another end follows the missing bytes, there is a flaw.
 pub begun_bad : (count total lacking : ℕ) (line : ChunkLine) (seen left : List ℕ) → IsBegun count total line seen lacking
     → HasBadEnd lacking left → IsFlawAt count total (print_chunk_line line ++ (seen ++ left)) Unreadable
 begun_bad count total lacking line seen left b bad =
@@ -128,7 +128,7 @@ begun_bad count total lacking line seen left b bad =
     } in
     inr (line, seen ++ left, b.is_line, refl, (b.small, inr (inl (b.some, b.few, end))))
 
--- Two bytes or more that don't begin with CR LF are a bad end.
+-- Two or more bytes that don't begin with CR LF are a bad chunk end.
 pub bad_end : (lacking : ℕ) (left bytes end : List ℕ) → left ≡ bytes ++ end → length bytes ≡ lacking → 2 ≤ length end
     → ((rest : List ℕ) → ¬ (end ≡ print_end crlf ++ rest)) → HasBadEnd lacking left
 bad_end lacking left bytes end split size enough none = record {
@@ -141,13 +141,13 @@ bad_end lacking left bytes end split size enough none = record {
   other = λ is. none (drop 2 end) (sym (take-append-drop 2 end) ∙ ap (λ t. t ++ drop 2 end) is);
 }
 
--- What is behind a line.
+-- Dropping the length of a chunk line leaves the bytes after it.
 pub behind_line : (left : List ℕ) (len size : ℕ) (line : ChunkLine) → (at : IsLineAt left len size line) → drop len left ≡ at.after
 behind_line left len size line at =
     ap (λ (n : ℕ). drop n left) at.len_is ∙ ap (λ (t : List ℕ). drop (length (print_chunk_line line)) t) at.parts
     ∙ drop-append_seam (print_chunk_line line) at.after
 
--- The line that is found in the first bytes is the line of all.
+-- The chunk line found in the window is the chunk line of all bytes.
 pub line_in_window : (left window : List ℕ) (k len size : ℕ) (line : ChunkLine) → k ≤ 1024 → window ≡ take k left → IsChunkLineAt window len size line
     → IsLineAt left len size line
 line_in_window left window k len size line small is at =
@@ -163,7 +163,7 @@ line_in_window left window k len size line small is at =
       size_is = at.size_is;
     }
 
--- Where the first bytes have no line there is none.
+-- If the window has no chunk line, the bytes have none.
 pub no_line_in_window : (left window : List ℕ) (k : ℕ) → k ≡ min (length left) 1024 → window ≡ take k left → HasNoChunkLine window
     → (line : ChunkLine) (after : List ℕ) → IsShortLine line → ¬ (left ≡ print_chunk_line line ++ after)
 no_line_in_window left window k is_k is none line after is_line e =
@@ -181,7 +181,7 @@ no_line_in_window left window k is_k is none line after is_line e =
           none line [] (is_line.is_line, is ∙ same ∙ sym (append-nil (print_chunk_line line)))
     ]
 
--- A list that has a line feed, cut at it.
+-- A list that has a line feed can be split at one.
 pub feed_found : (text : List ℕ) → list_any (λ b. nat_eq b 10) text ≡ true
     → (before : List ℕ) × (after : List ℕ) × (text ≡ before ++ line_feed ∷ after)
 feed_found [] e = cc
@@ -193,7 +193,7 @@ feed_found (b ∷ text) e = by (nat_eq b 10) refl e (λ f. feed_found text f)
     by true is f behind = ([], text, ap (λ c. c ∷ text) (eqb-true b 10 is))
     by false is f behind = let rest = behind f in (b ∷ rest.0, rest.1, ap (λ t. b ∷ t) rest.2)
 
--- A list that is cut at a line feed has one.
+-- A list that can be split at a line feed has one.
 pub has_feed : (before after : List ℕ) → list_any (λ b. nat_eq b 10) (before ++ line_feed ∷ after) ≡ true
 has_feed [] after = refl
 has_feed (b ∷ before) after = by (nat_eq b 10) (has_feed before after)
@@ -203,7 +203,7 @@ has_feed (b ∷ before) after = by (nat_eq b 10) (has_feed before after)
     by true behind = refl
     by false behind = behind
 
--- A line feed in the first bytes, where they have no line, is a bad line.
+-- A line feed in a window without a chunk line makes the line bad.
 pub bad_line_in_window : (left window new : List ℕ) (k m : ℕ) → k ≡ min (length left) 1024 → window ≡ take k left → HasNoChunkLine window
     → new ≡ drop m window → list_any (λ b. nat_eq b 10) new ≡ true → HasBadLine left
 bad_line_in_window left window new k m is_k is none is_new any =
@@ -221,7 +221,7 @@ bad_line_in_window left window new k m is_k is none is_new any =
       none = no_line_in_window left window k is_k is none;
     }
 
--- A text that is cut at a line feed, before or behind a place.
+-- If a text can be split at a line feed, the first or the second part of the text has one.
 feed_before_or_behind : (old new before after : List ℕ) → old ++ new ≡ before ++ line_feed ∷ after
     → ((rest : List ℕ) × (old ≡ before ++ line_feed ∷ rest)) ⊎ (list_any (λ b. nat_eq b 10) new ≡ true)
 feed_before_or_behind old new before after e = elim (cuts old new before (line_feed ∷ after) e) [
@@ -234,7 +234,7 @@ feed_before_or_behind old new before after e = elim (cuts old new before (line_f
     by [] f g = inr (ap (λ (t : List ℕ). list_any (λ b. nat_eq b 10) t) (sym g) ∙ has_feed [] after)
     by (b ∷ z) f g = let same : line_feed ≡ b = cc in inl (z, f ∙ ap (λ (c : ℕ). before ++ c ∷ z) (sym same))
 
--- Where no line feed was seen before, and none is in the new bytes, the first bytes have none.
+-- If the bytes seen before and the new bytes have no line feed, the window has none.
 pub no_feed_in_window : (left window new : List ℕ) (seen k m : ℕ) → HasNoFeedIn seen left → window ≡ take k left → m ≡ min seen (length window)
     → new ≡ drop m window → list_any (λ b. nat_eq b 10) new ≡ false → (before after : List ℕ) → ¬ (window ≡ before ++ line_feed ∷ after)
 no_feed_in_window left window new seen k m s is is_m is_new none before after e =
@@ -262,12 +262,12 @@ no_line_without_feed window none line rest reads =
     let parts = line_parts line reads.0 in
     none parts.0 rest (reads.1 ∙ ap (λ t. t ++ rest) parts.2 ∙ append_assoc parts.0 (line_feed ∷ []) rest)
 
--- So are 1,024 bytes without a line.
+-- If 1,024 bytes have no chunk line, the line is bad.
 pub long_line_in_window : (left window : List ℕ) (k : ℕ) → k ≡ min (length left) 1024 → window ≡ take k left → HasNoChunkLine window
     → 1024 ≤ length left → HasBadLine left
 long_line_in_window left window k is_k is none long = record { there = inl long; none = no_line_in_window left window k is_k is none }
 
--- Fewer bytes without a line feed have no line yet.
+-- Fewer than 1,024 bytes without a line feed have neither a chunk line nor a bad one.
 pub no_line_yet : (left : List ℕ) → HasNoFeedIn (length left) left → length left < 1024 → HasNoLine left
 no_line_yet left seen short = record {
   none = λ line after is e.
@@ -283,7 +283,7 @@ no_line_yet left seen short = record {
         let nothing : seen.rest ≡ [] = nothing_left seen.rest (omega arith) in
         seen.none before after (sym (append-nil seen.front) ∙ ap (λ t. seen.front ++ t) (sym nothing) ∙ sym seen.parts ∙ e)
 
--- Then all of them were seen.
+-- If the window is all bytes and has no line feed, all bytes are searched.
 pub all_seen : (left window : List ℕ) → window ≡ left → ((before after : List ℕ) → ¬ (window ≡ before ++ line_feed ∷ after))
     → HasNoFeedIn (length left) left
 all_seen left window all none = record {

@@ -1,4 +1,4 @@
--- Laws of how far the end of a head was sought.
+-- Lemmas about the state of a search for the end of a head.
 use Rattle.std.proofs.Common.{◌≡◌, ◌≤◌, ◌<◌, ◌-◌, ℕ, List, [], ◌∷◌, ◌++◌, length, refl, sym, ◌∙◌, ap, subst, arith, append_assoc, append-nil}
 use Rattle.std.proofs.Common.{length-append, inl, inr, take, drop, min, take-append-drop, length-take}
 use Rattle.std.proofs.lemmas.Grind.{flat_map-append}
@@ -9,28 +9,30 @@ use Rattle.tfs_framing.specs.Sought.{HasNoEndIn, HasNoEndYet, IsSought}
 use Rattle.tfs_framing.specs.declared.head.Search.{Search}
 use Rattle.tfs_framing.proofs.HeadLemmas.{PassedOver, cuts, print_end_len, same_cut, nothing_left}
 
--- An empty line that comes first does so whatever bytes follow.
+-- If a text starts with an empty line, it does so when more bytes follow.
 starts_more : (text more : List ℕ) → StartsWithEmptyLine text → StartsWithEmptyLine (text ++ more)
 starts_more text more starts =
     (starts.0, starts.1 ++ more, ap (λ t. t ++ more) starts.2 ∙ append_assoc (print_end starts.0) starts.1 more)
 
--- What no bytes behind a text end, the text alone doesn't.
+-- If no head ends in the first `n` bytes of a longer text, none does in the text alone.
 pub none_in_window : (n : ℕ) (text beyond : List ℕ) → HasNoEndYet n (text ++ beyond) → HasNoEndIn n text
 none_in_window n text beyond yet = λ before after e less starts.
     yet [] before (after ++ beyond)
     (append-nil (text ++ beyond) ∙ ap (λ t. t ++ beyond) e ∙ append_assoc before (line_feed ∷ after) beyond) less (starts_more after beyond starts)
 
--- The same behind a front.
+-- If no head ends in the first `n` bytes of a front and a text, none ends in the bytes of the text
+-- among them.
 pub none_behind : (n : ℕ) (front text : List ℕ) → HasNoEndIn n (front ++ text) → HasNoEndIn (n - length front) text
 none_behind n front text none = λ before after e less starts.
     let long = length-append front before in
     none (front ++ before) after (ap (λ t. front ++ t) e ∙ sym (append_assoc front before (line_feed ∷ after))) (omega arith) starts
 
--- Among no bytes there is no line feed.
+-- No head ends in zero bytes.
 pub none_at_first : (text : List ℕ) → HasNoEndYet 0 text
 none_at_first text = λ more before after e less starts. omega (arith, less)
 
--- Where no part of a text ends with an empty line, the last two bytes alone may have a part in one.
+-- If no prefix of a text ends with an empty line, only one of its last two bytes can be a line feed
+-- before an empty line, whatever bytes follow.
 pub none_yet : (text : List ℕ) → ((part rest : List ℕ) → text ≡ part ++ rest → ¬ (EndsWithEmptyLine part)) → HasNoEndYet (length text - 2) text
 none_yet text none = λ more before after e less starts.
     let end = starts.0 in
@@ -47,7 +49,7 @@ none_yet text none = λ more before after e less starts.
           (before, end, sym (append-nil text) ∙ ap (λ t. text ++ t) (sym nothing) ∙ sym w.1)
     ]
 
--- A search goes on behind the bytes that were passed over.
+-- A search continues after the bytes that were searched before.
 pub passed_start : (bytes back : List ℕ) (passed k : ℕ) → HasNoEndIn passed bytes → k ≡ min passed (length bytes) → back ≡ drop k bytes
     → PassedOver bytes (take k bytes) back
 passed_start bytes back passed k none is_k is_back = record {
@@ -58,11 +60,11 @@ passed_start bytes back passed k none is_k is_back = record {
       omega arith;
 }
 
--- Empty lines behind empty lines.
+-- Empty lines followed by empty lines are one list of empty lines.
 pub blank_both : (a b : List LineEnd) (text : List ℕ) → print_blank a ++ (print_blank b ++ text) ≡ print_blank (a ++ b) ++ text
 blank_both a b text = sym (append_assoc (print_blank a) (print_blank b) text) ∙ ap (λ t. t ++ text) (sym (flat_map-append print_end a b))
 
--- What is left of a window behind the empty lines that were skipped.
+-- The window is the empty lines skipped before and a rest, which begins the searched text.
 pub window_left : (bytes window left : List ℕ) (search : Search) (k : ℕ) → k ≡ min (length bytes) 16384 → window ≡ take k bytes
     → left ≡ drop search.skipped window → (s : IsSought bytes search) → (window ≡ print_blank s.lines ++ left) × (s.text ≡ left ++ drop k bytes)
 window_left bytes window left search k is_k is_window is_left s =
@@ -86,7 +88,7 @@ pub window_blank : (bytes window left text : List ℕ) (search : Search) (k : �
 window_blank bytes window left text search k more is_k is_window is_left s split =
     (window_left bytes window left search k is_k is_window is_left s).0 ∙ ap (λ t. print_blank s.lines ++ t) split ∙ blank_both s.lines more text
 
--- What was passed over stays so behind the empty lines that are skipped now.
+-- Bytes that were searched before remain searched after the empty lines that are skipped now.
 pub passed_behind : (bytes window left text : List ℕ) (search : Search) (k n : ℕ) (more : List LineEnd) → k ≡ min (length bytes) 16384
     → window ≡ take k bytes → left ≡ drop search.skipped window → (s : IsSought bytes search) → left ≡ print_blank more ++ text
     → n ≡ search.passed - (length left - length text) → HasNoEndIn n text
@@ -100,7 +102,7 @@ passed_behind bytes window left text search k n more is_k is_window is_left s sp
     let same : search.passed - length (print_blank more) ≡ n = omega arith in
     subst (λ (m : ℕ). HasNoEndIn m text) same behind
 
--- All bytes are in the window, where they are few.
+-- If the bytes are within the limit, the window is all of them.
 pub all_in_window : (bytes window : List ℕ) (k limit : ℕ) → k ≡ min (length bytes) limit → window ≡ take k bytes → length bytes ≤ limit → window ≡ bytes
 all_in_window bytes window k limit is_k is_window few =
     let both = ap length (take-append-drop k bytes) in
@@ -109,7 +111,7 @@ all_in_window bytes window k limit is_k is_window few =
     let rest : drop k bytes ≡ [] = nothing_left (drop k bytes) (omega arith) in
     is_window ∙ sym (append-nil (take k bytes)) ∙ ap (λ t. take k bytes ++ t) (sym rest) ∙ take-append-drop k bytes
 
--- Where no head ends, its end was sought up to the last two bytes.
+-- If fewer than 16,384 bytes have no head, they are searched up to the last two.
 pub sought_so_far : (bytes window left text : List ℕ) (search next : Search) (k : ℕ) (more : List LineEnd) → k ≡ min (length bytes) 16384
     → window ≡ take k bytes → left ≡ drop search.skipped window → IsSought bytes search → left ≡ print_blank more ++ text
     → ((part rest : List ℕ) → text ≡ part ++ rest → ¬ (EndsWithEmptyLine part)) → next.skipped ≡ length window - length text

@@ -1,4 +1,4 @@
--- Laws of the trailer of a body in chunks.
+-- Lemmas about the trailer of a chunked body.
 use Rattle.std.proofs.Common.{◌≡◌, ◌≤◌, ◌<◌, ◌-◌, ℕ, List, [], ◌∷◌, ◌++◌, length, sym, ◌∙◌, ap, subst, arith, append_assoc}
 use Rattle.std.proofs.Common.{append-nil, length-append, inl, inr, take, drop, min, take-append-drop, length-take}
 use Rattle.std.proofs.Math.Seq.{drop-append_seam}
@@ -16,7 +16,7 @@ use Rattle.tfs_framing.proofs.ChunkLemmas.{line_parts}
 use Rattle.tfs_framing.proofs.SoughtLemmas.{none_in_window, none_yet, all_in_window}
 use Rattle.tfs_framing.proofs.PartLemmas.{no_feed_in_nothing, open_behind_line}
 
--- The line feed of the line and what is behind it.
+-- Dropping all of a chunk line but its line feed leaves the line feed and the bytes after it.
 pub from_line_feed : (left : List ℕ) (len size : ℕ) (line : ChunkLine) → (at : IsLineAt left len size line)
     → drop (len - 1) left ≡ line_feed ∷ at.after
 from_line_feed left len size line at =
@@ -28,7 +28,7 @@ from_line_feed left len size line at =
     ∙ ap (λ (t : List ℕ). drop (length parts.0) t) (at.parts ∙ ap (λ t. t ++ at.after) parts.2 ∙ append_assoc parts.0 (line_feed ∷ []) at.after)
     ∙ drop-append_seam parts.0 (line_feed ∷ at.after)
 
--- The head that the bytes from the line feed on have is this line feed and a trailer.
+-- A message head from the line feed on is this line feed and a trailer.
 pub trailer_found : (from window head rest behind after : List ℕ) (k n : ℕ) → k ≡ min (length from) 16385 → window ≡ take k from → window ≡ head ++ rest
     → length head ≡ n → IsMessageHead head → from ≡ line_feed ∷ after → behind ≡ drop n from
     → (trailer : List ℕ) × IsTrailer trailer × (after ≡ trailer ++ behind)
@@ -50,7 +50,7 @@ trailer_found from window (b ∷ trailer) rest behind after k n is_k is split si
       others ∙ ap (λ t. trailer ++ t) (sym back),
     )
 
--- Where they have no head there is no trailer.
+-- Without a message head from the line feed on, there is no trailer.
 pub no_trailer : (from window after : List ℕ) (k : ℕ) → k ≡ min (length from) 16385 → window ≡ take k from → from ≡ line_feed ∷ after
     → ((part rest : List ℕ) → window ≡ part ++ rest → ¬ (EndsWithEmptyLine part))
     → (trailer rest : List ℕ) → IsTrailer trailer → ¬ (after ≡ trailer ++ rest)
@@ -71,13 +71,13 @@ no_trailer from window after k is_k is starts none trailer rest trails e =
           trails.is_head.ends
     ]
 
--- The end of the body, where its trailer is there.
+-- After the last chunk line and a trailer, the end of the body comes next.
 pub end_there : (count total len : ℕ) (left trailer behind : List ℕ) (line : ChunkLine) → (at : IsLineAt left len 0 line) → IsTrailer trailer
     → at.after ≡ trailer ++ behind → ComesNext count total left (next_end behind)
 end_there count total len left trailer behind line at trails split =
     (line, trailer, at.is_line, sym at.size_is, trails, at.parts ∙ ap (λ t. print_chunk_line line ++ t) split)
 
--- The trailer is wanted.
+-- Fewer than 16,384 bytes without a trailer need more bytes.
 pub trailer_wanted : (count total len : ℕ) (left : List ℕ) (line : ChunkLine) → (at : IsLineAt left len 0 line) → total ≤ 16777216
     → length at.after < 16384 → ((trailer rest : List ℕ) → IsTrailer trailer → ¬ (at.after ≡ trailer ++ rest)) → IsOpen count total left
 trailer_wanted count total len left line at small short none = open_behind_line count total left at.after line at.is_line at.parts
@@ -92,21 +92,22 @@ trailer_wanted count total len left line at small short none = open_behind_line 
       | inr r ↦ elim r [ inl q ↦ let some = q.0 in omega arith | inr q ↦ let long = q.1.long in omega arith ]
     ]
 
--- The trailer is too long.
+-- At least 16,384 bytes without a trailer are a flaw.
 pub trailer_bad : (count total len : ℕ) (left : List ℕ) (line : ChunkLine) → (at : IsLineAt left len 0 line) → total ≤ 16777216
     → 16384 ≤ length at.after → ((trailer rest : List ℕ) → IsTrailer trailer → ¬ (at.after ≡ trailer ++ rest)) → IsFlawAt count total left Unreadable
 trailer_bad count total len left line at small long none =
     let told = at.size_is in
     inr (line, at.after, at.is_line, at.parts, (omega arith, inr (inr (sym told, record { long = long; none = none }))))
 
--- What was passed over from the line feed on is so in the first bytes.
+-- What was searched of all bytes is also searched in the window.
 pub trailer_passed : (from window : List ℕ) (passed : ℕ) (after : List ℕ) (k : ℕ) → window ≡ take k from → from ≡ line_feed ∷ after
     → HasNoEndYet passed (line_feed ∷ after) → HasNoEndIn passed window
 trailer_passed from window passed after k is starts yet =
     none_in_window passed window (drop k from)
     (subst (HasNoEndYet passed) (sym starts ∙ sym (take-append-drop k from) ∙ ap (λ t. t ++ drop k from) (sym is)) yet)
 
--- Where few bytes from the line feed on have no end of a trailer, it was sought up to the last two.
+-- If at most 16,384 bytes from the line feed on have no trailer, they are searched up to the last
+-- two.
 pub trailer_sought : (from window after : List ℕ) (k n : ℕ) → k ≡ min (length from) 16385 → window ≡ take k from → from ≡ line_feed ∷ after
     → length from ≤ 16384 → ((part rest : List ℕ) → window ≡ part ++ rest → ¬ (EndsWithEmptyLine part)) → n ≡ length from - 2
     → HasNoEndYet n (line_feed ∷ after)

@@ -1,4 +1,4 @@
--- Laws of bytes whose message isn't whole yet, and of those whose message is.
+-- Lemmas about bytes whose message is incomplete, and about bytes whose message is complete.
 use Rattle.std.proofs.Common.{◌≡◌, ◌<◌, ◌-◌, ℕ, List, ◌++◌, length, refl, sym, ◌∙◌, ap, subst, arith}
 use Rattle.std.proofs.Common.{Result, Ok, Err, OnErr}
 use Rattle.std.proofs.Common.{append_assoc, length-append, inl, inr}
@@ -13,7 +13,7 @@ use Rattle.tfs_framing.specs.declared.lines.BodyLength.{BodyLength}
 use Rattle.tfs_framing.specs.declared.lines.BodyLength.TheVariants.{Sized}
 use Rattle.tfs_framing.proofs.FramingLemmas.{head_unique, reads_once, reads_not_refused, head_of_message}
 
--- Without a head that ends in time the bytes are unfinished.
+-- Fewer than 16,384 bytes without a head are unfinished.
 pub unfinished_without_head : (bytes : List ℕ) → HasNoHead bytes → length bytes < 16384 → IsUnfinished bytes
 unfinished_without_head bytes none few = record {
   no_message = λ frame rest r e m. none m.skipped m.head (m.coded ++ rest) (head_of_message bytes frame rest r e m);
@@ -23,7 +23,7 @@ unfinished_without_head bytes none few = record {
   ];
 }
 
--- Too few bytes spell no body.
+-- Fewer bytes than the stated length are no body.
 pub too_few : (n : ℕ) (rest : List ℕ) → length rest < n → HasNoBody (Sized n) rest
 too_few n rest short = record {
   none = λ coded body after e s.
@@ -33,7 +33,7 @@ too_few n rest short = record {
   no_flaw = λ flaw bad. bad;
 }
 
--- Behind a head that is read, its body is wanted.
+-- Bytes with a parsed head but no body are unfinished.
 pub unfinished_without_body : (bytes : List ℕ) (skipped : List LineEnd) (head rest : List ℕ) (h : RequestHead) (n : BodyLength)
     → HasHead bytes skipped head rest → ReadsHead head h n → HasNoBody n rest → IsUnfinished bytes
 unfinished_without_body bytes skipped head rest h n has reads none = record {
@@ -56,7 +56,7 @@ unfinished_without_body bytes skipped head rest h n has reads none = record {
   ];
 }
 
--- Behind a head that is read, with its body there, the message is whole.
+-- Bytes with a parsed head and its body begin with a message.
 pub begins_with_message : (bytes : List ℕ) (skipped : List LineEnd) (head rest coded body after : List ℕ) (h : RequestHead) (n : BodyLength)
     → HasHead bytes skipped head rest → ReadsHead head h n → rest ≡ coded ++ after → SpellsBody n coded body
     → BeginsWith bytes (request_of h body) (length bytes - length after)
@@ -84,7 +84,7 @@ begins_with_message bytes skipped head rest coded body after h n has reads split
       };
     }
 
--- Behind a head that is read, with a bad body, the bytes are refused.
+-- Bytes with a parsed head and a flawed body are refused.
 pub refused_by_body : (bytes : List ℕ) (skipped : List LineEnd) (head rest : List ℕ) (h : RequestHead) (size : BodyLength) (flaw : Flaw)
     → HasHead bytes skipped head rest → ReadsHead head h size → HasBadBody size rest flaw → framing_refusal bytes (refusal_of flaw)
 refused_by_body bytes skipped head rest h size flaw has reads bad = inr (inr (record {
@@ -100,14 +100,14 @@ refused_by_body bytes skipped head rest h size flaw has reads bad = inr (inr (re
   refused = refl;
 }))
 
--- Where more is said of the length, the message is whole all the same.
+-- The same as `begins_with_message`, with another name for the length of the body.
 pub begins_so : (bytes : List ℕ) (skipped : List LineEnd) (head rest coded body after : List ℕ) (h : RequestHead) (size n : BodyLength)
     → HasHead bytes skipped head rest → ReadsHead head h size → size ≡ n → rest ≡ coded ++ after → SpellsBody n coded body
     → BeginsWith bytes (request_of h body) (length bytes - length after)
 begins_so bytes skipped head rest coded body after h size n has reads is split spells =
     begins_with_message bytes skipped head rest coded body after h n has (subst (λ (m : BodyLength). ReadsHead head h m) is reads) split spells
 
--- A message that the bytes begin with, where memory is refused.
+-- Bytes that begin with a message also do if memory is refused.
 pub begins_anyway : {T E : Type 0} (r : Result T E) (bytes : List ℕ) (q : RequestValue) (used : ℕ) → BeginsWith bytes q used
     → OnErr r ((request : RequestValue) × (n : ℕ) × BeginsWith bytes request n)
 begins_anyway (Ok value) bytes q used begins = tt

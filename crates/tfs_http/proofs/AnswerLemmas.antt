@@ -1,4 +1,4 @@
--- Laws of the body of an impact's answer.
+-- Lemmas about the body of an impact's reply.
 use Rattle.std.proofs.Common.{◌≡◌, ◌<◌, ◌≤◌, ◌+◌, ◌∙◌, ℕ, List, [], ◌∷◌, ◌++◌, length, take, get_or, false, Option, Some, None, Result, Ok}
 use Rattle.std.proofs.Common.{Err, IfOk}
 use Rattle.std.proofs.Common.{String, string_bytes, refl, sym, ap, add-one}
@@ -14,7 +14,7 @@ use Rattle.tfs_state.specs.Document.{Document}
 use Rattle.tfs_state.specs.Dependency.{address_of}
 use Rattle.tfs_http.specs.ReplyText.{address_texts, impact_data, impact_body}
 
--- A number more gives its address, where it has one.
+-- One more number adds its address, if it has one.
 pub one_more : (d : Document) (chosen : List ℕ) (k : ℕ) (texts : List Data) (text : Option Data) → k < length chosen
     → texts ≡ address_texts d (take k chosen) → option_map string (address_of d (get_or chosen k 0)) ≡ text
     → texts ++ option_to_list text ≡ address_texts d (take (k + 1) chosen)
@@ -29,11 +29,11 @@ one_more d chosen k texts text within so is =
     by None e = rw e refl
     by (Some t) e = rw e refl
 
--- A number of no instance has no address.
+-- A number beyond the instances has no address.
 pub none_past : (d : Document) (i : ℕ) → length d.instances ≤ i → option_map string (address_of d i) ≡ None
 none_past d i past = rw (slice_get_past d.instances i past) refl
 
--- Texts are no floats.
+-- The list of addresses has no floats.
 texts_have_no_float : (d : Document) (chosen : List ℕ) → items_have_float (items_of (address_texts d chosen)) ≡ false
 texts_have_no_float d [] = refl
 texts_have_no_float d (i ∷ chosen) = by (address_of d i) refl (texts_have_no_float d chosen)
@@ -43,7 +43,7 @@ texts_have_no_float d (i ∷ chosen) = by (address_of d i) refl (texts_have_no_f
     by None e rest = rw e rest
     by (Some t) e rest = rw e rest
 
--- So the JSON has none, and its text is the body.
+-- The printed JSON of an impact's reply is its body, because it has no floats.
 pub body_printed : {Z E : Type 0} (r : Result (String Z) E) (v : Data) (d : Document) (chosen : List ℕ) (position : ℕ) → v ≡ impact_data d chosen position
     → IfOk r (λ s. has_float v ≡ false → string_bytes s ≡ compact_text v) → IfOk r (λ s. string_bytes s ≡ impact_body d chosen position)
 body_printed (Ok s) v d chosen position is printed =

@@ -1,4 +1,4 @@
--- Calls carry what fits.
+-- Lemmas about the size of the states that calls carry.
 use Rattle.std.proofs.Common.{◌≤◌, ℕ, List, length, sym, subst}
 use Rattle.tfs_calls.specs.Draft.{CarriesFittingState}
 use Rattle.tfs_calls.specs.declared.call.Call.{Call}
@@ -7,7 +7,7 @@ use Rattle.tfs_calls.specs.declared.call.Raw.TheVariants.{Lock, Unlock, Push, De
 use Rattle.tfs_framing.specs.Request.{RequestValue}
 use Rattle.tfs_http.specs.Routing.{HasCall, HasChange}
 
--- The call of a request whose body fits carries a state that fits.
+-- If the body of a request has at most 16 MiB, its call carries a state that fits.
 pub call_fits : (r : RequestValue) (call : Call) → HasCall r call → length r.body ≤ 16777216 → CarriesFittingState call
 call_fits r (Read name) has fits = tt
 call_fits r (Impact name query) has fits = tt

@@ -1,4 +1,4 @@
--- Each path has one route and one part, or none.
+-- Every path has exactly one route and one part for the name, or no route.
 use Rattle.std.proofs.Common.{◌≡◌, ◌⊎◌, ◌∙◌, ◌<◌, ℕ, zero, suc, List, [], ◌∷◌, ◌++◌, length, drop, get_or, nat_eq, Bool, true, false}
 use Rattle.std.proofs.Common.{Contains, append-nil, length-append}
 use Rattle.std.proofs.Common.{codes, refl, sym, ap, subst, inl, inr, arith}
@@ -14,7 +14,7 @@ use Rattle.tfs_http.specs.Routing.{slash, Route, IsPathOf, routes, state_path, i
 use Rattle.tfs_http.proofs.PathLemmas.{IsSplit, no_slash, at_slash, split_at, split_once, slash_found, slash_tested, differ_at}
 use Rattle.tfs_framing.proofs.PrefixLemmas.{front_split, front_joined}
 
--- A text is this one or another.
+-- Equality of two texts is decidable.
 pub text_decided : (text other : List ℕ) → (text ≡ other) ⊎ ¬ (text ≡ other)
 text_decided text other = by (same_text text other) refl
   where
@@ -22,20 +22,20 @@ text_decided text other = by (same_text text other) refl
     by true e = inl ((bytes_decides text other).0 e)
     by false e = inr (λ is. cc (e, (bytes_decides text other).1 is))
 
--- What is served has a route of the list.
+-- The route of each thing served is in the list of routes.
 pub is_listed : (served : Served) → Contains routes (route_of served)
 is_listed served.State = (0, omega arith, refl)
 is_listed (served.Impact Any) = (1, omega arith, refl)
 is_listed (served.Impact All) = (2, omega arith, refl)
 
--- And each route of the list is one of what is served.
+-- Each route in the list is the route of something served.
 pub served_by : (route : Route) → Contains routes route → (served : Served) × (route ≡ route_of served)
 served_by route (zero, within, is) = (served.State, sym is)
 served_by route (suc zero, within, is) = (served.Impact Any, sym is)
 served_by route (suc (suc zero), within, is) = (served.Impact All, sym is)
 served_by route (suc (suc (suc k)), within, is) = absurd (omega (arith, within))
 
--- A part that is whole has no slash.
+-- A part that contains no slash doesn't pass `has_slash`.
 tested : (part : List ℕ) → ¬ (Contains part slash) → has_slash part ≡ false
 tested part whole = by (has_slash part) refl
   where
@@ -43,24 +43,24 @@ tested part whole = by (has_slash part) refl
     by true e = absurd (whole (slash_found part e))
     by false e = e
 
--- What stands behind a name, as a slash and a word.
+-- The text after the name and its slash, for each kind of query.
 abbrev word_of : Kind → List ℕ
 word_of Any = codes "any"
 word_of All = codes "all"
 
--- It is that.
+-- The text after the name is a slash and this word.
 word_is : (kind : Kind) → kind_part kind ≡ 47 ∷ word_of kind
 word_is Any = refl
 word_is All = refl
 
--- Kinds of one word are one.
+-- Kinds with the same word are equal.
 kind_once : (kind other : Kind) → word_of kind ≡ word_of other → kind ≡ other
 kind_once Any Any e = refl
 kind_once Any All e = absurd (differ_at (codes "any") (codes "all") 1 110 108 refl refl (λ n. omega arith) e)
 kind_once All Any e = absurd (differ_at (codes "all") (codes "any") 1 108 110 refl refl (λ n. omega arith) e)
 kind_once All All e = refl
 
--- A path has one route, and one part.
+-- A path has at most one route, and one part for the name.
 pub path_once : (path : List ℕ) (served other : Served) (part last : List ℕ) → IsPathOf (route_of served) path part → IsPathOf (route_of other) path last
     → (served ≡ other) × (part ≡ last)
 path_once path served.State served.State part last p q =
@@ -76,7 +76,7 @@ path_once path (served.Impact kind) (served.Impact other) part last p q =
     let once = split_once part last (word_of kind) (word_of other) (tested part p.whole) (tested last q.whole) same in
     (ap served.Impact (kind_once kind other once.1), once.0)
 
--- A text has the slash that stands in it.
+-- A text with a slash in the middle passes `has_slash`.
 slash_between : (part rest : List ℕ) → has_slash (part ++ 47 ∷ rest) ≡ true
 slash_between part rest = slash_tested (part ++ 47 ∷ rest) (length part, within, is part)
   where
@@ -87,16 +87,16 @@ slash_between part rest = slash_tested (part ++ 47 ∷ rest) (length part, withi
     is [] = refl
     is (b ∷ part) = is part
 
--- A path has a route, or none.
+-- The path has a route of something served, or no route in the list matches it.
 abbrev IsDecided : List ℕ → Type 0
 IsDecided path = ((served : Served) × (part : List ℕ) × IsPathOf (route_of served) path part)
     ⊎ ((route : Route) (part : List ℕ) → Contains routes route → ¬ (IsPathOf route path part))
 
--- What is the path of nothing that is served has no route.
+-- If the path matches the route of nothing served, no route in the list matches it.
 no_route : (path : List ℕ) → ((served : Served) (part : List ℕ) → ¬ (IsPathOf (route_of served) path part)) → IsDecided path
 no_route path none = inr (λ route part listed p. let one = served_by route listed in none one.0 part (subst (λ t. IsPathOf t path part) one.1 p))
 
--- The path of an impact, by the parts of its rest.
+-- The rest of an impact's path after `/impact/` is the name, a slash and the word of the kind.
 rest_is : (path s : List ℕ) (kind : Kind) (part : List ℕ) → path ≡ codes "/impact/" ++ s → IsPathOf (impact_path kind) path part
     → (s ≡ part ++ 47 ∷ word_of kind) × (has_slash part ≡ false)
 rest_is path s kind part e p = (
@@ -104,7 +104,7 @@ rest_is path s kind part e p = (
   tested part p.whole,
 )
 
--- A path that begins with `/impact/` is decided by its rest.
+-- It is decidable whether a path that begins with `/impact/` has a route.
 impact_decided : (path s : List ℕ) → path ≡ codes "/impact/" ++ s → IsDecided path
 impact_decided path s e = by (split_at s)
   where
@@ -146,7 +146,7 @@ impact_decided path s e = by (split_at s)
         other first second Any = first
         other first second All = second
 
--- A path that begins with `/state/` is decided by its rest.
+-- It is decidable whether a path that begins with `/state/` has a route.
 state_decided : (path s : List ℕ) → path ≡ codes "/state/" ++ s → IsDecided path
 state_decided path s e = by s refl (has_slash s) refl
   where
@@ -171,7 +171,7 @@ state_decided path s e = by s refl (has_slash s) refl
       },
     )
 
--- Each path is decided.
+-- It is decidable whether a path has a route.
 pub path_decided : (path : List ℕ) → IsDecided path
 path_decided path = by (starts_with nat_eq path (codes "/impact/")) refl (starts_with nat_eq path (codes "/state/")) refl
   where

@@ -1,4 +1,4 @@
--- Each request has a call or a refusal.
+-- Every request has exactly one call or one refusal.
 use Rattle.std.proofs.Common.{◌≡◌, ◌≢◌, ◌⊎◌, ◌∙◌, ℕ, List, [], ◌∷◌, length, get_or, nat_le, Bool, true, false}
 use Rattle.std.proofs.Common.{Result, Ok, Err}
 use Rattle.std.proofs.Common.{codes, refl, sym, ap, subst, inl, inr, arith}
@@ -24,7 +24,7 @@ use Rattle.tfs_http.specs.Routing.{path_of, Route, IsPathOf, IsOneOf, HasRoute, 
 use Rattle.tfs_http.specs.Routing.{RoutesTo, methods_of, state_path, impact_path, route_of}
 use Rattle.tfs_http.proofs.EachPath.{text_decided, path_decided, path_once, is_listed, served_by}
 
--- A text is a name or none.
+-- It is decidable whether a text is a valid name.
 name_decided : (text : List ℕ) → IsName text ⊎ ¬ (IsName text)
 name_decided text = by (nat_le 1 (length text)) refl (nat_le (length text) 64) refl (list_all is_name_byte text) refl
   where
@@ -35,7 +35,7 @@ name_decided text = by (nat_le 1 (length text)) refl (nat_le (length text) 64) r
     by true a true b false c = inr (λ n. cc (n.clean, c))
     by true a true b true c = inl (record { filled = leb-true 1 (length text) a; short = leb-true (length text) 64 b; clean = c })
 
--- A text is one of a list or another.
+-- It is decidable whether a text is in a list.
 one_decided : (text : List ℕ) (items : List (List ℕ)) → IsOneOf text items ⊎ ¬ (IsOneOf text items)
 one_decided text [] = inr (λ is. is)
 one_decided text (first ∷ items) = elim (text_decided text first) [
@@ -46,7 +46,7 @@ one_decided text (first ∷ items) = elim (text_decided text first) [
   ]
 ]
 
--- A sound request with a method of a state has a call.
+-- A sound request for a state, with one of its methods, has a call.
 method_called : (r : RequestValue) (name : List ℕ) → IsSound r state_path name → IsOneOf r.method (methods_of methods.State)
     → (call : Call) × HasCall r call
 method_called r name is (inl delete) = (Change name (Delete (identifier_parameter r.target)), (is, (delete, refl)))
@@ -62,13 +62,13 @@ method_called r name is (inr (inr (inr (inr (inl unlock))))) = (
 )
 method_called r name is (inr (inr (inr (inr (inr none))))) = absurd none
 
--- A sound request with a method of an impact has one too.
+-- A sound request for an impact, with its method, has a call.
 impact_called : (r : RequestValue) (kind : Kind) (name : List ℕ) → IsSound r (impact_path kind) name → IsOneOf r.method (methods_of methods.Impact)
     → (call : Call) × HasCall r call
 impact_called r kind name is (inl get) = (Impact name (record { kind = kind; texts = texts_parameter r.target }), (is, get, refl))
 impact_called r kind name is (inr none) = absurd none
 
--- And so for whatever is served.
+-- A sound request for anything served, with one of its methods, has a call.
 served_called : (r : RequestValue) (served : Served) (name : List ℕ) → IsSound r (route_of served) name
     → IsOneOf r.method (methods_of (route_of served).methods) → (call : Call) × HasCall r call
 served_called r served.State name is method = method_called r name is method
@@ -78,7 +78,7 @@ served_called r (served.Impact kind) name is method = impact_called r kind name 
 abbrev IsRouted : RequestValue → Type 0
 IsRouted r = (x : Result Call Refusal) × RoutesTo r x
 
--- A request whose target has a route has one.
+-- A request whose target has a route has a call or a refusal.
 route_routed : (r : RequestValue) (served : Served) (part : List ℕ) → HasRoute r.target (route_of served) part → IsRouted r
 route_routed r served part has = elim (one_decided r.method (methods_of (route_of served).methods)) [
   | inl method ↦ elim (name_decided part) [
@@ -93,7 +93,7 @@ route_routed r served part has = elim (one_decided r.method (methods_of (route_o
         let called = served_called r served part (record { taken = taken; is_name = is; intact = e }) taken.method in (Ok called.0, called.1)
     by taken is false e = (Err BadDigest, (route_of served, part, taken, is, e))
 
--- Each request has one.
+-- Every request has a call or a refusal.
 pub each_routed : (r : RequestValue) → IsRouted r
 each_routed r = by (is_utf8 r.target) refl
   where
@@ -106,7 +106,7 @@ each_routed r = by (is_utf8 r.target) refl
         ]
     by false e = (Err NoRoute, λ route part n. cc (e, is_utf8-from_IsUtf8 r.target n.text))
 
--- A target has one route, and one part.
+-- A target has at most one route, and one part for the name.
 part_once : (target : List ℕ) (route other : Route) (part last : List ℕ) → HasRoute target route part → HasRoute target other last
     → (route ≡ other) × (part ≡ last)
 part_once target route other part last p q =
@@ -116,7 +116,7 @@ part_once target route other part last p q =
     (subst (λ t. IsPathOf t (path_of target) last) two.1 q.path) in
     (one.1 ∙ ap route_of once.0 ∙ sym two.1, once.1)
 
--- The same of what is served.
+-- A target is for at most one thing served, with one part for the name.
 served_once : (target : List ℕ) (served other : Served) (part last : List ℕ) → HasRoute target (route_of served) part → HasRoute target (route_of other) last
     → (served ≡ other) × (part ≡ last)
 served_once target served other part last p q = path_once (path_of target) served other part last p.path q.path
@@ -128,14 +128,14 @@ letter_of (Delete id) = 68
 letter_of (Lock body) = 76
 letter_of (Unlock body id) = 85
 
--- A request that asks for a change has its letter.
+-- The method of a request for a change begins with the letter of the change.
 letter_is : (r : RequestValue) (raw : Raw) → HasChange r raw → get_or r.method 0 0 ≡ letter_of raw
 letter_is r (Push id body) p = ap (λ t. get_or t 0 0) p.0
 letter_is r (Delete id) p = ap (λ t. get_or t 0 0) p.0
 letter_is r (Lock body) p = ap (λ t. get_or t 0 0) p.0
 letter_is r (Unlock body id) p = ap (λ t. get_or t 0 0) p.0
 
--- A request asks for one change.
+-- A request asks for at most one change.
 change_once : (r : RequestValue) (raw other : Raw) → HasChange r raw → HasChange r other → raw ≡ other
 change_once r raw other p q = by raw other p q (sym (letter_is r raw p) ∙ letter_is r other q)
   where
@@ -157,7 +157,7 @@ change_once r raw other p q = by raw other p q (sym (letter_is r raw p) ∙ lett
     by (Unlock body id) (Lock last) p q e = absurd (omega arith)
     by (Unlock body id) (Unlock last also) p q e = ap (λ t. Unlock t id) (p.1 ∙ sym q.1) ∙ ap (λ t. Unlock last t) (p.2 ∙ sym q.2)
 
--- GET asks for no change.
+-- A GET request asks for no change.
 get_changes_nothing : (r : RequestValue) (raw : Raw) → r.method ≡ codes "GET" → ¬ (HasChange r raw)
 get_changes_nothing r raw get p = by raw (sym (letter_is r raw p) ∙ ap (λ t. get_or t 0 0) get)
   where
@@ -167,11 +167,11 @@ get_changes_nothing r raw get p = by raw (sym (letter_is r raw p) ∙ ap (λ t. 
     by (Lock body) e = omega arith
     by (Unlock body id) e = omega arith
 
--- What is a state is no impact.
+-- A state isn't an impact.
 no_impact : (kind : Kind) → served.State ≢ served.Impact kind
 no_impact kind e = cc
 
--- A request asks one query.
+-- A request has at most one query.
 impact_once : (r : RequestValue) (a b : List ℕ) (query other : Query) → HasCall r (Impact a query) → HasCall r (Impact b other)
     → Impact a query ≡ Impact b other
 impact_once r a b query other p q =
@@ -183,7 +183,7 @@ impact_once r a b query other p q =
     ∙ ap (λ k. Impact b (record { kind = k; texts = query.texts })) kinds
     ∙ ap (λ t. Impact b (record { kind = other.kind; texts = t })) texts
 
--- A request has one call.
+-- A request has at most one call.
 call_once : (r : RequestValue) (call other : Call) → HasCall r call → HasCall r other → call ≡ other
 call_once r (Impact a query) (Impact b other) p q = impact_once r a b query other p q
 call_once r (Impact a query) (Read b) p q =
@@ -201,7 +201,8 @@ call_once r (Change a raw) (Change b other) p q =
     ap (λ t. Change t raw) (part_once r.target state_path state_path a b p.0.taken.has_route q.0.taken.has_route).1
     ∙ ap (λ t. Change b t) (change_once r raw other p.1 q.1)
 
--- Why a request is refused, in four reasons.
+-- The four reasons for refusing a request: no route, another method, an invalid name, or a body
+-- without the stated digest.
 abbrev Reasons : RequestValue → Refusal → Type 0
 Reasons r refusal = (((route : Route) (part : List ℕ) → ¬ (HasRoute r.target route part)) × (refusal ≡ NoRoute))
     ⊎ (((route : Route) × (part : List ℕ) × HasRoute r.target route part × ¬ (IsOneOf r.method (methods_of route.methods))
@@ -209,7 +210,7 @@ Reasons r refusal = (((route : Route) (part : List ℕ) → ¬ (HasRoute r.targe
     ⊎ (((route : Route) × (part : List ℕ) × IsTaken r route part × ¬ (IsName part) × (refusal ≡ BadName))
     ⊎ ((route : Route) × (part : List ℕ) × IsTaken r route part × IsName part × (r.intact ≡ false) × (refusal ≡ BadDigest))))
 
--- A refused request is refused for one of them.
+-- A refused request has one of these reasons.
 reasons : (r : RequestValue) (refusal : Refusal) → routing_refusal r refusal → Reasons r refusal
 reasons r NoRoute p = inl (p, refl)
 reasons r (MethodNotAllowed methods) p = inr (inl (p.0, p.1, p.2, p.4, ap MethodNotAllowed p.3))
@@ -217,7 +218,7 @@ reasons r BadName p = inr (inr (inl (p.0, p.1, p.2, p.3, refl)))
 reasons r BadDigest p = inr (inr (inr (p.0, p.1, p.2, p.3, p.4, refl)))
 reasons r _ p = absurd p
 
--- The route that takes a request takes it by any other that it has.
+-- If a route accepts a request, any other route of its target accepts it with the same part.
 taken_as : (r : RequestValue) (route other : Route) (part last : List ℕ) → IsTaken r route part → HasRoute r.target other last
     → IsOneOf r.method (methods_of other.methods) × (part ≡ last)
 taken_as r route other part last t has =
@@ -238,7 +239,7 @@ called_not_refused r (Read name) refusal p q = sound_not_refused r state_path na
 called_not_refused r (Impact name query) refusal p q = sound_not_refused r (impact_path query.kind) name refusal p.0 (reasons r refusal q)
 called_not_refused r (Change name raw) refusal p q = sound_not_refused r state_path name refusal p.0 (reasons r refusal q)
 
--- A request is refused for one reason.
+-- A request has at most one refusal.
 refused_once : (r : RequestValue) (f g : Refusal) → routing_refusal r f → routing_refusal r g → f ≡ g
 refused_once r f g p q = by (reasons r f p) (reasons r g q)
   where
@@ -261,7 +262,7 @@ refused_once r f g p q = by (reasons r f p) (reasons r g q)
     by (inr (inr (inr a))) (inr (inr (inl b))) = absurd (b.3 (subst IsName (taken_as r a.0 b.0 a.1 b.1 a.2 b.2.has_route).1 a.3))
     by (inr (inr (inr a))) (inr (inr (inr b))) = a.5 ∙ sym b.5
 
--- What becomes of a request is one thing.
+-- Routing a request has at most one outcome.
 pub routed_once : (r : RequestValue) (x y : Result Call Refusal) → RoutesTo r x → RoutesTo r y → x ≡ y
 routed_once r (Ok call) (Ok other) p q = ap Ok (call_once r call other p q)
 routed_once r (Ok call) (Err refusal) p q = absurd (called_not_refused r call refusal p q)

@@ -1,8 +1,8 @@
--- Laws of what is left of a text.
+-- Lemmas about the ends of texts.
 use Rattle.std.proofs.Common.{◌≡◌, ◌≤◌, ◌+◌, ◌-◌, ◌∙◌, ℕ, List, length, drop}
 use Rattle.std.proofs.Common.{sym, ap, arith, length-drop, drop-drop}
 
--- What is left of what was left of a text is an end of the text.
+-- An end of an end of a text is an end of the text.
 pub end_left : (text left : List ℕ) (told : ℕ) → told ≤ length text → left ≡ drop (length (drop told text) - length left) (drop told text)
     → left ≡ drop (length text - length left) text
 end_left text left told within e =
@@ -14,7 +14,7 @@ end_left text left told within e =
     shorter : (xs ys : List ℕ) (k : ℕ) → ys ≡ drop k xs → length ys ≤ length xs
     shorter xs ys k is = let count : length ys ≡ length xs - k = ap length is ∙ length-drop k xs in omega (arith, count)
 
--- The same of bytes that are such an end.
+-- The same as `end_left`, with names for the end and for the length of the text.
 pub end_of : (text behind left : List ℕ) (told size : ℕ) → behind ≡ drop told text → told ≤ length text → size ≡ length text
     → left ≡ drop (length behind - length left) behind → left ≡ drop (size - length left) text
 end_of text behind left told size is within full e =

@@ -1,4 +1,4 @@
--- Paths by their slashes.
+-- Lemmas about the slashes of paths.
 use Rattle.std.proofs.Common.{◌≡◌, ◌≢◌, ◌==◌, ◌-◌, ℕ, zero, suc, List, [], ◌∷◌, ◌++◌, length, drop, get_or, cond, nat_eq, Bool, true, false}
 use Rattle.std.proofs.Common.{Contains, codes, refl, sym, ◌∙◌, ap, arith, length-append}
 use Rattle.std.proofs.Math.Seq.{drop-append_seam}
@@ -8,11 +8,11 @@ use Rattle.std.specs.List.{ends_with}
 use Rattle.matchit.specs.Seek.{has_slash, segment, same_text}
 use Rattle.tfs_http.specs.Routing.{slash}
 
--- Texts with two bytes at one place differ.
+-- Texts with different bytes at one position differ.
 pub differ_at : (a b : List ℕ) (k m n : ℕ) → get_or a k 0 ≡ m → get_or b k 0 ≡ n → m ≢ n → a ≢ b
 differ_at a b k m n p q other e = other (sym p ∙ ap (λ (t : List ℕ). get_or t k 0) e ∙ q)
 
--- A text has a slash where one of its bytes is one.
+-- A text that passes `has_slash` contains a slash.
 pub slash_found : (s : List ℕ) → has_slash s ≡ true → Contains s slash
 slash_found [] e = cc
 slash_found (b ∷ s) e = by (b == 47) refl e (slash_found s)
@@ -21,7 +21,7 @@ slash_found (b ∷ s) e = by (b == 47) refl e (slash_found s)
     by true q h rest = (0, omega arith, eqb-true b 47 q)
     by false q h rest = let w = rest h in (suc w.0, omega (arith, w.1), w.2)
 
--- And the other way.
+-- A text that contains a slash passes `has_slash`.
 pub slash_tested : (s : List ℕ) → Contains s slash → has_slash s ≡ true
 slash_tested [] w = absurd (omega (arith, w.1))
 slash_tested (b ∷ s) (zero, within, is) = rw is refl
@@ -31,7 +31,7 @@ slash_tested (b ∷ s) (suc k, within, is) = by (b == 47) (slash_tested s (k, om
     by true rest = refl
     by false rest = rest
 
--- A text with no slash has none behind its first byte, and that is none.
+-- In a text without a slash, neither the first byte nor the rest has one.
 pub no_slash_first : (b : ℕ) (s : List ℕ) → has_slash (b ∷ s) ≡ false → ((b == 47) ≡ false) × (has_slash s ≡ false)
 no_slash_first b s e = by (b == 47) refl e
   where
@@ -39,12 +39,12 @@ no_slash_first b s e = by (b == 47) refl e
     by true q h = cc
     by false q h = (q, h)
 
--- A text is without a slash, or a part without one stands before its first.
+-- The text has no slash, or is split at its first slash.
 pub data IsSplit (s : List ℕ) : Type 0 where
   no_slash : has_slash s ≡ false → IsSplit s
   at_slash : (part rest : List ℕ) → s ≡ part ++ 47 ∷ rest → has_slash part ≡ false → IsSplit s
 
--- Each is.
+-- Every text has no slash or can be split at its first.
 pub split_at : (s : List ℕ) → IsSplit s
 split_at [] = no_slash refl
 split_at (b ∷ s) = by (b == 47) refl (split_at s)
@@ -57,7 +57,7 @@ split_at (b ∷ s) = by (b == 47) refl (split_at s)
     by false q (no_slash h) = no_slash (longer q s h)
     by false q (at_slash part rest is h) = at_slash (b ∷ part) rest (ap (λ t. b ∷ t) is) (longer q part h)
 
--- What stands before the first slash, and behind it, is one.
+-- A text has only one split at its first slash.
 pub split_once : (a b x y : List ℕ) → has_slash a ≡ false → has_slash b ≡ false → a ++ 47 ∷ x ≡ b ++ 47 ∷ y → (a ≡ b) × (x ≡ y)
 split_once [] [] x y p q e = (refl, cc)
 split_once [] (c ∷ b) x y p q e = let n = (no_slash_first c b q).0 in let is : 47 ≡ c = cc in grind (arith, nat_tests)
@@ -68,18 +68,18 @@ split_once (c ∷ a) (d ∷ b) x y p q e =
     let more = split_once a b x y (no_slash_first c a p).1 (no_slash_first d b q).1 rest in
     (ap (λ t. t ∷ a) first ∙ ap (λ t. d ∷ t) more.0, more.1)
 
--- The first segment goes up to and with the first slash.
+-- The first segment of a text ends with the first slash.
 pub segment_at : (part rest : List ℕ) → has_slash part ≡ false → segment (part ++ 47 ∷ rest) ≡ part ++ 47 ∷ []
 segment_at [] rest h = refl
 segment_at (b ∷ part) rest h =
     let f = no_slash_first b part h in rw f.0 (ap (λ t. b ∷ t) (segment_at part rest f.1))
 
--- Without a slash it is all.
+-- The first segment of a text without a slash is the whole text.
 pub segment_all : (s : List ℕ) → has_slash s ≡ false → segment s ≡ s
 segment_all [] h = refl
 segment_all (b ∷ s) h = let f = no_slash_first b s h in rw f.0 (ap (λ t. b ∷ t) (segment_all s f.1))
 
--- A text with no slash doesn't end with one.
+-- A text without a slash doesn't end with one.
 pub ends_otherwise : (s : List ℕ) → has_slash s ≡ false → ends_with nat_eq s (codes "/") ≡ false
 ends_otherwise [] h = refl
 ends_otherwise (b ∷ []) h = let f = no_slash_first b [] h in grind (arith, nat_tests)
@@ -90,7 +90,7 @@ ends_otherwise (b ∷ c ∷ s) h =
     ∙ ap (λ n. same_text (codes "/") (drop n (c ∷ s))) (sym less)
     ∙ ends_otherwise (c ∷ s) (no_slash_first b (c ∷ s) h).1
 
--- And one that ends with one does.
+-- A text followed by a slash ends with one.
 pub ends_so : (s : List ℕ) → ends_with nat_eq (s ++ 47 ∷ []) (codes "/") ≡ true
 ends_so s =
     let size = length-append s (47 ∷ []) in

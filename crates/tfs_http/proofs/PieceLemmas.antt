@@ -1,4 +1,4 @@
--- Laws of an impact's body that is told in pieces.
+-- Lemmas about the body of an impact's reply, produced in pieces.
 use Rattle.std.proofs.Common.{◌≡◌, ◌<◌, ◌≤◌, ◌+◌, ◌∙◌, ℕ, List, [], ◌∷◌, ◌++◌, length, drop, get_or, Bool, true, false, Option, Some, None, zero, suc, inl, inr, option_map, if◌then◌else◌}
 use Rattle.std.proofs.Common.{codes, refl, sym, ap, arith, append_assoc, append-nil, add-one, drop-cons, length-append}
 use Rattle.std.proofs.lemmas.List.{at_drop_all, drop-append-le}
@@ -15,7 +15,8 @@ use Rattle.std.specs.List.{concat}
 use Rattle.tfs_http.specs.Pieces.{IsRun, IsToldIn, addresses_left, after_addresses, ending_text, with_address}
 use Rattle.tfs_http.specs.ReplyText.{address_texts, impact_body}
 
--- The addresses that are left, with the bracket behind them, are the items of the array.
+-- The text left of the addresses, followed by a closing bracket, is the text left of the JSON
+-- array.
 items_left : (d : Document) (later : Bool) (numbers : List ℕ)
     → after_addresses later ++ items_text later (items_of (address_texts d numbers)) ≡ addresses_left d later numbers ++ 93 ∷ []
 items_left d later [] = refl
@@ -33,7 +34,7 @@ items_left d later (i ∷ numbers) = by later (address_of d i) refl (items_left 
         rw e (ap (λ (t : List ℕ). 34 ∷ t) (append_assoc (escape a) (34 ∷ []) _ ∙ ap (λ (t : List ℕ). escape a ++ t) behind
         ∙ sym (append_assoc (escape a) _ (93 ∷ []))))
 
--- The opening of the body, the addresses and the ending are the body.
+-- The opening, the addresses and the ending are the body.
 pub body_left : (d : Document) (chosen : List ℕ) (position : ℕ)
     → codes "{\"instances\":[" ++ (addresses_left d false chosen ++ ending_text position d.serial) ≡ impact_body d chosen position
 unfolding serde_json_on_literals
@@ -42,7 +43,7 @@ body_left d chosen position =
     ap (λ (t : List ℕ). codes "{\"instances\":[" ++ t)
     (sym (append_assoc (addresses_left d false chosen) (93 ∷ []) behind) ∙ ap (λ (t : List ℕ). t ++ behind) (sym (items_left d false chosen)))
 
--- The opening, what is left of the addresses and the ending, as they are begun, are the body.
+-- The opening, the addresses and the ending, with the names of the code, are the body.
 pub body_begun : (d e : Document) (chosen numbers : List ℕ) (position serial : ℕ) (begun ending : List ℕ) → e ≡ d → numbers ≡ chosen → serial ≡ e.serial
     → begun ≡ codes "{\"instances\":[" → ending ≡ ending_text position serial
     → (begun ++ addresses_left e false numbers) ++ ending ≡ impact_body d chosen position
@@ -54,16 +55,16 @@ body_begun d e chosen numbers position serial begun ending is_d is_chosen is_ser
     ∙ ap (λ (x : Document). impact_body x numbers position) is_d
     ∙ ap (λ (t : List ℕ). impact_body d t position) is_chosen
 
--- A number of no instance has no address.
+-- A number beyond the instances has no address.
 pub no_address : (d : Document) (i : ℕ) → length d.instances ≤ i → address_of d i ≡ None
 no_address d i past = rw (slice_get_past d.instances i past) refl
 
--- The numbers from one on.
+-- The numbers from position `k` on are number `k` and the numbers after it.
 numbers_from : (numbers : List ℕ) (k : ℕ) → k < length numbers → drop k numbers ≡ get_or numbers k 0 ∷ drop (k + 1) numbers
 numbers_from numbers k within =
     drop-cons numbers k 0 within ∙ ap (λ (n : ℕ). get_or numbers k 0 ∷ drop n numbers) (sym (add-one k))
 
--- An address more is counted.
+-- One more address adds its length to the total; the addresses after it are left to count.
 pub address_counted : (d : Document) (numbers : List ℕ) (k : ℕ) (later : Bool) (all total more : ℕ) → k < length numbers
     → ((without behind : List ℕ) → length (with_address later (address_of d (get_or numbers k 0)) without behind) ≡ more + length behind)
     → all ≡ total + length (addresses_left d later (drop k numbers))
@@ -75,7 +76,7 @@ address_counted d numbers k later all total more within counted so =
     ∙ counted (addresses_left d later rest) (addresses_left d true rest) in
     omega (arith, so, one)
 
--- A number without an address counts for nothing.
+-- A number without an address adds nothing to the total.
 pub number_passed : (d : Document) (numbers : List ℕ) (k : ℕ) (later : Bool) (all total : ℕ) → k < length numbers
     → length d.instances ≤ get_or numbers k 0 → all ≡ total + length (addresses_left d later (drop k numbers))
     → all ≡ total + length (addresses_left d later (drop (k + 1) numbers))
@@ -85,12 +86,12 @@ number_passed d numbers k later all total within past so =
     ∙ ap (λ (o : Option (List ℕ)). total + length (with_address later o (addresses_left d later rest) (addresses_left d true rest)))
     (no_address d (get_or numbers k 0) past)
 
--- What was told of a text, and what is left of it, with an end behind.
+-- An ending can be appended to a text that is partly produced.
 pub told_before : (out old now was ending whole : List ℕ) → out ++ now ≡ old ++ was → whole ≡ was ++ ending → out ++ (now ++ ending) ≡ old ++ whole
 told_before out old now was ending whole told is =
     sym (append_assoc out now ending) ∙ ap (λ (t : List ℕ). t ++ ending) told ∙ append_assoc old was ending ∙ ap (λ (t : List ℕ). old ++ t) (sym is)
 
--- The same where nothing is left of the text, and some of the end is told.
+-- A part of the ending can be appended once the text before it is fully produced.
 pub told_behind : (out between old now was ending left whole : List ℕ) → between ++ now ≡ old ++ was → now ≡ [] → out ++ left ≡ between ++ ending
     → whole ≡ was ++ ending → out ++ (now ++ left) ≡ old ++ whole
 told_behind out between old now was ending left whole told none step is =
@@ -98,12 +99,12 @@ told_behind out between old now was ending left whole told none step is =
     ∙ ap (λ (t : List ℕ). t ++ ending) (sym (append-nil between) ∙ ap (λ (t : List ℕ). between ++ t) (sym none))
     ∙ append_assoc between now ending ∙ told_before between old now was ending whole told is
 
--- The pieces in which a text is told are, joined, the text.
+-- The pieces of a text, joined, are the text.
 pub pieces_joined : (text : List ℕ) (pieces : List (List ℕ)) → IsToldIn text pieces → concat pieces ≡ text
 pieces_joined text [] none = sym none
 pieces_joined text (piece ∷ pieces) told = ap (λ (t : List ℕ). piece ++ t) (pieces_joined told.0 pieces told.2) ∙ told.1
 
--- The parts of what is left are counted one by one.
+-- The length of the text left is the sum of the lengths of its parts.
 pub place_counted : (plain front tail behind : List ℕ)
     → length ((plain ++ (front ++ tail)) ++ behind) ≡ ((length plain + length front) + length tail) + length behind
 place_counted plain front tail behind =
@@ -112,14 +113,14 @@ place_counted plain front tail behind =
     let parts = length-append front tail in
     omega (arith, all, begun, parts)
 
--- Behind the last number a quote is left, where an address was told.
+-- After the last number, one quote is left to count if there was an address.
 pub quote_counted : (d : Document) (numbers : List ℕ) (k : ℕ) (later : Bool) (all total : ℕ) → length numbers ≤ k
     → all ≡ total + length (addresses_left d later (drop k numbers)) → later ≡ true → total + 1 ≡ all
 quote_counted d numbers k later all total past so told =
     sym (so ∙ at_drop_all (λ (t : List ℕ). total + length (addresses_left d later t)) numbers k past
     ∙ ap (λ (b : Bool). total + length (after_addresses b)) told)
 
--- And nothing, where none was.
+-- After the last number, nothing is left to count if there was no address.
 pub none_counted : (d : Document) (numbers : List ℕ) (k : ℕ) (later : Bool) (all total : ℕ) → length numbers ≤ k
     → all ≡ total + length (addresses_left d later (drop k numbers)) → later ≡ false → total ≡ all
 none_counted d numbers k later all total past so told =
@@ -128,12 +129,12 @@ none_counted d numbers k later all total past so told =
     ∙ ap (λ (b : Bool). total + length (after_addresses b)) told in
     omega (arith, count)
 
--- Behind an address, another one is told as it stands in a list.
+-- After an address, the next one is produced as in a list of addresses.
 told_as_next : (address : Option (List ℕ)) (behind : List ℕ) → with_address true address behind behind ≡ next_address address ++ behind
 told_as_next None behind = refl
 told_as_next (Some address) behind = sym (append_assoc (codes "\",\"") (escape address) behind)
 
--- Behind an address, numbers that follow one another are told as their addresses stand in a list.
+-- After an address, those of consecutive numbers are produced as in a list of addresses.
 run_told : (d : Document) (numbers : List ℕ) (first count : ℕ) → IsRun numbers first count → count ≤ length numbers
     → addresses_left d true numbers ≡ addresses_from d first count ++ addresses_left d true (drop count numbers)
 run_told d numbers first zero run within = refl
@@ -150,7 +151,7 @@ run_told d numbers first (suc count) run within =
     ∙ sym (append_assoc (addresses_from d first count) (next_address (address_of d (first + count))) rest)
     ∙ ap (λ (n : ℕ). addresses_from d first (suc count) ++ addresses_left d true (drop n numbers)) same
 
--- An instance has an address.
+-- Each instance has an address.
 has_address : (d : Document) (i : ℕ) → i < length d.instances → (address : List ℕ) × (address_of d i ≡ Some address)
 has_address d i within = elim (slice_get_cases d.instances i).1 [
   | inl it ↦ (
@@ -160,13 +161,13 @@ has_address d i within = elim (slice_get_cases d.instances i).1 [
   | inr past ↦ absurd (omega (arith, within, past.0))
 ]
 
--- The first address is told without what stands between two.
+-- The first address is produced without the two bytes that separate it from an earlier one.
 first_told : (d : Document) (numbers : List ℕ) → get_or numbers 0 0 < length d.instances → 0 < length numbers
     → drop 2 (addresses_left d true numbers) ≡ addresses_left d false numbers
 first_told d [] within some = absurd (omega (arith, some))
 first_told d (i ∷ numbers) within some = let it = has_address d i within in rw it.1 refl
 
--- The text of numbers that follow one another is told, and the addresses behind them are left.
+-- After the text for consecutive numbers, the addresses of the numbers after them are left.
 pub listed_told : (d : Document) (later : Bool) (numbers text shown behind : List ℕ) (first count : ℕ)
     → IsRun numbers first count → count ≤ length numbers → 0 < count → first + count ≤ length d.instances
     → text ≡ addresses_from d first count → (if later then 0 else 2) ≤ length text → shown ≡ drop (if later then 0 else 2) text

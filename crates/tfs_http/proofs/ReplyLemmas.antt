@@ -1,4 +1,4 @@
--- Laws of the texts of replies.
+-- Lemmas about the texts of replies.
 use Rattle.std.proofs.Common.{◌≡◌, ◌≢◌, ◌∙◌, ℕ, List, [], ◌∷◌, ◌++◌, length, codes, decimal, refl, ap, append_assoc}
 use Rattle.tfs_calls.specs.Refusal.{RefusalValue, head_too_large, bad_head, bad_length, transfer_coding, body_too_large, no_route, method_not_allowed}
 use Rattle.tfs_calls.specs.Refusal.{bad_name, no_host, bad_chunk, bad_digest}
@@ -9,11 +9,11 @@ use Rattle.tfs_calls.specs.Reply.{ReplyValue, done, state, impact, refused}
 use Rattle.tfs_http.specs.ReplyText.{status_of, status_line, close_line, type_line, phrase_of, head_text}
 use Rattle.tfs_framing.specs.declared.request.Form.{Form}
 
--- Seven parts added in three steps, the last of which is twice a line's end, and the lines that they are.
+-- The parts of a head, appended in three steps, are the lines of the head.
 joined : (old a b c d e f g : List ℕ) → ((old ++ a) ++ (b ++ (c ++ d))) ++ (e ++ (f ++ (g ++ g))) ≡ old ++ (a ++ b ++ c ++ d ++ ((e ++ f) ++ g) ++ g)
 joined old a b c d e f g = simp append_assoc refl
 
--- What was added in three steps is the head.
+-- The text appended in three steps is the head.
 pub head_added : (status : ℕ) (allow close kind digits body old first second added : List ℕ) (form : Form) → close ≡ close_line form
     → kind ≡ type_line body → digits ≡ decimal (length body) → first ≡ old ++ status_line status → second ≡ first ++ (allow ++ (close ++ kind))
     → added ≡ second ++ (codes "Content-Length: " ++ (digits ++ codes "\r\n\r\n")) → added ≡ old ++ head_text status allow form body
@@ -22,7 +22,7 @@ head_added status allow close kind digits body old first second added form is_cl
     (e ∙ ap (λ (t : List ℕ). t ++ (codes "Content-Length: " ++ (digits ++ codes "\r\n\r\n"))) (s ∙ ap (λ (t : List ℕ). t ++ (allow ++ (close ++ kind))) f)
     ∙ joined old (status_line status) allow close kind (codes "Content-Length: ") digits (codes "\r\n"))
 
--- A text that has a first byte isn't empty.
+-- A text with a first byte isn't empty.
 filled : (first : ℕ) (others : List ℕ) → first ∷ others ≢ []
 filled first others e = cc
 
@@ -58,7 +58,7 @@ refusal_has_phrase out_of_memory = filled _ _
 refusal_has_phrase journal_fault = filled _ _
 refusal_has_phrase no_copy = filled _ _
 
--- And so has that of each reply.
+-- The status of each reply has a phrase.
 pub reply_has_phrase : (reply : ReplyValue) → phrase_of (status_of reply) ≢ []
 reply_has_phrase (done position) = filled _ _
 reply_has_phrase (state d) = filled _ _

@@ -1,4 +1,4 @@
--- Laws of routing: the paths that the router's rows match are those of the routes.
+-- Lemmas about routing: the router's rows match exactly the paths of the routes.
 use Rattle.std.proofs.Common.{◌≡◌, ◌⊎◌, ◌<◌, ◌-◌, ◌+◌, ◌==◌, ℕ, zero, suc, List, [], ◌∷◌, ◌++◌, length, drop, get_or, cond}
 use Rattle.std.proofs.Common.{nat_eq, Bool, true}
 use Rattle.std.proofs.Common.{false, Option, Some, None, codes, refl, sym, ◌∙◌, ap, subst, inl, inr, arith, rules}
@@ -21,21 +21,21 @@ use Rattle.tfs_http.proofs.PathLemmas.{IsSplit, no_slash, at_slash, split_at, se
 use Rattle.tfs_framing.proofs.PrefixLemmas.{front_split}
 use Rattle.tfs_http.proofs.RowLemmas.{fork, skips_all}
 
--- ---- what stands behind a name
+-- ---- the text after a name
 
--- What an impact's routes have left behind the name.
+-- The rows of impacts without the text up to the name's end.
 abbrev tails : Rows
 tails = (codes "/all", 0) ∷ (codes "/any", 1) ∷ []
 
--- And with it.
+-- The rows of impacts without the text before the name.
 abbrev impact_rows : Rows
 impact_rows = (param_token ∷ codes "/all", 0) ∷ (param_token ∷ codes "/any", 1) ∷ []
 
--- What the route of a state has left behind `/state/`: one parameter.
+-- The row of states without the text before the name: a single parameter.
 abbrev state_rows : Rows
 state_rows = (param_token ∷ [], 2) ∷ []
 
--- A parameter that ends a route takes all of a rest that has no slash.
+-- A parameter at the end of a route matches a rest of at least one byte exactly if it has no slash.
 takes_rest : (b : ℕ) (p : List ℕ) → b < 256 → first state_rows (b ∷ p) ≡ cond (has_slash (b ∷ p)) None (Some 2)
 unfolding seek param_step
 takes_rest b p small = by (has_slash (b ∷ p)) refl
@@ -51,12 +51,13 @@ takes_rest b p small = by (has_slash (b ∷ p)) refl
     by false e = simp (other, e, seek-empty 0 p)
         (ap (λ n. or_else (seek n (([], 2) ∷ []) p) None) one_less ∙ ap (λ o. or_else o None) (skips_all (([], 2) ∷ []) p))
 
--- The longest suffix of the tails is the slash, where a segment ends with one behind a byte.
+-- The longest suffix of a segment among `tails` is the slash, if the segment ends with one after at
+-- least one byte.
 suffix_is : (seg : List ℕ) (v : Bool) → cuts seg (codes "/") ≡ v → longest_suffix seg tails ≡ cond v (codes "/") []
 suffix_is seg true e = rw e refl
 suffix_is seg false e = rw e refl
 
--- A walk of an impact's routes begins with the parameter.
+-- The search in the rows of impacts begins with the parameter.
 impact_step : (b : ℕ) (p : List ℕ) → b < 256
     → first impact_rows (b ∷ p) ≡ or_else (seek ((param_step tails (b ∷ p)).0 - 1) (param_step tails (b ∷ p)).1 p) None
 unfolding seek
@@ -64,7 +65,7 @@ impact_step b p small =
     let other : (param_token == b) ≡ false = grind (arith, nat_tests) in
     simp (other, seek-empty 0 p) refl
 
--- What has no slash is no rest of an impact's path.
+-- A rest without a slash matches no row of impacts.
 impact_whole : (b : ℕ) (p : List ℕ) → b < 256 → has_slash (b ∷ p) ≡ false → first impact_rows (b ∷ p) ≡ None
 unfolding param_step
 impact_whole b p small h =
@@ -81,12 +82,12 @@ impact_whole b p small h =
     stepped : param_step tails (b ∷ p) ≡ (suc (length p), tails)
     stepped = rw (suffix_is (segment (b ∷ p)) false cut, h) refl
 
--- Nor is what begins with one.
+-- A rest that begins with a slash matches no row of impacts.
 impact_slash : (p : List ℕ) → first impact_rows (47 ∷ p) ≡ None
 unfolding seek param_step
 impact_slash p = simp (seek-empty 0 p) refl
 
--- Behind a part with no slash the walk goes on with the tails.
+-- After a part without a slash, the search continues in `tails`.
 impact_part : (b : ℕ) (part rest : List ℕ) → b < 256 → has_slash (b ∷ part) ≡ false
     → first impact_rows (b ∷ (part ++ 47 ∷ rest)) ≡ first tails (47 ∷ rest)
 unfolding param_step
@@ -121,7 +122,7 @@ impact_part b part rest small h =
 
 -- ---- the tails
 
--- What the tails answer, they answer to one of the two texts.
+-- A text for which the search in `tails` finds a key is `/all` with key 0 or `/any` with key 1.
 pub tail_is : (q : List ℕ) (key : ℕ) → first tails q ≡ Some key → ((key ≡ 0) × (q ≡ codes "/all")) ⊎ ((key ≡ 1) × (q ≡ codes "/any"))
 unfolding seek
 tail_is q key e = by (starts_with nat_eq q (codes "/all")) refl (starts_with nat_eq q (codes "/any")) refl (sym answers ∙ e)
@@ -152,7 +153,7 @@ tail_is q key e = by (starts_with nat_eq q (codes "/all")) refl (starts_with nat
     by true a true b h = absurd (differ_at (codes "/all" ++ drop 4 q) (codes "/any" ++ drop 4 q) 2 108 110 refl refl (λ e. omega arith)
         (sym (front_split (codes "/all") q a) ∙ front_split (codes "/any") q b))
 
--- The row of each key.
+-- The row with this key.
 abbrev pub row_at : ℕ → RouteOf Served
 row_at zero = impact_row All
 row_at (suc zero) = impact_row Any
@@ -163,7 +164,7 @@ abbrev key_of : Kind → ℕ
 key_of All = 0
 key_of Any = 1
 
--- To the text of a kind they answer its key.
+-- The text of a kind matches the row of `tails` with its key.
 tail_answers : (kind : Kind) → first tails (kind_part kind) ≡ Some (key_of kind)
 unfolding seek param_step
 tail_answers All = refl
@@ -171,7 +172,8 @@ tail_answers Any = refl
 
 -- ---- the routes
 
--- What the rows answer to a path: behind `/impact/` what stands there, or else behind `/state/`.
+-- The row that matches a path: after `/impact/` a row of impacts, otherwise after `/state/` the row
+-- of states.
 pub first_of_rows : (path : List ℕ) → first route_rows path ≡ map_key row_at (or_else
     (cond (starts_with nat_eq path (codes "/impact/")) (first impact_rows (drop 8 path)) None)
     (cond (starts_with nat_eq path (codes "/state/")) (first state_rows (drop 7 path)) None))
@@ -183,7 +185,7 @@ first_of_rows path =
     ∙ ap (or_else (cond (starts_with nat_eq path (codes "/impact/")) (first impact_rows (drop 8 path)) None))
     (first-prefix (codes "/state/") state_rows path (search rules)))
 
--- The path of an impact is answered by the row of its kind.
+-- The path of an impact matches the row of its kind.
 pub impact_answered : (kind : Kind) (b : ℕ) (part : List ℕ) → b < 256 → has_slash (b ∷ part) ≡ false
     → first route_rows (codes "/impact/" ++ (b ∷ (part ++ kind_part kind))) ≡ Some (impact_row kind)
 impact_answered kind b part small h =
@@ -199,18 +201,18 @@ impact_answered kind b part small h =
     same Any = refl
     same All = refl
 
--- The path of a state is answered by its row.
+-- The path of a state matches its row.
 pub state_answered : (b : ℕ) (part : List ℕ) → b < 256 → has_slash (b ∷ part) ≡ false → first route_rows (codes "/state/" ++ (b ∷ part)) ≡ Some state_row
 state_answered b part small h =
     first_of_rows (codes "/state/" ++ (b ∷ part)) ∙ ap (map_key row_at) (takes_rest b part small ∙ ap (λ v. cond {A = Option ℕ} v None (Some 2)) h)
 
--- What is answered, by parts of the path: a row of an impact, or that of a state.
+-- The row matches the path: it is the row of an impact or a state, and the path has its parts.
 pub data IsAnswered (path : List ℕ) (row : RouteOf Served) : Type 0 where
   is_impact : (kind : Kind) (b : ℕ) (part : List ℕ) → row ≡ impact_row kind → path ≡ codes "/impact/" ++ (b ∷ (part ++ kind_part kind))
       → has_slash (b ∷ part) ≡ false → IsAnswered path row
   is_state : (b : ℕ) (part : List ℕ) → row ≡ state_row → path ≡ codes "/state/" ++ (b ∷ part) → has_slash (b ∷ part) ≡ false → IsAnswered path row
 
--- What an impact's rows answer to a rest.
+-- If a row of impacts matches the rest after `/impact/`, it matches the path.
 rest_of_impact : (path s : List ℕ) (row : RouteOf Served) → path ≡ codes "/impact/" ++ s → get_or s 0 0 < 256
     → map_key row_at (first impact_rows s) ≡ Some row → IsAnswered path row
 unfolding seek
@@ -234,7 +236,7 @@ rest_of_impact path s row parts small e = by s parts small e (split_at s)
         found c part rest (parts ∙ ap (λ t. codes "/impact/" ++ t) is) h (first tails (47 ∷ rest)) refl
         (ap (map_key row_at) (sym (ap (λ t. first impact_rows t) is ∙ impact_part c part rest low h)) ∙ e)
 
--- What the row of a state answers to a rest.
+-- If the row of states matches the rest after `/state/`, it matches the path.
 rest_of_state : (path s : List ℕ) (row : RouteOf Served) → path ≡ codes "/state/" ++ s → get_or s 0 0 < 256
     → map_key row_at (first state_rows s) ≡ Some row → IsAnswered path row
 unfolding seek
@@ -245,11 +247,11 @@ rest_of_state path (b ∷ p) row parts small e = by (has_slash (b ∷ p)) refl (
     by true h e = cc
     by false h e = is_state b p (cc) parts h
 
--- What each byte of a path fits.
+-- Each element of the path is a byte.
 abbrev pub AreBytes : List ℕ → Type 0
 AreBytes path = (k : ℕ) → Fits w8 (get_or path k 0)
 
--- Whatever is answered is answered so.
+-- Each row that the search finds matches the path.
 pub answered : (path : List ℕ) (row : RouteOf Served) → AreBytes path → first route_rows path ≡ Some row → IsAnswered path row
 answered path row bytes e =
     by (starts_with nat_eq path (codes "/impact/")) refl (starts_with nat_eq path (codes "/state/")) refl (sym (first_of_rows path) ∙ e)

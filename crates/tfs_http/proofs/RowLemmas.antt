@@ -1,4 +1,4 @@
--- Walks of rows that begin with texts.
+-- Lemmas about searches in rows that begin with texts.
 use Rattle.std.proofs.Common.{◌≡◌, ◌≢◌, ◌⊎◌, ◌<◌, ◌-◌, ◌==◌, ℕ, List, [], ◌∷◌, ◌++◌, length, Bool, true}
 use Rattle.std.proofs.Common.{false, refl, sym, ◌∙◌, ap, inl, inr, arith, append-nil}
 use Rattle.std.proofs.lemmas.Bool.Decides.{nat_tests}
@@ -8,17 +8,17 @@ use Rattle.matchit.specs.Level.{IsText}
 use Rattle.matchit.proofs.SeekLemmas.{own-append, step-append, step-hit, step-miss, seek-empty, seek-lit, or_else-none}
 use Rattle.matchit.proofs.SeekLemmas.{param_step-empty}
 
--- Two texts differ at a byte.
+-- The texts differ at a byte.
 abbrev pub Differ : List ℕ → List ℕ → Type 0
 Differ [] b = ⊥
 Differ (x ∷ a) [] = ⊥
 Differ (x ∷ a) (y ∷ b) = (x ≢ y) ⊎ ((x ≡ y) × Differ a b)
 
--- A byte is no token of a pattern.
+-- A byte isn't a token of a pattern.
 no_token : (x : ℕ) → x < 256 → (x ≢ param_token) × (x ≢ catch_all_token)
 no_token x small = (λ e. omega arith, λ e. omega arith)
 
--- A walk of rows that begin with bytes takes one.
+-- A search in rows that begin with bytes consumes one byte.
 one_byte : (x y : ℕ) (w v : List ℕ) (r t : Rows) (b : ℕ) (p : List ℕ) → x < 256 → y < 256
     → seek 0 (prepend (x ∷ w) r ++ prepend (y ∷ v) t) (b ∷ p) ≡ seek 0 (step b (prepend (x ∷ w) r) ++ step b (prepend (y ∷ v) t)) p
 unfolding seek
@@ -36,7 +36,8 @@ one_byte x y w v r t b p low less =
       or_else-none,
     )
 
--- Rows that begin with two texts, which differ, answer what the ones do, or else the others.
+-- For rows that begin with two different texts, the search finds a row of the first group, or else
+-- of the second.
 pub fork : (w v : List ℕ) (r t : Rows) (path : List ℕ) → IsText w → IsText v → Differ w v
     → first (prepend w r ++ prepend v t) path ≡ or_else (first (prepend w r) path) (first (prepend v t) path)
 unfolding seek
@@ -66,7 +67,7 @@ fork (x ∷ w) (y ∷ v) r t (b ∷ p) hw hv d =
         let xb : x ≢ b = λ q. grind (arith, nat_tests) in
         rw (step-miss b x w r xb, seek-empty 0 p) refl
 
--- A walk that skips all that is left ends where it stands.
+-- A search that skips the whole rest ends at the current rows.
 pub skips_all : (r : Rows) (p : List ℕ) → seek (length p) r p ≡ own r
 unfolding seek
 skips_all r [] = refl

@@ -1,4 +1,5 @@
--- Laws of targets: what the router tells of a path is its route, and the part that stands for the name.
+-- Lemmas about targets: the row and the parameter that the router finds are the route and its part
+-- for the name.
 use Rattle.std.proofs.Common.{◌≡◌, ◌≢◌, ◌<◌, ◌≤◌, ◌-◌, ◌+◌, ℕ, zero, suc, List, [], ◌∷◌, ◌++◌, length, drop, get_or, Bool, true}
 use Rattle.std.proofs.Common.{false, Option, Some, None, Bor, MatchOption, Contains, codes, refl, sym, ◌∙◌, ap, subst, arith, rules}
 use Rattle.std.proofs.Common.{append-nil, length-append}
@@ -18,7 +19,7 @@ use Rattle.tfs_http.specs.Rows.{state_row, impact_row, route_rows}
 use Rattle.tfs_http.proofs.PathLemmas.{slash_found, slash_tested, segment_at}
 use Rattle.tfs_http.proofs.RoutingLemmas.{AreBytes, IsAnswered, is_impact, is_state, answered, impact_answered, state_answered}
 
--- What isn't empty and has no slash, as a byte and a rest.
+-- A part that isn't empty and has no slash is a byte and a rest.
 part_shape : (part : List ℕ) → part ≢ [] → ¬ (Contains part slash) → (b : ℕ) × (rest : List ℕ) × (part ≡ b ∷ rest) × (has_slash part ≡ false)
 part_shape [] filled whole = absurd (filled refl)
 part_shape (b ∷ rest) filled whole = by (has_slash (b ∷ rest)) refl
@@ -27,11 +28,11 @@ part_shape (b ∷ rest) filled whole = by (has_slash (b ∷ rest)) refl
     by true e = absurd (whole (slash_found (b ∷ rest) e))
     by false e = (b, rest, refl, e)
 
--- A part with no slash is whole.
+-- A part that doesn't pass `has_slash` contains no slash.
 no_slash_whole : (part : List ℕ) → has_slash part ≡ false → ¬ (Contains part slash)
 no_slash_whole part h w = cc (slash_tested part w)
 
--- A path that has a route is answered.
+-- For a path with a route, the search finds a row.
 pub path_answered : (route : Route) (path part : List ℕ) → AreBytes path → Contains routes route → IsPathOf route path part
     → (row : RouteOf Served) × (first route_rows path ≡ Some row)
 path_answered route path part bytes listed p =
@@ -64,13 +65,13 @@ path_answered route path part bytes listed p =
     by route (suc (suc zero), within, is) p = of_impact All (subst (λ t. IsPathOf t path part) (sym is) p)
     by route (suc (suc (suc k)), within, is) p = absurd (omega (arith, within))
 
--- Where nothing is answered the path has no route.
+-- If the search finds no row, the path has no route.
 pub none_found : (path : List ℕ) (rows : RowsOf (RouteOf Served)) → rows ≡ route_rows → AreBytes path → first rows path ≡ None → (route : Route) (part : List ℕ)
     → Contains routes route → ¬ (IsPathOf route path part)
 none_found path rows one bytes none route part listed p =
     let found = path_answered route path part bytes listed p in cc (ap (λ t. first t path) one, none, found.1)
 
--- Seven places on from the start.
+-- Seven positions from the start are position 7.
 seven_on : (len : ℕ) → 7 ≤ len → next_at len (next_at len (next_at len (next_at len (next_at len (next_at len (next_at len 0)))))) ≡ 7
 seven_on len long = simp (
   lt-ltb 0 len (omega arith),
@@ -82,11 +83,11 @@ seven_on len long = simp (
   lt-ltb 6 len (omega arith),
 ) refl
 
--- And eight.
+-- Eight positions from the start are position 8.
 eight_on : (len : ℕ) → 8 ≤ len → next_at len (next_at len (next_at len (next_at len (next_at len (next_at len (next_at len (next_at len 0))))))) ≡ 8
 eight_on len long = rw (seven_on len (omega arith)) (simp (lt-ltb 7 len (omega arith)) refl)
 
--- What stands between a front and a back.
+-- The text between the positions of a front's and a part's end is the part.
 between : (front part back : List ℕ) (stop : ℕ) → stop ≡ length front + length part → part_of (front ++ (part ++ back)) (length front) stop ≡ part
 between front part back stop is =
     let size = length-append front (part ++ back) in
@@ -96,7 +97,7 @@ between front part back stop is =
     let less : stop - length front ≡ length part = omega arith in
     rw (begins, ends, drop-append_seam front (part ++ back), less) (take-append_seam part back)
 
--- What the name took of the path of a state.
+-- In the path of a state, the parameter `name` is the part.
 name_of_state : (path part : List ℕ) → path ≡ codes "/state/" ++ part
     → walk state_row.pattern state_row.text path state_row.names 0 0 ≡ (codes "name", part) ∷ []
 name_of_state path part parts =
@@ -106,7 +107,7 @@ name_of_state path part parts =
     (ap (λ t. (codes "name", part_of t 7 (length path)) ∷ []) all
     ∙ ap (λ t. (codes "name", t) ∷ []) (between (codes "/state/") part [] (length path) (omega arith)))
 
--- What the name took of the path of an impact.
+-- In the path of an impact, the parameter `name` is the part.
 name_of_impact : (kind : Kind) (path part : List ℕ) → path ≡ codes "/impact/" ++ (part ++ kind_part kind) → has_slash part ≡ false
     → walk (impact_row kind).pattern (impact_row kind).text path (impact_row kind).names 0 0 ≡ (codes "name", part) ∷ []
 name_of_impact kind path part parts h = by kind parts
@@ -132,14 +133,15 @@ name_of_impact kind path part parts h = by kind parts
     by Any parts = rw (eight_on (length path) (long Any parts)) (ap (λ t. (codes "name", t) ∷ []) (taken (codes "any") parts))
     by All parts = rw (eight_on (length path) (long All parts)) (ap (λ t. (codes "name", t) ∷ []) (taken (codes "all") parts))
 
--- What is answered to a path: the path is the one of the row's route, with the part that the name took.
+-- The row's route matches the path, and the parameter `name` is the route's part, which is UTF-8 if
+-- the path is.
 pub record Matched (path : List ℕ) (row : RouteOf Served) : Type 0 where
   pub part : List ℕ
   pub is_path : IsPathOf (route_of row.value) path part
   pub taken : walk row.pattern row.text path row.names 0 0 ≡ (codes "name", part) ∷ []
   pub text : IsUtf8 path → IsUtf8 part
 
--- A part between ASCII bytes is a text.
+-- The text after an ASCII byte of a UTF-8 text is UTF-8.
 text_behind : (front rest : List ℕ) (path : List ℕ) (n : ℕ) → path ≡ front ++ rest → length front ≡ n + 1 → get_or front n 0 ≡ 47
     → get_or path n 0 ≡ get_or front n 0 → IsUtf8 path → IsUtf8 rest
 text_behind front rest path n parts size last same text =
@@ -148,12 +150,12 @@ text_behind front rest path n parts size last same text =
     let cut = IsUtf8-drop path (n + 1) text (IsCharBoundary-after_ascii path n text (omega arith) (omega arith)) in
     subst IsUtf8 (ap (λ k. drop k path) (sym size) ∙ ap (λ t. drop (length front) t) parts ∙ drop-append_seam front rest) cut
 
--- A byte behind a text.
+-- The element after a part is the byte that was appended to it.
 byte_behind : (part word : List ℕ) (x : ℕ) → get_or (part ++ x ∷ word) (length part) 0 ≡ x
 byte_behind [] word x = refl
 byte_behind (b ∷ part) word x = byte_behind part word x
 
--- A part before a slash is a text.
+-- The text before a slash in a UTF-8 text is UTF-8.
 text_before : (part word : List ℕ) → IsUtf8 (part ++ 47 ∷ word) → IsUtf8 part
 text_before part word text =
     let size = length-append part (47 ∷ word) in
@@ -162,7 +164,7 @@ text_before part word text =
     (IsCharBoundary-before_ascii (part ++ 47 ∷ word) (length part) (omega arith) (omega arith)) in
     subst IsUtf8 (take-append_seam part (47 ∷ word)) cut
 
--- So it is, whatever is answered.
+-- `Matched` holds of each row that matches the path.
 pub matched : (path : List ℕ) (row : RouteOf Served) → IsAnswered path row → Matched path row
 matched path row (is_impact kind b part is parts h) = subst (λ t. Matched path t) (sym is) (by kind parts)
   where
@@ -188,11 +190,12 @@ matched path row (is_state b part is parts h) = subst (λ t. Matched path t) (sy
   text = text_behind (codes "/state/") (b ∷ part) path 6 parts refl refl (ap (λ t. get_or t 6 0) parts);
 })
 
--- What is got for `name` is what it took, or none where it took nothing.
+-- The result of looking up `name`: the value of the parameter, or none if there is no such
+-- parameter.
 abbrev GivesName : Option (Bor (List ℕ)) → List (List ℕ × List ℕ) → Type 0
 GivesName r taken = MatchOption r (named (codes "name") taken ≡ None) (λ part. named (codes "name") taken ≡ Some part.now)
 
--- So what is got for `name` is the part, and there is one.
+-- Looking up `name` gives the part of the path for the name.
 pub part_found : (r : Option (Bor (List ℕ))) (path taken pattern text : List ℕ) (names : List (ℕ × ℕ)) (value : Served) (rows : RowsOf (RouteOf Served))
     → rows ≡ route_rows → AreBytes path → IsUtf8 path → taken ≡ path
     → first rows path ≡ Some (record { pattern = pattern; text = text; names = names; value = value })

@@ -1,4 +1,4 @@
--- No byte was moved yet.
+-- The attempts so far consumed no bytes.
 use Rattle.std.specs.Io.KnownBytes.{Keeps}
 use Rattle.tfs_connections.proofs.connection.read_in_time.Given as goal
 

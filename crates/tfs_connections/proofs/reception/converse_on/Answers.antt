@@ -1,4 +1,4 @@
--- A connection that is gone: no byte is read or written, and the desk stays.
+-- If the connection is gone, no byte is read or written, and the desk doesn't change.
 use Rattle.std.proofs.Common.{List, ℕ, sym, subst}
 use Rattle.tfs_conversation.specs.Conversation.{HasTalked}
 use Rattle.tfs_conversation.proofs.StepLemmas.{talked_nothing}

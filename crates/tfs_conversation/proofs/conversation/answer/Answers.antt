@@ -1,4 +1,4 @@
--- The call of a request whose body fits carries a body that fits.
+-- If the body of a request has at most 16 MiB, its call carries a state that fits.
 use Rattle.tfs_http.proofs.CallLemmas.{call_fits}
 use Rattle.tfs_conversation.proofs.conversation.answer.Goals as goal
 

@@ -1,4 +1,4 @@
--- A conversation begins with no bytes read.
+-- A conversation begins before the first byte.
 use Rattle.std.proofs.Common.{◌≡◌, List, ℕ, [], ◌++◌, Result, Ok, Err, IfOk, IfErr, refl, subst, inl, inr}
 use Rattle.tfs_framing.proofs.MessageLemmas.{no_bytes_are_unfinished}
 use Rattle.std.specs.Io.KnownBytes.{Appends, Consumes}
@@ -13,7 +13,7 @@ use Rattle.tfs_conversation.proofs.IoLemmas.{comes_nothing, consumes_nothing}
 use Rattle.tfs_conversation.proofs.conversation.converse.Goals as goal
 
 module _ {S : Type 0} (step : S → Call → ReplyValue → S → Type 0) (from to : Moment S) (none : from.input ≡ []) where
-  -- From a moment with no bytes, what has ended is a conversation of the bytes that were read.
+  -- From a moment without input, the end of a conversation is a conversation of the bytes read.
   ended_told : (r : Result Ended ServeFault) → IfOk r (HasEnded step from to) → IfOk r (λ ended. (bytes : List ℕ) × (text : List ℕ)
       × Consumes from.reader to.reader bytes × Appends from.writer to.writer text × ComesInReads bytes from.reads to.reads
       × Converses step from.desk to.desk bytes text ended)
@@ -27,7 +27,7 @@ module _ {S : Type 0} (step : S → Call → ReplyValue → S → Type 0) (from 
   )
   ended_told (Err fault) h = tt
 
-  -- The same of one that was broken off.
+  -- From a moment without input, an error breaks off a conversation of the bytes read.
   broken_told : (r : Result Ended ServeFault) → IfErr r (HasBroken step from to) → IfErr r (λ fault. (bytes : List ℕ) × (text : List ℕ)
       × Consumes from.reader to.reader bytes × Appends from.writer to.writer text × ComesInReads bytes from.reads to.reads
       × BreaksOff step from.desk to.desk bytes text fault from.reads to.reads)

@@ -1,4 +1,4 @@
--- The reply that was written is the one that the desk or the routing gave.
+-- The written reply is the one by the desk or by routing.
 use Rattle.std.proofs.Common.{subst}
 use Rattle.std.proofs.lemmas.Result.{on_ok_weaker, IfErr-weaker}
 use Rattle.std.specs.Io.KnownBytes.{Appends}

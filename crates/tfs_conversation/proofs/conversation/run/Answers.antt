@@ -1,4 +1,4 @@
--- Turn after turn: the laws of two turns in a row, and of a turn and an end.
+-- Each turn extends the earlier ones; the last one ends the conversation or breaks it off.
 use Rattle.std.proofs.Common.{Option, IfSome, Ok, refl, ◌∙◌, ap, subst}
 use Rattle.tfs_conversation.specs.declared.ended.Ended.{Ended}
 use Rattle.tfs_conversation.specs.Turns.{moment, HasEnded}

@@ -1,4 +1,4 @@
--- The turns so far are served up to the input that is left.
+-- The turns so far have replied to the messages before the input that is left.
 use Rattle.std.proofs.Common.{◌≡◌}
 use Rattle.tfs_conversation.specs.Turns.{moment, Went, work_left}
 use Rattle.tfs_conversation.proofs.conversation.run.Given as goal

@@ -1,4 +1,4 @@
--- Where there is no memory, nothing was written.
+-- If there is no memory, nothing is written.
 use Rattle.tfs_calls.specs.Reply.{reply_value}
 use Rattle.tfs_http.specs.ReplyText.{reply_text}
 use Rattle.tfs_conversation.proofs.IoLemmas.{none_written}

@@ -1,4 +1,4 @@
--- More is read, and then what comes is a law of turns over all the bytes.
+-- More bytes are read; then the lemma about a turn with this input applies to all bytes.
 use Rattle.std.proofs.Common.{◌∙◌, refl, sym, ap, None, unwrap_or, ◌++◌}
 use Rattle.std.specs.Result.{result_ok}
 use Rattle.tfs_framing.specs.Framing.{framing_refusal}
@@ -13,7 +13,7 @@ use Rattle.tfs_conversation.proofs.ConversationLemmas.{ended_with_input, went_an
 use Rattle.tfs_conversation.proofs.BrokenLemmas.{broken_between, broken_answering, broken_refusing}
 use Rattle.tfs_conversation.proofs.conversation.turn.Goals as goal
 
--- ---- nothing has come, or a fault did
+-- ---- no input, or an error
 
 pub returns-in-Ok-None-clause-went : goal.returns-in-Ok-None-clause-went
 returns-in-Ok-None-clause-went g c e =

@@ -1,4 +1,4 @@
--- The head, and the body behind it where the form isn't bare, are the text of the reply.
+-- The text of the reply is its head, followed by the body unless the form is bare.
 use Rattle.std.proofs.Common.{◌++◌, ◌∙◌}
 use Rattle.std.specs.Arc.{arc_value}
 use Rattle.tfs_calls.specs.Reply.{impact}

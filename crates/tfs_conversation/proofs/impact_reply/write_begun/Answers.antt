@@ -1,4 +1,5 @@
--- The first bytes are the body where nothing is left of it, and else what is left is written behind them.
+-- If nothing is left of the body, the text begun is all of it. Otherwise what is left is written
+-- after it.
 use Rattle.std.proofs.Common.{List, ℕ, ◌++◌, ap}
 use Rattle.tfs_conversation.proofs.IoLemmas.{all_told, part_as, part_written, written_as}
 use Rattle.tfs_conversation.proofs.impact_reply.write_begun.Goals as goal

@@ -1,4 +1,4 @@
--- The messages of the bytes are answered in turn.
+-- The replies to the messages of the bytes are their output.
 use Rattle.tfs_conversation.proofs.ExistenceLemmas.{output_some}
 use Rattle.tfs_conversation.proofs.laws.bytes_have_an_output.Goals as goal
 

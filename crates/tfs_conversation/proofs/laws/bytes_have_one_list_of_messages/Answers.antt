@@ -1,4 +1,4 @@
--- Both go from message to message, as the framing of each rest does.
+-- Both statements follow message by message from the framing of the bytes left.
 use Rattle.tfs_conversation.proofs.MessagesLemmas.{messages_once, messages_some}
 use Rattle.tfs_conversation.proofs.laws.bytes_have_one_list_of_messages.Goals as goal
 

@@ -1,4 +1,4 @@
--- All three go by the messages of the bytes, from the first.
+-- All three statements follow from the messages of the bytes, which are unique.
 use Rattle.tfs_conversation.proofs.OutputLemmas.{one_output}
 use Rattle.tfs_conversation.proofs.laws.bytes_have_one_output.Goals as goal
 

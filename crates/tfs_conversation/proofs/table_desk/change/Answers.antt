@@ -1,4 +1,4 @@
--- An accepted change is entered, and its record is told.
+-- The entry of an accepted change is in the journal, and its record in the sink.
 use Rattle.std.proofs.Common.{rules}
 use Rattle.tfs_table.specs.Table.{model_of}
 use Rattle.tfs_conversation.proofs.DeskLemmas.{entered_by}

@@ -1,4 +1,4 @@
--- The steps of the desk are those of its table, and keep the loan.
+-- The steps of the desk are steps of its table, and don't change the loan.
 use Rattle.tfs_conversation.specs.Desk.{AnswersCall}
 use Rattle.tfs_conversation.proofs.DeskLemmas.{still_tells}
 use Rattle.tfs_conversation.proofs.StepLemmas.{ended_over, broken_over, call_keeps}

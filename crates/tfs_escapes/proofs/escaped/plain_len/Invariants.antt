@@ -1,4 +1,4 @@
--- The bytes so far stand for themselves.
+-- The bytes so far need no escape.
 use Rattle.std.proofs.Common.{◌≡◌, ◌≤◌, ◌-◌, length, take}
 use Rattle.json.specs.Print.{escape}
 use Rattle.tfs_escapes.proofs.escaped.plain_len.Given as goal

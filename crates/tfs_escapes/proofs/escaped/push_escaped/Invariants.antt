@@ -1,4 +1,4 @@
--- What was appended, with what is left, is the whole.
+-- The appended text and the escaped form of the rest are the whole escaped text.
 use Rattle.std.proofs.Common.{◌≡◌, ◌++◌, length}
 use Rattle.json.specs.Print.{escape}
 use Rattle.tfs_escapes.proofs.escaped.push_escaped.Given as goal

@@ -1,4 +1,4 @@
--- What stands for the bytes so far.
+-- The sum is the length of the escaped form of the bytes so far, at most 6 for each byte.
 use Rattle.std.proofs.Common.{◌≡◌, ◌≤◌, ◌*◌, length, take}
 use Rattle.json.specs.Print.{escape}
 use Rattle.tfs_escapes.proofs.escaped.sum_of_widths.Given as goal

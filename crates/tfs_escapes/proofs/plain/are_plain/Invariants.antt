@@ -1,4 +1,4 @@
--- The bytes so far stand for themselves.
+-- The bytes so far need no escape.
 use Rattle.json.specs.Written.{PlainBetween}
 use Rattle.tfs_escapes.proofs.plain.are_plain.Given as goal
 

@@ -1,4 +1,4 @@
--- No byte of the block is marked.
+-- No lane of the block marks a byte that needs an escape.
 use Rattle.std.proofs.Common.{arith}
 use Rattle.json.proofs.Printed.Plain.{plain_from_lanes}
 use Rattle.tfs_escapes.proofs.plain.block_is_plain.Goals as goal

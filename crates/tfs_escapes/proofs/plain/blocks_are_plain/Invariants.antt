@@ -1,4 +1,4 @@
--- The blocks so far stand for themselves.
+-- The blocks so far need no escape.
 use Rattle.std.proofs.Common.{◌-◌, length}
 use Rattle.json.specs.Written.{PlainBetween}
 use Rattle.tfs_escapes.proofs.plain.blocks_are_plain.Given as goal

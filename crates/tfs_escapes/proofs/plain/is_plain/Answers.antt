@@ -1,4 +1,4 @@
--- What has no byte that needs another text stands for itself.
+-- A text in which no byte needs an escape is its own escaped form.
 use Rattle.json.proofs.Printed.Plain.{escape_on_plain}
 use Rattle.tfs_escapes.proofs.plain.is_plain.Goals as goal
 

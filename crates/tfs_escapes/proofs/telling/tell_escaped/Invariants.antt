@@ -1,4 +1,4 @@
--- What was told, with what is left, is the whole.
+-- The appended text and what is left of the escaped text are the whole escaped text.
 use Rattle.std.proofs.Common.{◌≡◌, ◌≢◌, [], ◌++◌, length}
 use Rattle.std.specs.Prelude.{vec_len}
 use Rattle.json.specs.Print.{escape}

@@ -1,4 +1,4 @@
--- What comes next is decoded, or ends the walk.
+-- The next part is decoded, or it ends the walk.
 use Rattle.std.proofs.Common.{[], refl, arith, length-append}
 use Rattle.std.proofs.lemmas.Result.{err_from_is_err_and}
 use Rattle.tfs_framing.proofs.PassedLemmas.{ends_on, part_told, passed_fits, pushed}

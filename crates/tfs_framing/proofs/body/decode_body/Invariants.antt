@@ -1,4 +1,4 @@
--- What was passed is decoded, and what is left is behind it.
+-- The bytes before `left` are decoded.
 use Rattle.std.proofs.Common.{ℕ, List, ◌-◌}
 use Rattle.tfs_framing.specs.Decoded.{HasPassed}
 use Rattle.tfs_framing.specs.Parts.{EndsWith}

@@ -1,4 +1,5 @@
--- Without a line feed in the first bytes there is no line; else their line is the line, and where they have none it is bad.
+-- Without a line feed in the window there is no line yet. Otherwise the window has a valid chunk
+-- line, or the line is bad.
 use Rattle.std.proofs.Common.{refl, sym, arith, ◌∙◌}
 use Rattle.tfs_framing.proofs.SoughtLemmas.{all_in_window}
 use Rattle.tfs_framing.proofs.PartLemmas.{line_in_window, bad_line_in_window, long_line_in_window}

@@ -1,4 +1,4 @@
--- The trailer ends in its first bytes, or isn't whole yet, or is too long.
+-- The trailer ends in the window, is incomplete, or is too long.
 use Rattle.std.proofs.Common.{arith, ap, length, ◌∙◌}
 use Rattle.tfs_framing.proofs.PassedLemmas.{last_there, last_wanted, passed_fits, passed_flawed}
 use Rattle.tfs_framing.proofs.TrailerLemmas.{from_line_feed, trailer_found, no_trailer, end_there, trailer_wanted, trailer_bad, trailer_passed, trailer_sought}

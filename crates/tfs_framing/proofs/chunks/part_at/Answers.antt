@@ -1,4 +1,4 @@
--- What is known of what comes next decides, or the line that comes first.
+-- The state of the walk decides what comes next, or else the next chunk line does.
 use Rattle.std.proofs.Common.{◌≡◌, ◌++◌, length, inl, inr, sym, ap, subst, arith, ◌∙◌, length-append}
 use Rattle.httparse.specs.Grammar.{print_chunk_line}
 use Rattle.tfs_framing.specs.Parts.{IsPassed}

@@ -1,4 +1,4 @@
--- The bytes that lack are there or not, and behind them CR LF or another end.
+-- The missing bytes have arrived or not, and if so CR LF or a bad end follows them.
 use Rattle.std.proofs.Common.{arith, ap, ◌∙◌, ◌++◌}
 use Rattle.tfs_framing.proofs.HeadLemmas.{halves}
 use Rattle.tfs_framing.proofs.PartLemmas.{bad_end}

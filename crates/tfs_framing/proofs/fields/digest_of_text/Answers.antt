@@ -1,4 +1,4 @@
--- A text of another length is no digest's.
+-- A text of another length isn't the text of a digest.
 use Rattle.tfs_framing.proofs.DigestLemmas.{no_digest}
 use Rattle.tfs_framing.proofs.fields.digest_of_text.Goals as goal
 

@@ -1,4 +1,4 @@
--- A field that was passed over doesn't list `close`.
+-- A field that was passed doesn't list `close`.
 use Rattle.std.proofs.Common.{sym, refl, ◌∙◌, ap}
 use Rattle.std.specs.List.{list_any}
 use Rattle.tfs_framing.specs.Connection.{lists_close}

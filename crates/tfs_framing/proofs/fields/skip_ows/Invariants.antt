@@ -1,4 +1,4 @@
--- What was passed over is spaces and tabs.
+-- The bytes passed so far are spaces and tabs.
 use Rattle.std.proofs.Common.{◌≡◌, length}
 use Rattle.httparse.specs.Grammar.{skip_ows}
 use Rattle.tfs_framing.proofs.fields.skip_ows.Given as goal

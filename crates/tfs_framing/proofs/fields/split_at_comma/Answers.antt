@@ -1,4 +1,4 @@
--- The first comma ends the first part, and without one there is one part.
+-- The first comma ends the first part; a text without a comma is a single part.
 use Rattle.std.proofs.Common.{ap, sym, ◌+◌, ◌-◌, arith, take, drop, length, length-drop, ◌∷◌, ◌∙◌}
 use Rattle.std.proofs.lemmas.List.{take_all}
 use Rattle.tfs_framing.specs.Connection.{parts_of}

@@ -1,4 +1,4 @@
--- First from the front, and then from the back.
+-- The text is trimmed at the front, then at the back.
 use Rattle.std.proofs.Common.{◌∙◌, ap, reverse}
 use Rattle.httparse.specs.Grammar.{trim_ows, skip_ows}
 use Rattle.tfs_framing.proofs.fields.trim_ows.Goals as goal

@@ -1,4 +1,4 @@
--- Each field adds its value where it is the field, and nothing else.
+-- A field adds its value if it has the name, and nothing otherwise.
 use Rattle.std.proofs.Common.{sym, ◌∙◌, ap, ◌++◌, option_to_list, option_copied}
 use Rattle.tfs_framing.proofs.LengthLemmas.{first_value, value_absent, within_rest}
 use Rattle.tfs_framing.proofs.fields.values_named.Goals as goal

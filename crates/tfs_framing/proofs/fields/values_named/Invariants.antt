@@ -1,4 +1,4 @@
--- The value that was found, if any, and the values still to come are all values.
+-- The value found so far, if any, and the values of the remaining fields are all values.
 use Rattle.std.proofs.Common.{◌≡◌, ◌++◌, length, map, All}
 use Rattle.std.specs.Option.{option_to_list, option_copied}
 use Rattle.httparse.specs.Spans.{IsHeaderWithin, header_bytes}

@@ -1,4 +1,4 @@
--- Without a head the bytes are unfinished; with one they open with it.
+-- Bytes without a head are unfinished; with a head, `Opens` holds of them.
 use Rattle.std.proofs.Common.{[], refl, arith}
 use Rattle.tfs_framing.specs.Framing.{Opens}
 use Rattle.tfs_framing.proofs.OpensLemmas.{framed_all, opens_end}

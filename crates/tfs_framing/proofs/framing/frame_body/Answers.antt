@@ -1,4 +1,4 @@
--- Without a body a message ends with its head; before the first chunk nothing is decoded.
+-- A message without a body ends with its head; before the first chunk nothing is decoded.
 use Rattle.std.proofs.Common.{[], length, refl, subst}
 use Rattle.tfs_framing.specs.Framing.{Opens}
 use Rattle.tfs_framing.specs.declared.lines.BodyLength.{BodyLength}

@@ -1,4 +1,4 @@
--- What comes after the chunks decides of the message.
+-- The result of decoding the chunks decides the result for the message.
 use Rattle.std.proofs.Common.{ℕ, List, Ok, sym, ◌∙◌, ap, subst}
 use Rattle.tfs_framing.specs.Decoded.{IsDecoded}
 use Rattle.tfs_framing.specs.Framing.{framing_refusal}

@@ -1,4 +1,4 @@
--- A body is whole if as many bytes came as the head says.
+-- A body is complete if at least the stated number of bytes has arrived.
 use Rattle.std.proofs.Common.{[], length, refl, sym, ap, arith, append-nil}
 use Rattle.tfs_framing.specs.declared.lines.BodyLength.TheVariants.{Sized}
 use Rattle.tfs_framing.proofs.HeadLemmas.{halves}

@@ -1,4 +1,4 @@
--- The head of the window is the head of the bytes, and where the window has none the bytes have none.
+-- The head of the window is the head of the bytes; if the window has none, the bytes have none.
 use Rattle.std.proofs.Common.{◌++◌, refl}
 use Rattle.tfs_framing.proofs.HeadLemmas.{head_of_window, no_head_of_window}
 use Rattle.tfs_framing.proofs.SoughtLemmas.{window_blank, passed_behind, sought_so_far}

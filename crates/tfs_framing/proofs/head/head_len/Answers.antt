@@ -1,4 +1,4 @@
--- The first line feed with an empty line behind it ends the head; until then each byte is passed over.
+-- The first line feed before an empty line ends the head; until then each byte is passed.
 use Rattle.tfs_framing.proofs.HeadLemmas.{head_found, byte_passed}
 use Rattle.tfs_framing.proofs.SoughtLemmas.{passed_start}
 use Rattle.tfs_framing.proofs.head.head_len.Goals as goal

@@ -1,4 +1,4 @@
--- No line feed that was passed over has an empty line behind it.
+-- No line feed passed so far is followed by an empty line.
 use Rattle.std.proofs.Common.{ℕ, List, length}
 use Rattle.tfs_framing.proofs.HeadLemmas.{PassedOver}
 use Rattle.tfs_framing.proofs.head.head_len.Given as goal

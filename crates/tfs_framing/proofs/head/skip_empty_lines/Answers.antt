@@ -1,4 +1,4 @@
--- One more empty line is passed over.
+-- One more empty line is skipped.
 use Rattle.std.proofs.Common.{sym, ◌∙◌, ap, ◌∷◌, [], ◌++◌}
 use Rattle.httparse.specs.Grammar.{print_blank}
 use Rattle.tfs_framing.proofs.HeadLemmas.{print_blank-snoc}

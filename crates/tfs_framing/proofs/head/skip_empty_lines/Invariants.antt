@@ -1,4 +1,4 @@
--- What was passed over is empty lines.
+-- The bytes skipped so far are empty lines.
 use Rattle.std.proofs.Common.{◌≡◌, List, ◌++◌, length}
 use Rattle.httparse.specs.Grammar.{LineEnd, print_blank}
 use Rattle.tfs_framing.proofs.head.skip_empty_lines.Given as goal

@@ -1,4 +1,4 @@
--- All three go by what the bytes begin with.
+-- All three statements follow from the lemmas about the result of `take`.
 use Rattle.tfs_framing.proofs.FramingLemmas.{framed_once, framed_more}
 use Rattle.tfs_framing.proofs.EachMessage.{each_framed}
 use Rattle.tfs_framing.proofs.laws.what_bytes_begin_with_is_one_thing_and_stays.Goals as goal

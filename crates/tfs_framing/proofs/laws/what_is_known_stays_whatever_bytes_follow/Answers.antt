@@ -1,4 +1,4 @@
--- The parts of what is known stay one by one.
+-- Each part of what is known remains when more bytes follow.
 use Rattle.tfs_framing.proofs.DecodedLemmas.{decoded_more}
 use Rattle.tfs_framing.proofs.KnownLemmas.{sought_more}
 use Rattle.tfs_framing.proofs.OpensLemmas.{opens_more}

@@ -1,4 +1,4 @@
--- A numeral is UTF-8, and where it isn't read as 64 bits its value is too large.
+-- A numeral is UTF-8; if it doesn't parse as a 64-bit number, its value is too large.
 use Rattle.std.proofs.Common.{sym, ◌∙◌}
 use Rattle.tfs_framing.proofs.LengthLemmas.{numeral_from_test, length_beyond}
 use Rattle.tfs_framing.proofs.lines.length_of_text.Goals as goal

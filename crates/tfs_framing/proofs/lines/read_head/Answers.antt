@@ -1,4 +1,4 @@
--- The spans are those of the head.
+-- The spans found by `httparse` are those of the head.
 use Rattle.std.proofs.Common.{sym, ◌∙◌, ap, subst, arith, codes, ◌==◌, ◌||◌}
 use Rattle.std.specs.List.{list_any}
 use Rattle.tfs_framing.specs.Fields.{TellsValues, fields_of, values_named}

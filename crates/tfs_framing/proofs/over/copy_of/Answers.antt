@@ -1,4 +1,4 @@
--- A refusal of a message that is none of the others is `BadHead`.
+-- A refusal of framing that is none of the other six is `BadHead`.
 use Rattle.tfs_framing.proofs.MessageLemmas.{is_bad_head, is_of_message}
 use Rattle.tfs_framing.proofs.over.copy_of.Goals as goal
 

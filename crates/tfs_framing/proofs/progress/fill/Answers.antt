@@ -1,4 +1,4 @@
--- A body that isn't whole is wanted; with one that is, the bytes are a message.
+-- Without the whole body more bytes are needed; with it, the bytes begin with a message.
 use Rattle.std.proofs.Common.{◌≡◌, ◌<◌, [], Ok, length, refl, sym, arith, append-nil}
 use Rattle.tfs_framing.specs.declared.lines.BodyLength.TheVariants.{Sized}
 use Rattle.tfs_framing.proofs.DecoderLemmas.{apart_wants}

@@ -1,4 +1,4 @@
--- A message that isn't whole lacks some of its body.
+-- If the message is unfinished, bytes of its body are missing.
 use Rattle.std.proofs.Common.{sym, subst, arith}
 use Rattle.tfs_framing.specs.Decoder.{HasRoomFor, IsAt}
 use Rattle.tfs_framing.specs.declared.progress.Progress.{Progress}

@@ -1,4 +1,4 @@
--- A body has room for all of its bytes.
+-- The vector of a sized body has capacity for all of its bytes.
 use Rattle.std.proofs.Common.{length, refl, subst, arith}
 use Rattle.tfs_framing.specs.Decoder.{HasRoomFor, IsAt}
 use Rattle.tfs_framing.specs.declared.progress.Progress.{Progress}

@@ -1,4 +1,5 @@
--- What is known of the bytes is what was kept, and where all are there, what comes of those is what comes of all.
+-- The kept progress is right for the bytes; if it has all of them, a result for them is a result
+-- for all bytes.
 use Rattle.std.proofs.Common.{ℕ, List, IfOk, OnErr, Ok, inr, sym, ◌∙◌, subst}
 use Rattle.tfs_framing.specs.Decoded.{Decodes}
 use Rattle.tfs_framing.specs.Decoder.{HasNoRefusal, IsApart, IsAt, IsFramed}

@@ -1,4 +1,4 @@
--- Number by number.
+-- Each number adds its address, if it has one.
 use Rattle.std.proofs.Common.{◌≤◌, ◌∷◌, [], ap, sym, subst, ◌∙◌, map, get_or, Some, None, append-nil}
 use Rattle.std.proofs.lemmas.List.{map-append}
 use Rattle.serde_json.specs.View.{view}

@@ -1,4 +1,4 @@
--- The addresses so far.
+-- The list has the addresses of the numbers so far.
 use Rattle.std.proofs.Common.{◌≡◌, map, take}
 use Rattle.serde_json.specs.View.{view}
 use Rattle.tfs_http.specs.ReplyText.{address_texts}

@@ -1,4 +1,4 @@
--- Number by number.
+-- Each number adds the length of its address, if it has one.
 use Rattle.std.proofs.Common.{◌≤◌, ◌+◌, length, drop, get_or, true, arith, sym, ap, subst, ◌∙◌}
 use Rattle.tfs_http.specs.Pieces.{addresses_left}
 use Rattle.tfs_http.proofs.PieceLemmas.{address_counted, none_counted, number_passed, quote_counted}

@@ -1,4 +1,4 @@
--- The bytes of the addresses so far, with those that are left.
+-- The total and the length of the addresses left are the length of all addresses.
 use Rattle.std.proofs.Common.{◌≡◌, ◌≤◌, ◌+◌, ◌*◌, ◌^◌, length, drop}
 use Rattle.tfs_http.specs.Pieces.{addresses_left}
 use Rattle.tfs_http.proofs.impact_body.addresses_len.Given as goal

@@ -1,4 +1,4 @@
--- Piece by piece.
+-- The pieces of a text, joined, are the text.
 use Rattle.tfs_http.specs.ReplyText.{impact_body}
 use Rattle.tfs_http.proofs.PieceLemmas.{pieces_joined}
 use Rattle.tfs_http.proofs.laws.pieces_of_an_answer_are_its_body.Goals as goal

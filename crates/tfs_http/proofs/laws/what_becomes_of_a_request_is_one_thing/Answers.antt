@@ -1,4 +1,4 @@
--- Each request is decided part by part.
+-- Routing every request has an outcome, and only one.
 use Rattle.tfs_http.proofs.EachRequest.{each_routed, routed_once}
 use Rattle.tfs_http.proofs.laws.what_becomes_of_a_request_is_one_thing.Goals as goal
 

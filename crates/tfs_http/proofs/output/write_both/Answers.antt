@@ -1,4 +1,4 @@
--- A part of the first text, or the first and a part of the second, is a part of both.
+-- A part of the first text, or the first text and a part of the second, is a part of both, joined.
 use Rattle.tfs_http.proofs.OutputLemmas.{front_of_both, then_front}
 use Rattle.tfs_http.proofs.output.write_both.Goals as goal
 

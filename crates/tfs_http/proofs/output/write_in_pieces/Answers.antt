@@ -1,4 +1,4 @@
--- A part of the head, or the head and a part of the body, is a part of both.
+-- A part of the head, or the head and a part of the body, is a part of both, joined.
 use Rattle.std.proofs.Common.{◌++◌}
 use Rattle.tfs_http.proofs.OutputLemmas.{front_of_both, then_all, then_front}
 use Rattle.tfs_http.proofs.output.write_in_pieces.Goals as goal

@@ -1,4 +1,4 @@
--- One more write takes some of what is left.
+-- One more write takes a part of the rest.
 use Rattle.std.proofs.Common.{sym, ◌∙◌}
 use Rattle.tfs_http.proofs.OutputLemmas.{written_more}
 use Rattle.tfs_http.proofs.output.write_out.Goals as goal

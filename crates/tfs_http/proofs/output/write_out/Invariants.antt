@@ -1,4 +1,4 @@
--- The writer has the part of the text that isn't left.
+-- The writer has received the text except for the rest.
 use Rattle.std.proofs.Common.{◌≡◌, ℕ, List, ◌++◌, length}
 use Rattle.std.specs.Io.KnownBytes.{Appends}
 use Rattle.tfs_http.proofs.output.write_out.Given as goal

@@ -1,4 +1,4 @@
--- The writer has what isn't in the text and not left of the body.
+-- The writer has received the body except for the current piece and what is left after it.
 use Rattle.std.proofs.Common.{◌≡◌, ◌+◌, ℕ, List, ◌++◌, length}
 use Rattle.std.specs.Io.KnownBytes.{Appends}
 use Rattle.tfs_escapes.specs.Room.{HasRoom}

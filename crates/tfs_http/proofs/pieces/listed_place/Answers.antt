@@ -1,4 +1,4 @@
--- What is told of the listing, and what is left behind it.
+-- The listed text and the addresses left after it are the addresses that were left before.
 use Rattle.std.proofs.Common.{◌≡◌, ◌≤◌, ◌<◌, ◌+◌, ◌-◌, ◌++◌, ◌∙◌, List, ℕ, Bool, length, drop, arith, sym, ap, subst, true, if◌then◌else◌}
 use Rattle.tfs_http.specs.Pieces.{addresses_left}
 use Rattle.tfs_http.proofs.PieceLemmas.{listed_told}

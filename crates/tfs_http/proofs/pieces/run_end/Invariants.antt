@@ -1,4 +1,4 @@
--- The numbers so far follow one another.
+-- The numbers so far are consecutive.
 use Rattle.std.proofs.Common.{◌≡◌, ◌+◌}
 use Rattle.tfs_http.specs.Pieces.{IsRun}
 use Rattle.tfs_http.proofs.pieces.run_end.Given as goal

@@ -1,4 +1,4 @@
--- What was told, with what is left, is the whole.
+-- The text produced so far and what is left are the whole text.
 use Rattle.std.proofs.Common.{◌≡◌, ◌++◌}
 use Rattle.tfs_escapes.specs.Room.{HasRoom}
 use Rattle.tfs_http.specs.Pieces.{place_text, steps_left}

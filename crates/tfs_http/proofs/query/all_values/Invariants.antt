@@ -1,4 +1,4 @@
--- The values of the pairs so far, and of those to come, are all values.
+-- The values of the pairs so far and of the remaining pairs are all values.
 use Rattle.std.proofs.Common.{◌≡◌, ◌++◌}
 use Rattle.form_urlencoded.specs.Parse.{raw_pairs_left}
 use Rattle.tfs_http.specs.Query.{all_values}

@@ -1,4 +1,4 @@
--- Pair by pair.
+-- The first pair with the name gives the value.
 use Rattle.std.proofs.Common.{Some, ap, sym, ◌∙◌}
 use Rattle.tfs_http.proofs.QueryLemmas.{other_pair, found_pair, no_pair}
 use Rattle.tfs_http.proofs.query.first_value.Goals as goal

@@ -1,4 +1,4 @@
--- What was added is the head.
+-- The appended text is the head.
 use Rattle.std.proofs.Common.{◌∙◌, decimal, sym, ap}
 use Rattle.tfs_http.proofs.ReplyLemmas.{head_added}
 use Rattle.tfs_http.proofs.reply.push_head.Goals as goal

@@ -1,4 +1,4 @@
--- A router that was empty has the three routes.
+-- An empty router has the three routes after they are inserted.
 use Rattle.matchit.proofs.OnLiterals.{matchit_on_literals}
 use Rattle.tfs_http.proofs.routes.insert_routes.Goals as goal
 

@@ -1,4 +1,4 @@
--- The target is a text, and its path has the route.
+-- The target is UTF-8, and its path matches the route.
 use Rattle.std.proofs.Common.{◌≡◌, ◌∙◌, List, ℕ, rules, ap, subst}
 use Rattle.std.specs.Str.{IsUtf8}
 use Rattle.tfs_http.specs.Routing.{IsPathOf, path_of, route_of}

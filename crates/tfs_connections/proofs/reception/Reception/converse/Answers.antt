@@ -1,4 +1,5 @@
--- One more connection, with what was written to it; without one, nothing was.
+-- The list gets one more text: the bytes written to the connection, or no bytes if there was no
+-- connection.
 use Rattle.std.proofs.Common.{List, ℕ, sym, subst}
 use Rattle.tfs_conversation.specs.Conversation.{HasTalked}
 use Rattle.tfs_conversation.proofs.StepLemmas.{talked_nothing}

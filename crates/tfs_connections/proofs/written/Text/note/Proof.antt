@@ -1,4 +1,5 @@
--- An empty body: the borrow is opened, and closed at the longer list. Assumes `Logic`.
+-- The body is empty: the proof opens the borrow, and closes it with the longer list. Assumes
+-- `Logic`.
 use Rattle.tfs_connections.proofs.Walks.{ℕ, ◌<◌, ◌^◌, List, [], ◌∷◌, ◌++◌, length, refl, MutBor, Ura, named, Val, vunit, vptr, SProp, ent, sep, emp, via, fst∗, id⊢, Fml, GName, Lft, Share, ftrue, flft, fobs, fbor, Memory, Routine, Calls, Loops, WpFn, Tables, Logic, Fun, tables, ‵, ◌⊛◌, ◌$◌, ◌∵◌, !, qed, by, move, keep, drop, use1, split, join, fsplit, fsplit3, fjoin, fjoin3, feq_i, suffices, frame, done, unit_lit, of_opd, returns, enter, Body, alloc_all, pass_all, free_all, look_at, sets, WpFn-mono, owns, mem, Bor, MutRef, mut_vals, mut_Tells, plain, opens, closes, on_entry, Meets, triple_of, entered, says, Stays, stay_ref, walk_of, AllGo, Goes-ref, Walks, ends_at, walked, walk_Meets, u8, yes, ShrSlice, slice_val, shr_slice_vals, shr_slice_Tells, stay_none_slice, Goes-none_slice}
 use contract.Running.{tables_of}
 use Rattle.tfs_connections.specs.declared.written.Text.{Text}
@@ -74,7 +75,7 @@ meets : {M : Type 1} {𝓤 : Ura M} (𝓛 : Logic 𝓤) → (at_mem : Memory →
 meets {𝓤 = 𝓤} 𝓛 at_mem run 𝓣 = walk_Meets 𝓛 it.ended stayed (goes 𝓛 at_mem run) (it.clauses 𝓛 at_mem run) (WpFn 𝓤 𝓛.H 𝓣.C 𝓣.Λ code.function)
     (WpFn-mono 𝓤 𝓛.H 𝓛.laws 𝓣 code.function) (walks 𝓛 at_mem run 𝓣.C 𝓣.Λ)
 
--- It is walked to its return.
+-- The proof walks the body to its return.
 pub note_spec : {M : Type 1} → stated.statement M
 unfolding tables_of
 note_spec 𝓤 𝓛 𝓜 𝓡 wired =

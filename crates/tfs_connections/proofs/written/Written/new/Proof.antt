@@ -1,4 +1,4 @@
--- `new` picks the empty list. Assumes `Logic`.
+-- `new` chooses the empty list. Assumes `Logic`.
 use Rattle.tfs_connections.proofs.Walks.{[], ◌∷◌, refl, proved_at, tables, ‵, raw, ◌⊛◌, ◌$◌, ◌∵◌, !, qed, move, keep, drop, split, fjoin, suffices, done, agg, enter, returns, no_more, alloc_all, pass_all, free_all, look_at, sets, owns, types_at, nothing, alive, says, Stays, walk_of, ends_at, none, none_made}
 use Rattle.tfs_connections.specs.contracts.written.Written as Written
 use Rattle.tfs_connections.specs.contracts.written.Written.new as F
@@ -9,7 +9,7 @@ use Rattle.tfs_connections.proofs.written.Written.new.Code as code
 abbrev stayed : Stays F.ended.signature.params F.ended.kept
 stayed = tt
 
--- It is walked to its return.
+-- The proof walks the body to its return.
 pub new_spec : {M : Type 1} → statement M
 new_spec 𝓤 𝓛 𝓜 𝓡 wired =
     let c = F.clauses 𝓛 𝓜.mem 𝓡.returns in let 𝓣 = tables 𝓤 𝓛.H 𝓜 𝓡 𝓡.env in

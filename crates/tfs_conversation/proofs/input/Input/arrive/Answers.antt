@@ -1,4 +1,5 @@
--- What a decoder gives comes next; where it gives nothing, what is read stands behind what was there.
+-- The message that a decoder returns is the next input. If it returns none, the bytes read follow
+-- the earlier ones.
 use Rattle.std.proofs.Common.{◌≡◌, ℕ, List, [], ◌++◌, drop, refl, sym, ◌∙◌, ap, subst, inl, inr, arith, append-nil}
 use Rattle.tfs_framing.specs.Decoder.{Gives, HasNoRefusal}
 use Rattle.tfs_framing.specs.Framing.{BeginsWith, IsUnfinished, framing_refusal}

@@ -1,4 +1,4 @@
--- `then` picks the bytes of the new list. Assumes `Logic`.
+-- `then` chooses the bytes of the new list. Assumes `Logic`.
 use Rattle.tfs_framing.proofs.Walks.{List, [], ◌∷◌, ◌++◌, refl, Val, vptr, Goal, proved_at, tables, ‵, raw, ◌⊛◌, prop, ◌$◌, ◌∵◌, !, qed, move, keep, drop, split, fsplit, fjoin, feq_l, regoal, suffices, done, agg, enter, returns, no_more, alloc_all, pass_all, free_all, look_at, sets, yes, owns, types_at, nothing, alive, says, Stays, stay_dropped, walk_of, ends_at, Goes-dropped, WpFn, none, none_made}
 use denote.Builtin.{RefOf}
 use denote.Signature.{plain, named_lft}
@@ -12,7 +12,7 @@ use Rattle.tfs_framing.proofs.decoder.Fed.then.Code as code
 abbrev stayed : Stays F.ended.signature.params F.ended.kept
 stayed = (stay_dropped _ yes, (stay_dropped _ yes, tt))
 
--- It is walked to its return.
+-- The proof walks the body to its return.
 pub then_spec : {M : Type 1} → statement M
 then_spec 𝓤 𝓛 𝓜 𝓡 wired =
     let c = F.clauses 𝓛 𝓜.mem 𝓡.returns in let W = walk_of 𝓛 F.ended stayed c in let 𝓣 = tables 𝓤 𝓛.H 𝓜 𝓡 𝓡.env in

@@ -1,4 +1,4 @@
--- No bytes are there.
+-- A new decoder has no bytes.
 use Rattle.std.proofs.Common.{List, ℕ, sym, ◌∙◌, subst}
 use Rattle.tfs_framing.specs.Decoder.{IsAt}
 use Rattle.tfs_framing.proofs.decoder.RequestDecoder.new.Goals as goal

@@ -1,4 +1,4 @@
--- The refusal that is kept is the one that is returned.
+-- The refusal that the decoder keeps is the one that it returns.
 use Rattle.std.proofs.Common.{length, refl, sym, ◌∙◌, ◌==◌, ap, subst, Some, Ok}
 use Rattle.tfs_framing.specs.Decoder.{Comes, DecoderValue, HasNoRefusal}
 use Rattle.tfs_framing.specs.Framing.{framing_refusal}

@@ -1,4 +1,4 @@
--- Nothing is known of the bytes, which are all there.
+-- Nothing is known of the bytes, and all of them are undecoded.
 use Rattle.std.proofs.Common.{refl}
 use Rattle.tfs_framing.proofs.progress.Progress.start.Goals as goal
 

@@ -1,4 +1,4 @@
--- The addresses are told before what stands behind them.
+-- The addresses are produced before the ending.
 use Rattle.std.proofs.Common.{◌≡◌, ◌≤◌, ◌-◌, ◌∙◌, List, ℕ, ◌++◌, length, drop, arith, ap, sym}
 use Rattle.std.proofs.lemmas.Bool.{eqb-true}
 use Rattle.std.proofs.lemmas.List.{nil_from_length}

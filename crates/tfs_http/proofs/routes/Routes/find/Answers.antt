@@ -1,4 +1,4 @@
--- What the route's name took is the part of the path.
+-- The parameter `name` is the part of the path.
 use Rattle.std.proofs.Common.{subst, MatchOption}
 use Rattle.tfs_http.specs.Routing.{IsPathOf, route_of}
 use Rattle.tfs_http.proofs.TargetLemmas.{part_found, none_found}
