@@ -104,7 +104,7 @@ stop_is_unique text c at d n h k =
     sym (after-pieces text at (c ∷ h.rest) h.begins) ∙ ap (λ m. drop m text) same ∙ after-pieces text n (d ∷ k.rest) k.begins in
     (cc (encodes_same (c ∷ h.rest) (d ∷ k.rest) bytes), same)
 
--- No piece begins where a text stops, because one more piece would make a longer sequence.
+-- No piece begins at the position at which a text stops, because it would make the sequence longer.
 pub stop_begins_no_piece : (text : List ℕ) (c at : ℕ) (h : StopsAt text c at) → BeginsNoPiece (c ∷ h.rest)
 stop_begins_no_piece text c at h piece more valid e =
     let pieces = h.begins.pieces in

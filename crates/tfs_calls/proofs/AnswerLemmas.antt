@@ -83,7 +83,8 @@ act_refusals m name act = by m.stopped (verdict_refusal (acts_of name m.journal)
     by false None p of also = also
     by false (Some refusal) p of also = of
 
--- An answer that is such a refusal, or a reply that is no refusal, is neither of the two.
+-- If the refusal is neither of the two and the reply is no refusal, the answer, which is one of
+-- them, is neither of the two.
 reply_told : (o : Option RefusalValue) (reply : ReplyValue) → IfSome o IsOfTheModel → ((r : RefusalValue) → reply ≢ refused r)
     → (option_map_or refused o reply ≢ refused out_of_memory) × (option_map_or refused o reply ≢ refused journal_fault)
 reply_told None reply of answers = (answers out_of_memory, answers journal_fault)

@@ -14,7 +14,7 @@ use Rattle.tfs_lock.specs.LockText.{id_of, GivesId, SpellsId, id_fault, first_va
 use Rattle.tfs_lock.specs.declared.fault.LockFault.{LockFault}
 use Rattle.tfs_lock.specs.declared.fault.LockFault.TheVariants.{NotJson, NotObject}
 
--- If two options are both Some or both None, the test for None gives the same for both.
+-- If two options are both Some or both None, the test for None has the same result for both.
 none_as : {A B : Type 0} (o : Option A) (p : Option B) → is_some o ≡ is_some p → is_none o ≡ is_none p
 none_as None None e = refl
 none_as None (Some b) e = cc
@@ -38,7 +38,7 @@ same_fault j =
     ap (λ b. cond b (Some NotObject) (id_fault (id_of (kept_data j)))) (none_as (as_object (kept_data j)) (as_object (tree_data j)) (as_object-pruned j))
     ∙ ap (λ o. cond (is_none (as_object (tree_data j))) (Some NotObject) (id_fault o)) (same_id j)
 
--- The identifier given by what is kept of a text's value is the one that the text spells.
+-- If what is kept of a text's value gives an identifier, the text spells it.
 pub id_kept : (bytes : List ℕ) (tree : Tree) (id : List ℕ) → SpellsKept bytes (value_view tree) → GivesId (tree_view tree) id → SpellsId bytes id
 id_kept bytes tree id s g =
     let w = kept_of bytes (value_view tree) s in

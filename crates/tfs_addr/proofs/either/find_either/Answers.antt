@@ -1,4 +1,4 @@
--- If none of the first bytes matches, the first match in the rest is the first of all.
+-- If none of the first 16 bytes matches, the first match in the rest is the first of all.
 use Rattle.std.proofs.Common.{None, Some, arith}
 use Rattle.memchr.specs.Find.{is_byte2}
 use Rattle.tfs_addr.proofs.NearLemmas.{beyond-first}

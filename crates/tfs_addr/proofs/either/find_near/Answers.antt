@@ -1,4 +1,4 @@
--- The first bytes are compared in one step.
+-- The first 16 bytes are compared in one step.
 use Rattle.tfs_addr.proofs.NearLemmas.{near-none, near-some}
 use Rattle.tfs_addr.proofs.either.find_near.Goals as goal
 

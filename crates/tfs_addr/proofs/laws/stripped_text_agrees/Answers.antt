@@ -1,4 +1,5 @@
--- The result of the function satisfies the relation, and the other way round.
+-- The function's result satisfies the relation, and what satisfies the relation is the function's
+-- result.
 use Rattle.tfs_addr.proofs.ReadingLemmas.{stripped_text-some, stripped_text-none, IsStripped-from_some, HasNoReading-from_none}
 use Rattle.tfs_addr.proofs.laws.stripped_text_agrees.Goals as goal
 
