@@ -1,4 +1,4 @@
--- The texts so far have no more bytes than the document.
+-- The counted bytes do not exceed the maximum.
 use Rattle.std.proofs.Common.{◌≤◌, ◌-◌, length}
 use Rattle.tfs_index.proofs.listing.room_for.Given as goal
 
