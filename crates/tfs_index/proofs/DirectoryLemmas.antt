@@ -1,4 +1,4 @@
--- Laws of specs/Directory.antt.
+-- Lemmas about specs/Directory.antt.
 use Rattle.std.proofs.Common.{◌≡◌, ℕ, ◌<◌, Bool, true, false, ◌&&◌, ◌||◌, IsTrue, get_or, List, length, not, Option, Some, None, is_some, IfSome, IfNone}
 use Rattle.std.proofs.Common.{refl, sym, ap, subst, ◌∙◌, inl, inr, arith}
 use Rattle.std.specs.List.{range_with_len}
@@ -25,7 +25,7 @@ bucket_has mask text_of numbers text are v h is =
     has_told numbers (bucket_of mask text) v (bucket_of mask text) (are v text h is) ∙ eq-eqb (bucket_of mask text) (bucket_of mask text) refl
 
 module _ (d : Document) (directory : Directory) (is : IsDirectory d directory) (text : List ℕ) where
-  -- The instances with the address are in the text's bucket.
+  -- An instance with the address is in the bucket of the address.
   pub address_in_bucket : (k : ℕ) → k ≡ bucket_of directory.mask text → (v : ℕ) → address_of d v ≡ Some text → has_number directory.addresses k v ≡ true
   address_in_bucket k e v address =
       let within = names_within d text v (inl address) in
@@ -33,7 +33,7 @@ module _ (d : Document) (directory : Directory) (is : IsDirectory d directory) (
       subst (λ n. has_number directory.addresses n v ≡ true) (sym e)
       (bucket_has directory.mask (address_of d) directory.addresses text is.addresses v (omega (arith, within, long)) address)
 
-  -- And those with the configuration address are in the other.
+  -- An instance with the configuration address is in the bucket of the configuration address.
   pub config_in_bucket : (k : ℕ) → k ≡ bucket_of directory.mask text → (v : ℕ) → config_of d v ≡ Some text → has_number directory.configs k v ≡ true
   config_in_bucket k e v config =
       let within = names_within d text v (inr config) in
@@ -41,7 +41,7 @@ module _ (d : Document) (directory : Directory) (is : IsDirectory d directory) (
       subst (λ n. has_number directory.configs n v ≡ true) (sym e)
       (bucket_has directory.mask (config_of d) directory.configs text is.configs v (omega (arith, within, long)) config)
 
-  -- What a text names is in one of the text's two buckets.
+  -- An instance that a text names is in one of the text's two buckets.
   in_bucket : (v : ℕ) → names d text v ≡ true →
       (has_number directory.addresses (bucket_of directory.mask text) v || has_number directory.configs (bucket_of directory.mask text) v) ≡ true
   in_bucket v named =
@@ -53,7 +53,7 @@ module _ (d : Document) (directory : Directory) (is : IsDirectory d directory) (
         | inr config ↦ or_right a c (config_in_bucket k refl v config)
       ]
 
-  -- A text that names nothing in its two buckets names nothing.
+  -- If a text names no instance in its two buckets, it names no instance.
   pub none_in_buckets :
       ((v : ℕ) → has_number directory.addresses (bucket_of directory.mask text) v ≡ true → names d text v ≡ false) →
       ((v : ℕ) → has_number directory.configs (bucket_of directory.mask text) v ≡ true → names d text v ≡ false) →
@@ -68,7 +68,8 @@ module _ (d : Document) (directory : Directory) (is : IsDirectory d directory) (
         | inr not ↦ not
       ]
 
-  -- What two looks tell: none in the first bucket, and the second tells whether the text names something.
+  -- If no instance in the first bucket is found, the text is unknown if and only if none is found
+  -- in the second bucket either.
   pub not_found : (k : ℕ) → k ≡ bucket_of directory.mask text → (first second : Option ℕ) (none : Bool) → is_some first ≡ false → is_some second ≡ not none →
       IfNone first ((v : ℕ) → has_number directory.addresses k v ≡ true → names d text v ≡ false) →
       IfSome second (λ v. v < length d.instances) → IfSome second (λ v. names d text v ≡ true) →
@@ -84,7 +85,7 @@ module _ (d : Document) (directory : Directory) (is : IsDirectory d directory) (
 -- ---- what is reached from two buckets
 
 module _ (d : Document) (text : List ℕ) (u : ℕ) where
-  -- Some instance that passes a test and is named reaches the other.
+  -- If an instance is reached from the instances that pass a test, it is reached.
   from_test : (passes : ℕ → Bool) → IsTrue (is_reached_from d text passes u) → IsReached d text u
   unfolding is_reached_from
   from_test passes is =
@@ -94,7 +95,7 @@ module _ (d : Document) (text : List ℕ) (u : ℕ) where
       let named = and_parts (names d text one.1) (reaches d one.1 u) both.1 in
       record { from = one.1; named = (names_told d text one.1).0 named.0; reaches = (reach_told d one.1 u).0 named.1 }
 
-  -- One that passes the test does.
+  -- What an instance reaches that passes the test and is named is reached from the test.
   from_one : (passes : ℕ → Bool) (v : ℕ) → passes v ≡ true → Names d text v → Reaches d v u → IsTrue (is_reached_from d text passes u)
   unfolding is_reached_from
   from_one passes v is named walk =
@@ -108,7 +109,8 @@ module _ (d : Document) (text : List ℕ) (u : ℕ) where
       (and_from (names d text v) (reaches d v u) ((names_told d text v).1 named) ((reach_told d v u).1 walk)))
 
   module _ (passes : ℕ → Bool) (all : (v : ℕ) → address_of d v ≡ Some text → passes v ≡ true) where
-    -- Beside the instances with the address, one with the configuration address stands for all of them.
+    -- Together with the instances that have the address, one instance with the configuration
+    -- address reaches everything that is reached.
     pub reached_found : (v : ℕ) → config_of d v ≡ Some text → (is_reached_from d text passes u || reaches d v u) ≡ is_reached d text u
     reached_found v config =
         let b : Bool = is_reached_from d text passes u in
@@ -124,7 +126,8 @@ module _ (d : Document) (text : List ℕ) (u : ℕ) where
           ],
         ) (reached_told d text u)
 
-    -- Where none has the configuration address, there are no others.
+    -- If no instance has the configuration address, the instances with the address reach everything
+    -- that is reached.
     pub reached_rest : ((v : ℕ) → config_of d v ≡ Some text → ⊥) → is_reached_from d text passes u ≡ is_reached d text u
     reached_rest none =
         same_from_decides {P = IsReached d text u} (is_reached_from d text passes u) (is_reached d text u) (

@@ -1,4 +1,4 @@
--- Laws of specs/Impact.antt.
+-- Lemmas about specs/Impact.antt.
 use Rattle.std.proofs.Common.{◌≡◌, ◌≢◌, ◌↔◌, ℕ, suc, zero, ◌+◌, ◌<◌, ◌≤◌, Bool, true, false, ◌&&◌, ◌||◌, cond, not, IsTrue, List, []}
 use Rattle.std.proofs.Common.{◌∷◌, length, map, Option, Some, None, is_some, IfSome, option_map}
 use Rattle.std.proofs.Common.{nat_eq, nat_lt, get_or, filter, position, Bor, add-one}
@@ -23,7 +23,7 @@ use Rattle.tfs_index.proofs.ReachLemmas.{text_told, itself}
 
 -- ---- names
 
--- What tells that a text is another is the test of it.
+-- A test that decides whether a text equals another equals `is_text`.
 same_answer : (o : Option (List ℕ)) (own text : List ℕ) (r : Bool) → o ≡ Some own → IsTrue r ↔ (own ≡ text) → r ≡ is_text o text
 same_answer o own text r at told =
     same_from_decides {P = own ≡ text} r (is_text o text) told (
@@ -32,13 +32,13 @@ same_answer o own text r at told =
     )
 
 module _ (d : Document) (text address : List ℕ) (v : ℕ) (r : Bool) (at : address_of d v ≡ Some address) (told : IsTrue r ↔ (address ≡ text)) where
-  -- The text is the address.
+  -- If the text is the address, the result is that it names the instance.
   pub named_by_address : r ≡ true → r ≡ names d text v
   unfolding names
   named_by_address is =
       is ∙ ap (λ b. b || is_text (config_of d v) text) (sym is ∙ same_answer (address_of d v) address text r at told)
 
-  -- The text isn't the address.
+  -- If the text is not the address, the result is whether it is the configuration address.
   pub named_by_config : (config : List ℕ) (e : Bool) → r ≡ false → config_of d v ≡ Some config → e ≡ pointwise nat_eq config text → e ≡ names d text v
   unfolding names
   named_by_config config e not found is =
@@ -50,14 +50,14 @@ module _ (d : Document) (text address : List ℕ) (v : ℕ) (r : Bool) (at : add
 
 -- ---- what a text names
 
--- A text that names nothing below a bound names nothing among the numbers below it.
+-- If no number below a bound passes a test, the filtered range is empty.
 pub none_named : (p : ℕ → Bool) (n : ℕ) → ((k : ℕ) → k < n → p k ≡ false) → [] ≡ filter p (range_with_len 0 n)
 none_named p zero none = refl
 none_named p (suc n) none =
     filter_range_skips p n [] (none n (omega arith)) (none_named p n (λ k h. none k (omega arith)))
     ∙ ap (λ m. filter p (range_with_len 0 m)) (add-one n)
 
--- A number below a bound that passes stands among those that do.
+-- If some element passes a test, the filtered list is not empty.
 pub some_named : (p : ℕ → Bool) (xs : List ℕ) → list_any p xs ≡ true → nat_eq (length (filter p xs)) 0 ≡ false
 some_named p [] is = absurd (false≢true is)
 some_named p (x ∷ xs) is =
@@ -67,7 +67,7 @@ some_named p (x ∷ xs) is =
     ] is
 
 module _ (d : Document) (text : List ℕ) where
-  -- The text names an instance.
+  -- If the text names an instance, it is not unknown.
   pub known : (v : ℕ) → v < length d.instances → names d text v ≡ true → false ≡ is_unknown d text
   unfolding is_unknown named_by
   known v h is =
@@ -77,12 +77,12 @@ module _ (d : Document) (text : List ℕ) where
       (list_any_at (names d text) (range_with_len 0 (length d.instances)) v 0 (omega (arith, long, h))
       (ap (names d text) (let same : get_or (range_with_len 0 (length d.instances)) v 0 ≡ v = omega (arith, there) in same) ∙ is)))
 
-  -- The text names no instance.
+  -- If the text names no instance, it is unknown.
   pub unknown : ((v : ℕ) → v < length d.instances → names d text v ≡ false) → true ≡ is_unknown d text
   unfolding is_unknown named_by
   unknown none = ap (λ (xs : List ℕ). nat_eq (length xs) 0) (none_named (names d text) (length d.instances) none)
 
-  -- An instance that was found.
+  -- If a named instance was found, the text is not unknown.
   pub found_known : (found : Option ℕ) → is_some found ≡ true → IfSome found (λ v. v < length d.instances) → IfSome found (λ v. names d text v ≡ true) →
       false ≡ is_unknown d text
   found_known None is within named = absurd (false≢true is)
@@ -91,13 +91,13 @@ module _ (d : Document) (text : List ℕ) where
 -- ---- the fault of a query
 
 module _ (d : Document) where
-  -- No text.
+  -- If there is no text, the fault is NoAddress.
   pub no_text : (texts : List (List ℕ)) → length texts ≡ 0 → query_fault d texts ≡ Some NoAddress
   unfolding query_fault
   no_text [] e = refl
   no_text (text ∷ texts) e = absurd (omega arith)
 
-  -- More than 64 texts.
+  -- If there are more than 64 texts, the fault is TooManyAddresses.
   pub many_texts : (texts : List (List ℕ)) → 64 < length texts → query_fault d texts ≡ Some TooManyAddresses
   unfolding query_fault
   many_texts [] h = absurd (omega arith)
@@ -105,7 +105,7 @@ module _ (d : Document) where
       cond-true (nat_lt 64 (length (text ∷ texts))) (Some TooManyAddresses) (option_map UnknownAddress (position (is_unknown d) (text ∷ texts)))
       (lt-ltb 64 (length (text ∷ texts)) h)
 
-  -- From one to 64 texts.
+  -- For 1 to 64 texts, the fault is that of the first unknown text.
   pub few_texts : (texts : List (List ℕ)) → length texts ≢ 0 → length texts ≤ 64 →
       query_fault d texts ≡ option_map UnknownAddress (position (is_unknown d) texts)
   unfolding query_fault
@@ -114,13 +114,13 @@ module _ (d : Document) where
       cond-false (nat_lt 64 (length (text ∷ texts))) (Some TooManyAddresses) (option_map UnknownAddress (position (is_unknown d) (text ∷ texts)))
       (le-ltb 64 (length (text ∷ texts)) h)
 
--- Where there is no fault, there is a text.
+-- If there is no fault, there is at least one text.
 pub some_text : (d : Document) (texts : List (List ℕ)) → query_fault d texts ≡ None → 0 < length texts
 unfolding query_fault
 some_text d [] e = cc
 some_text d (text ∷ texts) e = omega arith
 
--- No fault of the texts is want of memory.
+-- The fault of a query's texts is not NoMemory.
 pub fault_of_texts : (d : Document) (texts : List (List ℕ)) → query_fault d texts ≡ Some NoMemory → ⊥
 unfolding query_fault
 fault_of_texts d [] e = cc
@@ -134,17 +134,17 @@ fault_of_texts d (text ∷ texts) e =
       ] f
     ] e
 
--- The first text that passes, texts as they are lent.
+-- The length of the prefix that passes is the same for lent texts.
 prefix_of_lent : {A B : Type 0} (h : A → B) (p : B → Bool) (xs : List A) → prefix_len (λ x. p (h x)) xs ≡ prefix_len p (map h xs)
 prefix_of_lent h p [] = refl
 prefix_of_lent h p (x ∷ xs) = ap (λ n. cond (p (h x)) (1 + n) 0) (prefix_of_lent h p xs)
 
--- And its place.
+-- The position of the first text that passes is the same for lent texts.
 pub position_of_lent : {A B : Type 0} (h : A → B) (p : B → Bool) (xs : List A) → position (λ x. p (h x)) xs ≡ position p (map h xs)
 position_of_lent h p xs =
     ap₂ (λ n m. cond (nat_lt n m) (Some n) None) (prefix_of_lent h (λ x. not (p x)) xs) (sym (length-map xs h))
 
--- The first text that names nothing decides, where there are neither no texts nor too many.
+-- For 1 to 64 texts, the first unknown text decides the fault.
 pub few_found : (d : Document) (texts : List (Bor (List ℕ))) (found : Option ℕ) → length texts ≢ 0 → length texts ≤ 64 →
     found ≡ position (λ (text : Bor (List ℕ)). is_unknown d text.now) texts →
     option_map UnknownAddress found ≡ query_fault d (map (λ (text : Bor (List ℕ)). text.now) texts)
@@ -156,17 +156,17 @@ few_found d texts found some few is =
 
 -- ---- lists of members
 
--- What some of the texts tells, texts as they are lent.
+-- Whether some text passes is the same for lent texts.
 any_of_lent : {A B : Type 0} (h : A → B) (p : B → Bool) (xs : List A) → list_any (λ x. p (h x)) xs ≡ list_any p (map h xs)
 any_of_lent h p [] = refl
 any_of_lent h p (x ∷ xs) = ap (λ b. p (h x) || b) (any_of_lent h p xs)
 
--- And what each tells.
+-- Whether each text passes is the same for lent texts.
 all_of_lent : {A B : Type 0} (h : A → B) (p : B → Bool) (xs : List A) → list_all (λ x. p (h x)) xs ≡ list_all p (map h xs)
 all_of_lent h p [] = refl
 all_of_lent h p (x ∷ xs) = ap (λ b. p (h x) && b) (all_of_lent h p xs)
 
--- What holds of the first and of each holds of each.
+-- If a property holds for the first and for each element, it holds for each element.
 pub all_with_first : {A : Type 0} (p : A → Bool) (xs : List A) (d : A) → 0 < length xs → (p (get_or xs 0 d) && list_all p xs) ≡ list_all p xs
 all_with_first p [] d h = absurd (omega (arith, h))
 all_with_first p (x ∷ xs) d h = and_twice (p x) (list_all p xs)
@@ -176,7 +176,7 @@ all_with_first p (x ∷ xs) d h = and_twice (p x) (list_all p xs)
     and_twice false b = refl
 
 module _ (d : Document) (texts : List (Bor (List ℕ))) (row : NumberSet) (size : row.size ≡ length d.instances) where
-  -- The members of a row that some text gives are the impact of any.
+  -- If a row has what some text reaches, its members are the impact of any of the texts.
   pub any_members : ((u : ℕ) → contains row.members u ≡ list_any (λ (text : Bor (List ℕ)). is_reached d text.now u) texts) →
       rising_members row ≡ any_impact d (map (λ (text : Bor (List ℕ)). text.now) texts)
   unfolding any_impact
@@ -185,7 +185,7 @@ module _ (d : Document) (texts : List (Bor (List ℕ))) (row : NumberSet) (size 
       ∙ filter_agree (contains row.members) (λ u. list_any (λ text. is_reached d text u) (map (λ (text : Bor (List ℕ)). text.now) texts))
       (λ u. told u ∙ any_of_lent (λ (text : Bor (List ℕ)). text.now) (λ text. is_reached d text u) texts) (range_with_len 0 (length d.instances))
 
-  -- The members of a row that each text gives are the impact of all.
+  -- If a row has what each text reaches, its members are the impact of all texts.
   pub all_members : ((u : ℕ) → contains row.members u ≡ list_all (λ (text : Bor (List ℕ)). is_reached d text.now u) texts) →
       rising_members row ≡ all_impact d (map (λ (text : Bor (List ℕ)). text.now) texts)
   unfolding all_impact
@@ -195,7 +195,7 @@ module _ (d : Document) (texts : List (Bor (List ℕ))) (row : NumberSet) (size 
       (λ u. told u ∙ all_of_lent (λ (text : Bor (List ℕ)). text.now) (λ text. is_reached d text u) texts) (range_with_len 0 (length d.instances))
 
 module _ (d : Document) (texts : List (Bor (List ℕ))) (n : ℕ) (numbers : List ℕ) (end : n ≡ length d.instances) where
-  -- The instances that some text gives are the impact of any.
+  -- The instances that some text reaches are the impact of any of the texts.
   pub any_filtered : numbers ≡ filter (λ u. list_any (λ (text : Bor (List ℕ)). is_reached d text.now u) texts) (range_with_len 0 n) →
       numbers ≡ any_impact d (map (λ (text : Bor (List ℕ)). text.now) texts)
   unfolding any_impact
@@ -205,7 +205,7 @@ module _ (d : Document) (texts : List (Bor (List ℕ))) (n : ℕ) (numbers : Lis
       (λ u. list_any (λ text. is_reached d text u) (map (λ (text : Bor (List ℕ)). text.now) texts))
       (λ u. any_of_lent (λ (text : Bor (List ℕ)). text.now) (λ text. is_reached d text u) texts) (range_with_len 0 (length d.instances))
 
-  -- The instances that each text gives are the impact of all.
+  -- The instances that each text reaches are the impact of all texts.
   pub all_filtered : numbers ≡ filter (λ u. list_all (λ (text : Bor (List ℕ)). is_reached d text.now u) texts) (range_with_len 0 n) →
       numbers ≡ all_impact d (map (λ (text : Bor (List ℕ)). text.now) texts)
   unfolding all_impact
@@ -216,12 +216,12 @@ module _ (d : Document) (texts : List (Bor (List ℕ))) (n : ℕ) (numbers : Lis
       (λ u. all_of_lent (λ (text : Bor (List ℕ)). text.now) (λ text. is_reached d text u) texts) (range_with_len 0 (length d.instances))
 
 module _ (d : Document) (texts : List (List ℕ)) (none : length d.instances ≡ 0) where
-  -- Nothing is reached where there are no instances.
+  -- The impact of any is empty if the document has no instances.
   pub no_any : [] ≡ any_impact d texts
   unfolding any_impact
   no_any = ap (λ m. filter (λ u. list_any (λ text. is_reached d text u) texts) (range_with_len 0 m)) (sym none)
 
-  -- By each text neither.
+  -- The impact of all is empty if the document has no instances.
   pub no_all : [] ≡ all_impact d texts
   unfolding all_impact
   no_all = ap (λ m. filter (λ u. list_all (λ text. is_reached d text u) texts) (range_with_len 0 m)) (sym none)

@@ -1,4 +1,4 @@
--- Laws of specs/Index.antt.
+-- Lemmas about specs/Index.antt.
 use Rattle.std.proofs.Common.{◌≡◌, ◌↔◌, ℕ, ◌+◌, ◌<◌, Bool, true, false, ◌&&◌, ◌||◌, List, [], ◌∷◌, length, ltb, leb, eqb, Some, None}
 use Rattle.std.proofs.Common.{refl, sym, ap, ap₂, subst, ◌∙◌, inl, inr, arith}
 use Rattle.std.specs.List.{list_any, slice_get}
@@ -22,7 +22,7 @@ use Rattle.tfs_index.proofs.ReachLemmas.{depends_told, depends_within, target_wi
 
 -- ---- the closed plane
 
--- The closure of the relation to dependents is that of what is reached.
+-- The closure of the plane of dependents relates each instance to those that it reaches.
 pub closed_plane : (d : Document) (old new : Relation) → HasDependents d old → new.size ≡ old.size →
     ((i j : ℕ) → Relates new i j ↔ Joins (Relates old) i j) → HasReached d new
 closed_plane d old new dependents size walks = record {
@@ -35,7 +35,7 @@ closed_plane d old new dependents size walks = record {
 
 -- ---- pairs that are added
 
--- One more pair of an instance.
+-- A case added as a separate conjunction equals the case added inside the conjunction.
 one_more : (before same some here : Bool) → ((here && same) || (before || (same && some))) ≡ (before || (same && (some || here)))
 one_more true true some true = refl
 one_more true true some false = refl
@@ -48,14 +48,14 @@ one_more false true false false = refl
 one_more false false some true = refl
 one_more false false some false = refl
 
--- Nothing comes from what fails.
+-- Adding a case that is false changes nothing.
 pub nothing_more : (before same some : Bool) → some ≡ false → before ≡ (before || (same && some))
 nothing_more true same some e = refl
 nothing_more false true some e = sym e
 nothing_more false false some e = refl
 
 module _ (numbers : List ℕ) (k : ℕ) where
-  -- Behind the last instance with a number there is none.
+  -- No instance from the last place on has the number.
   pub walk_start : (place v : ℕ) → IsBehindLast numbers k (length numbers) place → (leb place v && has_number numbers k v) ≡ false
   walk_start place v last =
       elim (cases_lt v place) [
@@ -66,7 +66,7 @@ module _ (numbers : List ℕ) (k : ℕ) where
         ])
       ]
 
-  -- Down to the one before, there is one instance more with the number.
+  -- Going back to the previous place adds exactly one instance with the number.
   pub walk_more : (at place v : ℕ) → has_number numbers k at ≡ true → IsBehindLast numbers k at place →
       (leb place v && has_number numbers k v) ≡ ((leb (at + 1) v && has_number numbers k v) || eqb v at)
   walk_more at place v is before =
@@ -92,11 +92,11 @@ module _ (numbers : List ℕ) (k : ℕ) where
       or_none true = refl
       or_none false = refl
 
-  -- From the first place on, each instance counts.
+  -- From place 0 on, each instance counts.
   pub walk_end : (place v : ℕ) → place ≡ 0 → (leb place v && has_number numbers k v) ≡ has_number numbers k v
   walk_end place v first = ap (λ b. b && has_number numbers k v) (le-leb place v (omega (arith, first)))
 
-  -- The pairs after one more instance with the number.
+  -- One step: the plane gains the pair of the next instance with the number.
   pub each_step : (first old new : Relation) (at held place u v w : ℕ) → new.pairs ≡ insert old.pairs (at, u) → has_number numbers k at ≡ true →
       held ≡ at + 1 → IsBehindLast numbers k at place →
       contains old.pairs (v, w) ≡ (contains first.pairs (v, w) || (eqb w u && (leb held v && has_number numbers k v))) →
@@ -111,7 +111,7 @@ module _ (numbers : List ℕ) (k : ℕ) where
       ∙ one_more had (eqb w u) some (eqb v at)
       ∙ ap (λ b. had || (eqb w u && b)) (sym (walk_more at place v is before))
 
--- One more instance whose dependencies are related.
+-- One step: after the dependencies of instance u are related, those of all instances up to u are.
 pub instance_step : (w u : ℕ) (depends here : Bool) → (w ≡ u → here ≡ depends) → ((ltb w u && depends) || (eqb w u && here)) ≡ (ltb w (u + 1) && depends)
 instance_step w u depends here same =
     elim (cases_eq w u) [
@@ -129,7 +129,7 @@ instance_step w u depends here same =
     or-none true = refl
     or-none false = refl
 
--- Each instance is below the end.
+-- Each instance that depends on another is below the end.
 pub below_all : (d : Document) (n u v : ℕ) → n ≡ length d.instances → (ltb u n && depends_on d u v) ≡ depends_on d u v
 below_all d n u v e =
     elim (cases_lt u n) [
@@ -142,24 +142,24 @@ below_all d n u v e =
 
 -- ---- numbers
 
--- Two tests that agree.
+-- Tests that agree at each element agree on the list.
 pub any_alike : (p q : ℕ → Bool) → ((x : ℕ) → p x ≡ q x) → (xs : List ℕ) → list_any p xs ≡ list_any q xs
 any_alike p q same [] = refl
 any_alike p q same (x ∷ xs) = ap₂ (λ a b. a || b) (same x) (any_alike p q same xs)
 
--- No element passes a test that fails.
+-- No element passes a test that always fails.
 pub any_none : (xs : List ℕ) → list_any (λ x. false) xs ≡ false
 any_none [] = refl
 any_none (x ∷ xs) = any_none xs
 
--- Equality of numbers goes either way.
+-- Equality of numbers is symmetric.
 eqb_turned : (a b : ℕ) → eqb a b ≡ eqb b a
 eqb_turned a b = elim (cases_eq a b) [
   | inl same ↦ eq-eqb a b same ∙ sym (eq-eqb b a (sym same))
   | inr other ↦ ne_eqb a b other ∙ sym (ne_eqb b a (λ e. other (sym e)))
 ]
 
--- An instance depends on those whose number is among its numbers.
+-- An instance depends on the instances whose number is among its numbers.
 pub numbers_told : (d : Document) (table : NumberTable) → IsNumbering d table → (u : ℕ) (numbers : List ℕ) →
     slice_get table.dependencies u ≡ Some numbers → (v : ℕ) → list_any (λ k. has_number table.configs k v) numbers ≡ depends_on d u v
 numbers_told d table numbering u numbers at v =

@@ -1,4 +1,4 @@
--- The functions of specs/Impact.antt tell its facts.
+-- The functions of specs/Impact.antt decide its relations.
 use Rattle.std.proofs.Common.{◌≡◌, ◌↔◌, ◌⊎◌, ℕ, suc, zero, ◌+◌, ◌<◌, ◌≤◌, Bool, true, ◌&&◌}
 use Rattle.std.proofs.Common.{IsTrue, List, [], ◌∷◌, length, filter, Some, None, eqb, option_map, option_and_then, Contains}
 use Rattle.std.proofs.Common.{refl, sym, ap, subst, ◌∙◌, inl, inr, arith}
@@ -21,14 +21,14 @@ use Rattle.tfs_index.proofs.ReachLemmas.{text_told, depends_within, reach_told}
 
 -- ---- lists
 
--- The test of an element tells that it is there.
+-- The test for an element decides whether the list contains it.
 pub member_told : (xs : List ℕ) (x : ℕ) → (list_any (λ y. eqb y x) xs ≡ true) ↔ Contains xs x
 member_told xs x = (
   λ is. let one = Any-from_list_any (λ y. eqb y x) xs is in subst (Contains xs) (eqb-true one.1 x one.4) (one.0, one.2, one.3),
   λ there. list_any_at (λ y. eqb y x) xs there.0 x there.1 (ap (λ y. eqb y x) there.2 ∙ eq-eqb x x refl),
 )
 
--- The numbers below a bound that pass a test.
+-- The filtered range contains the numbers below the bound that pass the test.
 passed_told : (p : ℕ → Bool) (n u : ℕ) → Contains (filter p (range_with_len 0 n)) u ↔ ((u < n) × (p u ≡ true))
 passed_told p n u =
     let split : list_any (λ y. eqb y u) (filter p (range_with_len 0 n)) ≡ (p u && list_any (λ y. eqb y u) (range_with_len 0 n)) =
@@ -46,7 +46,7 @@ passed_told p n u =
           (any_in_range 0 n u (omega arith) (let below = both.0 in omega arith))),
     )
 
--- Numbers below a bound rise.
+-- A filtered range is strictly increasing.
 passed_rise : (p : ℕ → Bool) (n : ℕ) → IsStrictlyIncreasing (filter p (range_with_len 0 n))
 passed_rise p n =
     IsStrictlyIncreasing-filter p (range_with_len 0 n)
@@ -56,12 +56,12 @@ passed_rise p n =
     omega arith)
 
 module _ {X : Type 0} (p : X → Bool) where
-  -- The elements of a list behind its first.
+  -- If the first element and each element of the rest pass a test, each element passes it.
   each_of_all : (x : X) (xs : List X) → p x ≡ true → ((y : X) → Contains xs y → p y ≡ true) → (y : X) → Contains (x ∷ xs) y → p y ≡ true
   each_of_all x xs first rest y (zero, h, e) = ap p (sym e) ∙ first
   each_of_all x xs first rest y (suc k, h, e) = rest y (k, (omega arith), e)
 
-  -- The test of all elements tells that each passes.
+  -- The test of all elements decides whether each passes.
   all_pass : (xs : List X) → (list_all p xs ≡ true) ↔ ((x : X) → Contains xs x → p x ≡ true)
   all_pass [] = (λ is x there. absurd (let h = there.1 in omega arith), λ each. refl)
   all_pass (x ∷ xs) =
@@ -74,7 +74,7 @@ module _ {X : Type 0} (p : X → Bool) where
 -- ---- names
 
 module _ (d : Document) (text : List ℕ) where
-  -- The test tells that the text names an instance.
+  -- The test `names` decides whether a text names an instance.
   pub names_told : (v : ℕ) → IsTrue (names d text v) ↔ Names d text v
   unfolding names
   names_told v = (
@@ -88,7 +88,7 @@ module _ (d : Document) (text : List ℕ) where
     ],
   )
 
-  -- What a text names is an instance.
+  -- A number that a text names is the number of an instance.
   pub names_within : (v : ℕ) → Names d text v → v < length d.instances
   names_within v named =
       elim (slice_get d.instances v) as (λ o. slice_get d.instances v ≡ o →
@@ -99,7 +99,7 @@ module _ (d : Document) (text : List ℕ) where
         | None ↦ λ is e. elim e [ inl one ↦ cc | inr other ↦ cc ]
       ] refl named
 
-  -- The instances that a text names.
+  -- The list `named_by` contains exactly the instances that a text names.
   pub named_told : (v : ℕ) → Contains (named_by d text) v ↔ Names d text v
   unfolding named_by
   named_told v =
@@ -108,7 +108,7 @@ module _ (d : Document) (text : List ℕ) where
         λ named. told.1 (names_within v named, (names_told v).1 named),
       )
 
-  -- The test tells that an instance which the text names reaches another.
+  -- The test `is_reached` decides whether an instance that the text names reaches another.
   pub reached_told : (u : ℕ) → IsTrue (is_reached d text u) ↔ IsReached d text u
   unfolding is_reached
   reached_told u = (
@@ -121,14 +121,14 @@ module _ (d : Document) (text : List ℕ) where
         (ap (λ v. reaches d v u) there.2 ∙ (reach_told d reached.from u).1 reached.reaches),
   )
 
-  -- What is reached is an instance.
+  -- A number that is reached is the number of an instance.
   reached_within : (u : ℕ) → IsReached d text u → u < length d.instances
   reached_within u reached = let first = start_of_joins (DependsOn d) u reached.from reached.reaches in depends_within d u first.0 first.1
 
 -- ---- impact
 
 module _ (d : Document) (texts : List (List ℕ)) where
-  -- The impact of any of the texts.
+  -- The impact of any contains exactly the instances that some text reaches.
   pub any_told : (u : ℕ) → Contains (any_impact d texts) u ↔ IsReachedBySome d texts u
   unfolding any_impact
   any_told u =
@@ -143,7 +143,7 @@ module _ (d : Document) (texts : List (List ℕ)) where
         ),
       )
 
-  -- The impact of all texts.
+  -- The impact of all contains exactly the instances that each text reaches.
   pub all_told : (u : ℕ) → Contains (all_impact d texts) u ↔ IsReachedByEach d texts u
   unfolding all_impact
   all_told u =
@@ -155,20 +155,22 @@ module _ (d : Document) (texts : List (List ℕ)) where
         λ each. told.1 (each.within, (all_pass p texts).1 (λ text given. (reached_told d text u).1 (each.reached text given))),
       )
 
-  -- The impact of any rises.
+  -- The impact of any is strictly increasing.
   pub any_rises : IsStrictlyIncreasing (any_impact d texts)
   unfolding any_impact
   any_rises = passed_rise (λ u. list_any (λ text. is_reached d text u) texts) (length d.instances)
 
-  -- The impact of all texts rises.
+  -- The impact of all is strictly increasing.
   pub all_rises : IsStrictlyIncreasing (all_impact d texts)
   unfolding all_impact
   all_rises = passed_rise (λ u. list_all (λ text. is_reached d text u) texts) (length d.instances)
 
-  -- A list that is the impact of any of the texts.
+  -- A list equal to the impact of any has exactly the instances that some text reaches, in
+  -- ascending order.
   pub any_listed : (numbers : List ℕ) → numbers ≡ any_impact d texts → IsRisingListOf (IsReachedBySome d texts) numbers
   any_listed numbers is = subst (IsRisingListOf (IsReachedBySome d texts)) (sym is) (record { rises = any_rises; members = any_told })
 
-  -- A list that is the impact of all texts.
+  -- A list equal to the impact of all has exactly the instances that each text reaches, in
+  -- ascending order.
   pub all_listed : (numbers : List ℕ) → numbers ≡ all_impact d texts → IsRisingListOf (IsReachedByEach d texts) numbers
   all_listed numbers is = subst (IsRisingListOf (IsReachedByEach d texts)) (sym is) (record { rises = all_rises; members = all_told })

@@ -1,4 +1,4 @@
--- Laws of specs/Links.antt.
+-- Lemmas about specs/Links.antt.
 use Rattle.std.proofs.Common.{◌≡◌, ℕ, suc, zero, ◌+◌, ◌-◌, ◌<◌, ◌≤◌, true, false, cond, List, [], ◌∷◌, ◌++◌, length, get_or, eqb, Option, Some, None}
 use Rattle.std.proofs.Common.{refl, sym, ap, subst, ◌∙◌, inl, inr, arith}
 use Rattle.std.specs.List.{slice_get}
@@ -10,15 +10,15 @@ use Rattle.std.proofs.lemmas.Option.{slice_get_past, slice_get_within}
 use Rattle.tfs_index.specs.Links.{has_number, IsBehindLast, AreLinks}
 
 module _ (numbers : List ℕ) (k : ℕ) where
-  -- What is no instance has no number.
+  -- No number at or beyond the count of instances has a number.
   pub has_past : (v : ℕ) → length numbers ≤ v → has_number numbers k v ≡ false
   has_past v past = ap (λ (o : Option ℕ). option_map_or (λ n. eqb n k) o false) (slice_get_past numbers v past)
 
-  -- The number of an instance is looked up.
+  -- An instance has the number that the list has at its index.
   pub has_told : (v number : ℕ) → slice_get numbers v ≡ Some number → has_number numbers k v ≡ eqb number k
   has_told v number at = ap (λ (o : Option ℕ). option_map_or (λ n. eqb n k) o false) at
 
-  -- And what has a number is an instance with it.
+  -- If an instance has number k, the list has k at its index.
   pub number_told : (v : ℕ) → has_number numbers k v ≡ true → slice_get numbers v ≡ Some k
   number_told v is =
       elim (slice_get numbers v) as (λ o. option_map_or (λ n. eqb n k) o false ≡ true → o ≡ Some k) [
@@ -26,7 +26,7 @@ module _ (numbers : List ℕ) (k : ℕ) where
         | None ↦ λ e. absurd (false≢true e)
       ] is
 
-  -- No instance is below 0.
+  -- Below 0 there is no instance, so the place is 0.
   pub none_behind : (place : ℕ) → place ≡ 0 → IsBehindLast numbers k 0 place
   none_behind place e = record {
     within = omega arith;
@@ -34,7 +34,7 @@ module _ (numbers : List ℕ) (k : ℕ) where
     behind = λ v h i. absurd (omega arith);
   }
 
-  -- The place of an instance with the number.
+  -- If instance v has the number, the place for the end v + 1 is v + 1.
   behind_this : (v place : ℕ) → has_number numbers k v ≡ true → place ≡ v + 1 → IsBehindLast numbers k (v + 1) place
   behind_this v place is e = record {
     within = omega arith;
@@ -42,7 +42,7 @@ module _ (numbers : List ℕ) (k : ℕ) where
     behind = λ x h i. absurd (omega arith);
   }
 
-  -- The place stays where an instance has another number.
+  -- If instance v has another number, the place is unchanged.
   behind_other : (v old place : ℕ) → has_number numbers k v ≡ false → place ≡ old → IsBehindLast numbers k v old → IsBehindLast numbers k (v + 1) place
   behind_other v old place not e before =
       let within = before.within in
@@ -56,7 +56,7 @@ module _ (numbers : List ℕ) (k : ℕ) where
       }
 
 module _ (numbers : List ℕ) (v number : ℕ) (at : slice_get numbers v ≡ Some number) where
-  -- The places behind the last instances, after one more.
+  -- The places of the last instances, after one more instance.
   pub lasts_more : (old new : List ℕ) → ((k : ℕ) → get_or new k 0 ≡ cond (eqb k number) (v + 1) (get_or old k 0)) →
       ((k : ℕ) → IsBehindLast numbers k v (get_or old k 0)) → (k : ℕ) → IsBehindLast numbers k (v + 1) (get_or new k 0)
   lasts_more old new put so_far k =
@@ -67,7 +67,7 @@ module _ (numbers : List ℕ) (v number : ℕ) (at : slice_get numbers v ≡ Som
             (put k ∙ cond-false (eqb k number) (v + 1) (get_or old k 0) (ne_eqb k number other)) (so_far k)
       ]
 
-  -- The places of the instances before, after one more.
+  -- The places of the last earlier instances, after one more instance.
   pub befores_more : (old new : List ℕ) (before : ℕ) → length old ≡ v → new ≡ old ++ before ∷ [] → IsBehindLast numbers number v before →
       ((w n : ℕ) → w < v → slice_get numbers w ≡ Some n → IsBehindLast numbers n w (get_or old w 0)) →
       (w n : ℕ) → w < v + 1 → slice_get numbers w ≡ Some n → IsBehindLast numbers n w (get_or new w 0)
@@ -95,12 +95,13 @@ module _ (numbers : List ℕ) (v number : ℕ) (at : slice_get numbers v ≡ Som
       get_or_last (x ∷ xs) y zero h = absurd (omega arith)
       get_or_last (x ∷ xs) y (suc i) h = get_or_last xs y i (omega arith)
 
--- The place before that of an instance with the number.
+-- The link of the instance before a place is the place of the last earlier instance with its
+-- number.
 pub before_place : (numbers : List ℕ) (k place next : ℕ) → 0 < place → ((v : ℕ) → place ≡ v + 1 → has_number numbers k v ≡ true) →
     ((number : ℕ) → slice_get numbers (place - 1) ≡ Some number → IsBehindLast numbers number (place - 1) next) → IsBehindLast numbers k (place - 1) next
 before_place numbers k place next some here before = before k (number_told numbers k (place - 1) (here (place - 1) (omega (arith, some))))
 
--- Zeros are 0 at each place, also past their end.
+-- A list of zeros has 0 at every index, also beyond its end.
 pub zero_at : (n k : ℕ) → let zeros : List ℕ = replicate n 0 in get_or zeros k 0 ≡ 0
 zero_at n k =
     let zeros : List ℕ = replicate n 0 in
@@ -109,7 +110,7 @@ zero_at n k =
       | inr above ↦ let long : length zeros ≡ n = length-replicate {A = ℕ} n 0 in get_or_past zeros k 0 (omega (arith, above, long))
     ]
 
--- What holds at the end of the loop over the numbers.
+-- At the end of the loop, the lists are the links of the numbers.
 pub links_made : (numbers lasts befores : List ℕ) (v : ℕ) → v ≡ length numbers → length befores ≡ v →
     ((k : ℕ) → IsBehindLast numbers k v (get_or lasts k 0)) →
     ((w n : ℕ) → w < v → slice_get numbers w ≡ Some n → IsBehindLast numbers n w (get_or befores w 0)) → AreLinks numbers lasts befores

@@ -1,4 +1,4 @@
--- Laws of the addresses of instances as they stand in a list.
+-- Lemmas about the addresses of instances as elements of a list of JSON texts.
 use Rattle.std.proofs.Common.{◌≡◌, ◌<◌, ◌≤◌, ◌+◌, ◌-◌, ◌∙◌, ℕ, List, [], ◌∷◌, ◌++◌, length, take, drop, get_or, Option, Some, None, Bor, zero, suc, inl, inr}
 use Rattle.std.proofs.Common.{codes, sym, ap, arith, append_assoc, append-nil, length-append}
 use Rattle.std.specs.Option.{IfSome}
@@ -13,7 +13,8 @@ use Rattle.tfs_state.specs.Dependency.{address_of}
 use Rattle.tfs_index.specs.declared.listing.Listing.{Listing}
 use Rattle.tfs_index.specs.Listing.{IsListing, addresses_from, next_address}
 
--- The texts of some first instances, and those of the instances behind them, are the texts of all.
+-- The texts of the first instances, followed by the texts of the next instances, are the texts of
+-- both.
 pub addresses_joined : (d : Document) (first count : ℕ)
     → addresses_from d 0 (first + count) ≡ addresses_from d 0 first ++ addresses_from d first count
 addresses_joined d first zero =
@@ -27,7 +28,7 @@ addresses_joined d first (suc count) =
     ∙ ap (λ (t : List ℕ). t ++ next_address (address_of d (first + count))) (addresses_joined d first count)
     ∙ append_assoc (addresses_from d 0 first) (addresses_from d first count) (next_address (address_of d (first + count)))
 
--- The texts from one instance up to another stand between the ends of those before them.
+-- The texts of the instances from `first` to `end` are the bytes between two ends.
 pub text_between : (d : Document) (text : List ℕ) (first end all begin stop : ℕ) → first ≤ end → end ≤ all → text ≡ addresses_from d 0 all
     → begin ≡ length (addresses_from d 0 first) → stop ≡ length (addresses_from d 0 end)
     → take (stop - begin) (drop begin text) ≡ addresses_from d first (end - first)
@@ -49,7 +50,7 @@ text_between d text first end all begin stop ordered within whole begins stops =
     ∙ ap (take (length middle)) (drop-append_seam before (middle ++ behind))
     ∙ take-append_seam middle behind
 
--- The text of an instance is added in two parts.
+-- Adding the quoted and escaped parts of an address adds the text of one more instance.
 pub text_more : (d : Document) (count : ℕ) (old begun one two front tail : List ℕ) → old ≡ addresses_from d 0 count
     → address_of d count ≡ Some (front ++ tail) → begun ≡ old ++ codes "\",\"" → one ≡ begun ++ escape front → two ≡ one ++ escape tail
     → two ≡ addresses_from d 0 (count + 1)
@@ -66,7 +67,7 @@ text_more d count old begun one two front tail so_far is opened fronted tailed =
     ∙ ap (λ (n : ℕ). addresses_from d 0 count ++ next_address (address_of d n)) (sym same)
     ∙ ap (addresses_from d 0) (sym further)
 
--- One end more.
+-- Adding the end of one more instance keeps the ends right.
 pub ends_more : (d : Document) (old new : List ℕ) (size : ℕ) → new ≡ old ++ size ∷ []
     → ((i : ℕ) → i < length old → get_or old i 0 ≡ length (addresses_from d 0 (i + 1)))
     → size ≡ length (addresses_from d 0 (length old + 1))
@@ -80,7 +81,7 @@ ends_more d old new size is so_far last i within =
       | inr before ↦ ap (λ (xs : List ℕ). get_or xs i 0) is ∙ get_or-append old (size ∷ []) 0 i before ∙ so_far i before
     ]
 
--- What a listing lends between two ends.
+-- The part of a listing between two ends has the texts of the instances between them.
 pub text_lent : (listing : Listing) (text : List ℕ) (first end begin stop : ℕ) (lent : Option (Bor (List ℕ)))
     → IsGetRangeResult text begin stop lent → text ≡ listing.text.items → first ≤ end → end ≤ length listing.ends.items
     → ((d : Document) → IsListing d listing → begin ≡ length (addresses_from d 0 first))

@@ -1,4 +1,4 @@
--- Laws of specs/Reach.antt: the tests tell the facts.
+-- Lemmas about specs/Reach.antt: its tests decide its relations.
 use Rattle.std.proofs.Common.{◌≡◌, ◌↔◌, ℕ, zero, suc, ◌+◌, ◌<◌, Bool, true, ◌&&◌, IsTrue, List, [], ◌∷◌, length, Option, Some, None, nat_eq, option_and_then}
 use Rattle.std.proofs.Common.{refl, sym, ap, subst, ◌∙◌, inl, inr, arith}
 use Rattle.std.specs.List.{list_any, slice_get}
@@ -18,12 +18,12 @@ use Rattle.tfs_index.specs.Reach.{Reaches, is_text, dependencies_of, lists, depe
 
 -- ---- texts
 
--- A text is itself.
+-- A text equals itself.
 pub itself : (xs : List ℕ) → pointwise nat_eq xs xs ≡ true
 itself [] = refl
 itself (x ∷ xs) = and_from (nat_eq x x) (pointwise nat_eq xs xs) (eq-eqb x x refl) (itself xs)
 
--- The test of a text tells that it is there.
+-- The test `is_text` decides whether there is a text and it is this one.
 pub text_told : (o : Option (List ℕ)) (text : List ℕ) → IsTrue (is_text o text) ↔ (o ≡ Some text)
 unfolding is_text
 text_told None text = (λ is. absurd (false≢true is), λ is. cc)
@@ -34,18 +34,18 @@ text_told (Some own) text = (
 
 -- ---- dependencies
 
--- The dependency texts of an instance that is there.
+-- The dependency texts of an instance that exists are its dependencies.
 texts_of_found : (d : Document) (u : ℕ) (instance : Instance) → slice_get d.instances u ≡ Some instance → dependencies_of d u ≡ instance.dependencies
 texts_of_found d u instance found = ap (λ (o : Option Instance). option_map_or (λ (i : Instance). i.dependencies) o []) found
 
--- Where there are dependency texts, there is an instance.
+-- If there is a dependency text, there is an instance.
 found_of_text : (o : Option Instance) (k : ℕ) → k < length (option_map_or (λ (i : Instance). i.dependencies) o []) → (instance : Instance) × (o ≡ Some instance)
 found_of_text None k h = absurd (omega arith)
 found_of_text (Some instance) k h = (instance, refl)
 
--- The test tells what one instance depends on.
+-- The test `depends_on` decides whether one instance depends on another.
 module _ (d : Document) (u v : ℕ) where
-  -- From an address of v that is among the texts of u.
+  -- If the stripped texts of u include the configuration address of v, u depends on v.
   depends_from : (address : List ℕ) → config_of d v ≡ Some address → list_any (λ text. is_text (stripped_text text) address) (dependencies_of d u) ≡ true
       → DependsOn d u v
   depends_from address is any =
@@ -64,7 +64,7 @@ module _ (d : Document) (u v : ℕ) where
         same = is;
       }
 
-  -- The test tells that instance u depends on instance v.
+  -- The test decides whether instance u depends on instance v.
   pub depends_told : IsTrue (depends_on d u v) ↔ DependsOn d u v
   unfolding depends_on lists
   depends_told = (
@@ -84,11 +84,11 @@ module _ (d : Document) (u v : ℕ) where
         (sym (get_or_from_slice_get (dependencies_of d u) depends.place depends.text depends.text listed)) is)),
   )
 
-  -- What depends on another is an instance.
+  -- A number that depends on another is the number of an instance.
   pub depends_within : DependsOn d u v → u < length d.instances
   depends_within depends = slice_get_within d.instances u depends.instance depends.found
 
-  -- What another depends on is an instance.
+  -- A number on which another depends is the number of an instance.
   pub target_within : DependsOn d u v → v < length d.instances
   target_within depends =
       elim (slice_get d.instances v) as (λ o. slice_get d.instances v ≡ o → option_and_then instance_config o ≡ Some depends.address → v < length d.instances) [
@@ -98,7 +98,7 @@ module _ (d : Document) (u v : ℕ) where
 
 -- ---- walks
 
--- The test tells that a walk leads from i to j whose inner numbers are below a bound.
+-- The test `joins_below` decides whether a walk with inner numbers below a bound leads from i to j.
 pub joins_told : (related : ℕ → ℕ → Bool) (k i j : ℕ) → IsTrue (joins_below related k i j) ↔ JoinsBelow (λ a b. IsTrue (related a b)) k i j
 unfolding joins_below
 joins_told related zero i j =
@@ -126,7 +126,7 @@ joins_told related (suc k) i j =
           ],
     )
 
--- The test tells that instance v reaches instance u.
+-- The test `reaches` decides whether instance v reaches instance u.
 pub reach_told : (d : Document) (v u : ℕ) → IsTrue (reaches d v u) ↔ Reaches d v u
 unfolding reaches
 reach_told d v u =
@@ -137,23 +137,23 @@ reach_told d v u =
           (joins_map (DependsOn d) R (λ a b. (depends_told d a b).1) u v walk)),
     )
 
--- A chain of pairs turned round is a walk back.
+-- Reversing every pair of a chain gives a walk from its end to its start.
 turned_chain : (R S : ℕ → ℕ → Type 0) → ((a b : ℕ) → R a b → S b a) → (i j : ℕ) (ms : List ℕ) → Chain R i ms j → Joins S j i
 turned_chain R S turn i j [] chain = joins_pair S j i (turn i j chain)
 turned_chain R S turn i j (m ∷ ms) chain = joins_on S j m i (turned_chain R S turn m j ms chain.1) (turn i m chain.0)
 
--- A walk of pairs turned round is a walk back.
+-- Reversing every pair of a walk gives a walk from its end to its start.
 pub turned_walk : (R S : ℕ → ℕ → Type 0) → ((a b : ℕ) → R a b → S b a) → (i j : ℕ) → Joins R i j → Joins S j i
 turned_walk R S turn i j walk = let chain = chain_of_joins R i j walk in turned_chain R S turn i j chain.0 chain.1
 
 -- ---- one configuration address
 
--- A walk whose end is another number.
+-- If every number related to j is related to k, a chain to j is a chain to k.
 other_end : (R : ℕ → ℕ → Type 0) (i j k : ℕ) (ms : List ℕ) → ((a : ℕ) → R a j → R a k) → Chain R i ms j → Chain R i ms k
 other_end R i j k [] on pair = on i pair
 other_end R i j k (m ∷ ms) on chain = (chain.0, other_end R m j k ms on chain.1)
 
--- Instances with one configuration address reach the same.
+-- Instances with the same configuration address reach the same instances.
 pub reaches_alike : (d : Document) (v w u : ℕ) → config_of d v ≡ config_of d w → Reaches d v u → Reaches d w u
 reaches_alike d v w u same walk =
     let chain = chain_of_joins (DependsOn d) u v walk in

@@ -1,4 +1,4 @@
--- Laws of single bits of words, and of the set that a row of words holds.
+-- Lemmas about single bits of words, and about the set that a row of words represents.
 use Rattle.std.proofs.Common.{◌≡◌, ◌≢◌, ℕ, ◌+◌, ◌-◌, ◌*◌, ◌/◌, ◌%◌, ◌^◌, ◌<◌, ◌≤◌, suc, zero, min, max, Bool, true, false, ◌||◌, ◌&&◌, eqb, List, []}
 use Rattle.std.proofs.Common.{◌∷◌, length, get_or, set, bit_and, bit_or, replicate, filter, cond, ◌++◌, w64, refl, IsTrue, drop, ap, ap₂, sym}
 use Rattle.std.proofs.Common.{◌∙◌, inl, inr, ◌⊎◌, arith}
@@ -24,7 +24,7 @@ use Rattle.std.specs.Ordering.{nat_cmp}
 use Rattle.std.specs.Simd.Lanes.{zip2, chunk}
 use Rattle.tfs_planes.specs.Row.{bit_at_word, members_of, rising_members, number_set, IsClearFrom}
 
--- A bit of an or, as a test.
+-- A bit is in an or if it is in one of the operands.
 or_test : (x y : ℕ) → x < 2 → y < 2 → eqb (max x y) 1 ≡ (eqb x 1 || eqb y 1)
 or_test zero zero below also = refl
 or_test zero (suc zero) below also = refl
@@ -33,7 +33,7 @@ or_test (suc zero) (suc zero) below also = refl
 or_test (suc (suc x)) y below also = absurd (omega arith)
 or_test x (suc (suc y)) below also = absurd (omega arith)
 
--- A bit of an and, as a test.
+-- A bit is in an and if it is in both operands.
 and_test : (x y : ℕ) → x < 2 → y < 2 → eqb (min x y) 1 ≡ (eqb x 1 && eqb y 1)
 and_test zero zero below also = refl
 and_test zero (suc zero) below also = refl
@@ -42,7 +42,7 @@ and_test (suc zero) (suc zero) below also = refl
 and_test (suc (suc x)) y below also = absurd (omega arith)
 and_test x (suc (suc y)) below also = absurd (omega arith)
 
--- Past the end of both lists as well.
+-- The combination of two lists has the default 0 at every index, also beyond the end of both.
 get_or-zip2_zero : (f : ℕ → ℕ → ℕ) → f 0 0 ≡ 0 → (xs ys : List ℕ) (k : ℕ) → length xs ≡ length ys →
     get_or (zip2 f xs ys) k 0 ≡ f (get_or xs k 0) (get_or ys k 0)
 get_or-zip2_zero f none [] [] k same = sym none
@@ -51,7 +51,7 @@ get_or-zip2_zero f none (x ∷ xs) [] k same = absurd (omega arith)
 get_or-zip2_zero f none (x ∷ xs) (y ∷ ys) zero same = refl
 get_or-zip2_zero f none (x ∷ xs) (y ∷ ys) (suc k) same = get_or-zip2_zero f none xs ys k (omega arith)
 
--- A bit of a union is set where it is in either list.
+-- A bit of a union is set if it is set in one of the lists.
 pub bit_at_word-union : (xs ys : List ℕ) (i : ℕ) → length xs ≡ length ys → bit_at_word (zip2 bit_or xs ys) i ≡ (bit_at_word xs i || bit_at_word ys i)
 unfolding bit_at_word
 bit_at_word-union xs ys i same =
@@ -61,7 +61,7 @@ bit_at_word-union xs ys i same =
     ∙ ap (λ b. eqb b 1) (bit_at_or x y (i % 64))
     ∙ or_test (bit_at x (i % 64)) (bit_at y (i % 64)) (bit_at-lt x (i % 64)) (bit_at-lt y (i % 64))
 
--- A bit of a meet is set where it is in both lists.
+-- A bit of a meet is set if it is set in both lists.
 pub bit_at_word-meet : (xs ys : List ℕ) (i : ℕ) → length xs ≡ length ys → bit_at_word (zip2 bit_and xs ys) i ≡ (bit_at_word xs i && bit_at_word ys i)
 unfolding bit_at_word
 bit_at_word-meet xs ys i same =
@@ -71,11 +71,11 @@ bit_at_word-meet xs ys i same =
     ∙ ap (λ b. eqb b 1) (bit_at_and x y (i % 64))
     ∙ and_test (bit_at x (i % 64)) (bit_at y (i % 64)) (bit_at-lt x (i % 64)) (bit_at-lt y (i % 64))
 
--- The list after bit i was set.
+-- The list with bit i set.
 abbrev pub with_bit : List ℕ → ℕ → List ℕ
 with_bit words i = set words (i / 64) (bit_or (get_or words (i / 64) 0) (1 * 2 ^ (i % 64) % 2 ^ 64))
 
--- A bit that was set is set, and each other bit is as it was.
+-- Bit i of the list with bit i set is set, and every other bit is unchanged.
 pub bit_at_word-with_bit : (words : List ℕ) (i j : ℕ) → i < 64 * length words → bit_at_word (with_bit words i) j ≡ (eqb j i || bit_at_word words j)
 unfolding bit_at_word
 bit_at_word-with_bit words i j within =
@@ -105,7 +105,7 @@ bit_at_word-with_bit words i j within =
           ∙ ap (λ b. b || bit_at_word words j) (sym (ne_eqb j i apart))
     ]
 
--- Lists with the same words have the same bits.
+-- Lists with equal words have equal bits.
 pub bit_at_word-same : (xs ys : List ℕ) (j : ℕ) → length xs ≡ length ys → ((k : ℕ) → k < length xs → get_or xs k 0 ≡ get_or ys k 0) →
     bit_at_word xs j ≡ bit_at_word ys j
 unfolding bit_at_word
@@ -114,7 +114,7 @@ bit_at_word-same xs ys j long same = ap (λ w. eqb (bit_at w (j % 64)) 1) (elim 
   | inr past ↦ get_or_past xs (j / 64) 0 past ∙ sym (get_or_past ys (j / 64) 0 (omega (arith, long)))
 ])
 
--- No bit of zeros is set.
+-- No bit of a list of zeros is set.
 pub bit_at_word-zeros : (n i : ℕ) → bit_at_word (replicate n 0) i ≡ false
 unfolding bit_at_word
 bit_at_word-zeros n i =
@@ -124,12 +124,12 @@ bit_at_word-zeros n i =
           ∙ ap (λ b. eqb b 1) (bit_at-zero (i % 64))
     ]
 
--- No bit past the words is set.
+-- No bit beyond the words is set.
 pub bit_at_word-past : (words : List ℕ) → IsClearFrom (64 * length words) words
 unfolding bit_at_word
 bit_at_word-past words i past = ap (λ w. eqb (bit_at w (i % 64)) 1) (get_or_past words (i / 64) 0 (omega arith)) ∙ ap (λ b. eqb b 1) (bit_at-zero (i % 64))
 
--- A set bit is one of the words'.
+-- A set bit has an index within the words.
 pub set_within : (words : List ℕ) (i : ℕ) → IsTrue (bit_at_word words i) → i < 64 * length words
 set_within words i is =
     elim (cases_lt i (64 * length words)) [
@@ -137,7 +137,7 @@ set_within words i is =
       | inr past ↦ absurd (false≢true (sym (bit_at_word-past words i past) ∙ is))
     ]
 
--- The bit of a word as a bit of the list.
+-- Bit k of a word is bit 64 * word + k of the list.
 pub bit_of_word : (word k : ℕ) (words : List ℕ) → k < 64 → bit_at_word words (64 * word + k) ≡ eqb (bit_at (get_or words word 0) k) 1
 unfolding bit_at_word
 bit_of_word word k words below =
@@ -145,7 +145,7 @@ bit_of_word word k words below =
     let rest : (64 * word + k) % 64 ≡ k = omega arith in
     ap₂ (λ w j. eqb (bit_at (get_or words w 0) j) 1) place rest
 
--- The highest bit of a word that isn't 0 is set.
+-- The highest bit of a nonzero word is set.
 pub highest_set : (word : ℕ) → 0 < word → word < 2 ^ 64 → bit_at word (63 - leading_zeros w64 word) ≡ 1
 highest_set word some fits =
     let top = leading_top 64 word some fits in
@@ -156,7 +156,7 @@ highest_set word some fits =
     let whole : word / 2 ^ j ≡ 1 = omega (arith, le-div 1 word (2 ^ j) unit (omega (arith, top.2)), div_below word (2 ^ j) 2 unit high) in
     ap (bit_at word) place ∙ ap (λ q. q % 2) whole
 
--- A bit of a chunk of the words.
+-- A bit of a chunk is the bit of the list at the chunk's offset.
 bit_at_word-chunk : (at n i : ℕ) (words : List ℕ) → i < 64 * n → bit_at_word (chunk at n words) i ≡ bit_at_word words (64 * at + i)
 unfolding bit_at_word
 bit_at_word-chunk at n i words within =
@@ -165,7 +165,8 @@ bit_at_word-chunk at n i words within =
     ap (λ w. eqb (bit_at w (i % 64)) 1) (get_or-take n (drop at words) (i / 64) 0 (omega arith) ∙ get_or-drop at words (i / 64) 0)
     ∙ ap₂ (λ w j. eqb (bit_at (get_or words w 0) j) 1) place rest
 
--- A bit of the words in a chunk that adds nothing to another is set there too.
+-- If a union with a chunk of xs leaves a chunk of ys unchanged, each set bit of the first is set in
+-- the second.
 pub covered_bit : (at : ℕ) (xs ys : List ℕ) → at + 8 ≤ length xs → at + 8 ≤ length ys → zip2 bit_or (chunk at 8 xs) (chunk at 8 ys) ≡ chunk at 8 ys →
     (j : ℕ) → 64 * at ≤ j → j < 64 * (at + 8) → IsTrue (bit_at_word xs j) → IsTrue (bit_at_word ys j)
 covered_bit at xs ys long also same j low high is =
@@ -178,13 +179,13 @@ covered_bit at xs ys long also same j low high is =
     ∙ bit_at_word-union (chunk at 8 xs) (chunk at 8 ys) i (length-chunk at 8 xs long ∙ sym (length-chunk at 8 ys also))
     ∙ or_left (bit_at_word (chunk at 8 xs) i) (bit_at_word (chunk at 8 ys) i) (left ∙ is)
 
--- Whether a number is in a range.
+-- A number in a range is found in the range.
 pub any_in_range : (a n q : ℕ) → a ≤ q → q < a + n → list_any (λ y. eqb y q) (range_with_len a n) ≡ true
 any_in_range a n q low high =
     list_any_at (λ y. eqb y q) (range_with_len a n) (q - a) 0 (omega (arith, length-range_with_len a n))
     (eq-eqb _ q (get_or-range_with_len a n (q - a) 0 (omega arith) ∙ omega arith))
 
--- A number outside a range isn't in it.
+-- A number outside a range is not found in the range.
 pub none_in_range : (a n q : ℕ) → ((q < a) ⊎ (a + n ≤ q)) → list_any (λ y. eqb y q) (range_with_len a n) ≡ false
 none_in_range a n q outside =
     list_any_none (λ y. eqb y q) (range_with_len a n)
@@ -192,7 +193,7 @@ none_in_range a n q outside =
     (λ i h. ne_eqb _ q (λ e. let place : get_or (range_with_len a n) i 0 ≡ a + i = get_or-range_with_len a n i 0 (omega (arith, length-range_with_len a n)) in
     elim outside [ inl low ↦ omega (arith, length-range_with_len a n) | inr high ↦ omega (arith, length-range_with_len a n) ])))
 
--- A member of the set of a clear row is a number whose bit is set.
+-- A number is a member of the set of a clear row if its bit is set.
 pub contains-row : (n : ℕ) (words : List ℕ) → IsClearFrom n words → (q : ℕ) → contains (number_set n words).members q ≡ bit_at_word words q
 unfolding members_of
 contains-row n words clear q =
@@ -207,23 +208,23 @@ contains-row n words clear q =
     and-true true = refl
     and-true false = refl
 
--- The numbers of the set, rising.
+-- The members of the set of a clear row, in ascending order, are the numbers of the set bits.
 pub rising-row : (n : ℕ) (words : List ℕ) → IsClearFrom n words → rising_members (number_set n words) ≡ members_of n words
 unfolding members_of
 rising-row n words clear = filter_agree _ (bit_at_word words) (contains-row n words clear) (range_with_len 0 n)
 
--- The set of zeros is empty.
+-- The set of a row of zeros is empty.
 pub empty-row : (n k : ℕ) → (number_set n (replicate k 0)).members ≡ empty
 empty-row n k =
     same_set nat_cmp_total nat_cmp-IsAntisymmetric _ _ (λ q. contains-row n (replicate k 0) (λ i _. bit_at_word-zeros k i) q ∙ bit_at_word-zeros k q
     ∙ sym (contains-empty nat_cmp q))
 
--- A row stays clear where a bit below its size is set.
+-- A row stays clear when a bit below its size is set.
 pub clear_with_bit : (n i : ℕ) (words also : List ℕ) → IsClearFrom n words → i < n → ((j : ℕ) → bit_at_word also j ≡ (eqb j i || bit_at_word words j)) →
     IsClearFrom n also
 clear_with_bit n i words also clear within bits j past = bits j ∙ ap₂ ◌||◌ (ne_eqb j i (λ e. omega arith)) (clear j past)
 
--- The set with one bit more.
+-- Setting a bit inserts its number into the set.
 pub insert-row : (n i : ℕ) (words also : List ℕ) → IsClearFrom n words → i < n → ((j : ℕ) → bit_at_word also j ≡ (eqb j i || bit_at_word words j)) →
     (number_set n also).members ≡ insert (number_set n words).members i
 insert-row n i words also clear within bits =
@@ -231,11 +232,11 @@ insert-row n i words also clear within bits =
     (λ q. contains-row n also (clear_with_bit n i words also clear within bits) q ∙ bits q
     ∙ ap₂ ◌||◌ (sym (unsigned_tied q i)) (sym (contains-row n words clear q)) ∙ sym (contains-insert nat_cmp_total _ i q))
 
--- A row stays clear under a union.
+-- The union of two clear rows is clear.
 pub clear_union : (n : ℕ) (xs ys : List ℕ) → length xs ≡ length ys → IsClearFrom n xs → IsClearFrom n ys → IsClearFrom n (zip2 bit_or xs ys)
 clear_union n xs ys same clear also j past = bit_at_word-union xs ys j same ∙ ap₂ ◌||◌ (clear j past) (also j past)
 
--- And under a meet.
+-- The meet of a clear row and any other row is clear.
 pub clear_meet : (n : ℕ) (xs ys : List ℕ) → length xs ≡ length ys → IsClearFrom n xs → IsClearFrom n (zip2 bit_and xs ys)
 clear_meet n xs ys same clear j past = bit_at_word-meet xs ys j same ∙ ap (λ b. b && bit_at_word ys j) (clear j past)
 
@@ -247,7 +248,7 @@ union-row n xs ys same clear also =
     (λ q. contains-row n _ (clear_union n xs ys same clear also) q ∙ bit_at_word-union xs ys q same
     ∙ ap₂ ◌||◌ (sym (contains-row n xs clear q)) (sym (contains-row n ys also q)) ∙ sym (contains-union nat_cmp_total _ _ q))
 
--- The set of a meet is what the sets have in common.
+-- The set of a meet is the intersection of the sets.
 pub meet-row : (n : ℕ) (xs ys : List ℕ) → length xs ≡ length ys → IsClearFrom n xs → IsClearFrom n ys →
     (number_set n (zip2 bit_and xs ys)).members ≡ intersection (number_set n xs).members (number_set n ys).members
 meet-row n xs ys same clear also =
@@ -255,14 +256,14 @@ meet-row n xs ys same clear also =
     (λ q. contains-row n _ (clear_meet n xs ys same clear) q ∙ bit_at_word-meet xs ys q same
     ∙ ap₂ ◌&&◌ (sym (contains-row n xs clear q)) (sym (contains-row n ys also q)) ∙ sym (contains-intersection nat_cmp_total _ _ q))
 
--- One number more of a range that is filtered.
+-- Filtering a range that is one longer appends the last number if it passes.
 filter_range_more : (p : ℕ → Bool) (n : ℕ) → filter p (range_with_len 0 (n + 1)) ≡ filter p (range_with_len 0 n) ++ cond (p n) (n ∷ []) []
 filter_range_more p n =
     sym (ap (filter p) (map-id (range_with_len 0 (n + 1))))
     ∙ filter_of_map_range_with_len_more p (λ k. k) 0 n n (omega arith)
     ∙ ap (λ xs. filter p xs ++ cond (p n) (n ∷ []) []) (map-id (range_with_len 0 n))
 
--- A range that is filtered rises.
+-- A filtered range is strictly increasing.
 filter_range_rises : (p : ℕ → Bool) (n : ℕ) → IsStrictlyIncreasing (filter p (range_with_len 0 n))
 filter_range_rises p n =
     IsStrictlyIncreasing-filter p (range_with_len 0 n)
@@ -271,18 +272,18 @@ filter_range_rises p n =
     let next = get_or-range_with_len 0 n (k + 1) 0 (omega arith) in
     omega arith)
 
--- The step where the number passes.
+-- If n passes, it is appended to the numbers below n that pass.
 pub filter_range_takes : (p : ℕ → Bool) (n : ℕ) (xs : List ℕ) → p n ≡ true → xs ≡ filter p (range_with_len 0 n) →
     xs ++ n ∷ [] ≡ filter p (range_with_len 0 (n + 1))
 filter_range_takes p n xs passes so_far = ap (λ ys. ys ++ n ∷ []) so_far ∙ ap (λ b. filter p (range_with_len 0 n) ++ cond b (n ∷ []) []) (sym passes)
     ∙ sym (filter_range_more p n)
 
--- And where it does not.
+-- If n does not pass, the numbers that pass are unchanged.
 pub filter_range_skips : (p : ℕ → Bool) (n : ℕ) (xs : List ℕ) → p n ≡ false → xs ≡ filter p (range_with_len 0 n) → xs ≡ filter p (range_with_len 0 (n + 1))
 filter_range_skips p n xs fails so_far = so_far ∙ sym (append-nil (filter p (range_with_len 0 n)))
     ∙ ap (λ b. filter p (range_with_len 0 n) ++ cond b (n ∷ []) []) (sym fails) ∙ sym (filter_range_more p n)
 
--- The numbers whose bit is set rise.
+-- The numbers of the set bits are strictly increasing.
 pub members_rise : (n : ℕ) (words : List ℕ) → IsStrictlyIncreasing (members_of n words)
 unfolding members_of
 members_rise n words = filter_range_rises (bit_at_word words) n

@@ -1,4 +1,4 @@
--- What a block of rows does to the rows of a plane.
+-- Lemmas about the rows of a plane after a block of rows is closed and taken in.
 use Rattle.std.proofs.Common.{◌≡◌, ◌↔◌, ℕ, ◌+◌, ◌-◌, ◌*◌, ◌<◌, ◌≤◌, Bool, IsTrue, List, ◌++◌, length, ap, sym, subst, ◌∙◌, inl, inr, arith}
 use Rattle.std.proofs.lemmas.Bool.{cases_lt}
 use Rattle.tfs_planes.specs.Plane.{row_words, cell_at}
@@ -7,7 +7,8 @@ use Rattle.tfs_planes.specs.Row.{bit_at_word}
 use Rattle.tfs_planes.proofs.PlaneLemmas.{row_words_front, row_words_back}
 use Rattle.tfs_planes.proofs.WalkLemmas.{joins_below_more, joins_below_through, joins_below_first}
 
--- The rows of a block whose walks go below its end are a closed block.
+-- If the rows of a block represent the walks with inner numbers below the block's end, the block is
+-- closed.
 closed_block : (s first width : ℕ) (block : List ℕ) (related : ℕ → ℕ → Bool) → BlockJoins s block width first related (first + width) →
     IsClosedBlock s block width first
 closed_block s first width block related inv a b j first_in second_in to on =
@@ -15,7 +16,8 @@ closed_block s first width block related inv a b j first_in second_in to on =
     (inv a j first_in).1 (joins_below_through R (first + width) (first + b) (first + a) j (omega arith) ((inv a (first + b) first_in).0 to)
     ((inv b j second_in).0 on))
 
--- A row that takes in the rows of such a block has the walks below the block's end.
+-- A row that takes in the rows of a closed block represents the walks with inner numbers below the
+-- block's end.
 takes_walks : (s first width i : ℕ) (row block : List ℕ) (related : ℕ → ℕ → Bool) →
     ((j : ℕ) → IsTrue (bit_at_word row j) ↔ JoinsBelow (λ a b. IsTrue (related a b)) first i j) → BlockJoins s block width first related (first + width) →
     (j : ℕ) → TakesIn s row block width first j ↔ JoinsBelow (λ a b. IsTrue (related a b)) (first + width) i j
@@ -46,31 +48,31 @@ takes_walks s first width i row block related own inv j =
       ],
     )
 
--- Rows that lie in three parts: before a block, in it and behind it.
+-- Rows in three parts: before a block, in the block, and after it.
 module _ (s first width : ℕ) (front mid behind : List ℕ) (long : length front ≡ first * s) (wide : length mid ≡ width * s) where
-  -- A row before the block.
+  -- A row before the block is a row of the front part.
   row_in_front : (i : ℕ) → i < first → row_words s (front ++ (mid ++ behind)) i ≡ row_words s front i
   row_in_front i below = row_words_front s first i front (mid ++ behind) long below
 
-  -- A row of the block.
+  -- A row of the block is a row of the middle part.
   row_in_block : (i : ℕ) → i < width → row_words s (front ++ (mid ++ behind)) (first + i) ≡ row_words s mid i
   row_in_block i below = row_words_back s first i front (mid ++ behind) long ∙ row_words_front s width i mid behind wide below
 
-  -- A row behind the block.
+  -- A row after the block is a row of the last part.
   row_behind : (i : ℕ) → row_words s (front ++ (mid ++ behind)) (first + (width + i)) ≡ row_words s behind i
   row_behind i = row_words_back s first (width + i) front (mid ++ behind) long ∙ row_words_back s width i mid behind wide
 
--- A block more.
+-- The step for one block.
 module _ (s first width : ℕ) (words before block after front mid behind : List ℕ) (whole : words ≡ before ++ (block ++ after))
     (long : length before ≡ first * s) (also : length front ≡ first * s) (wide : length block ≡ width * s) (too : length mid ≡ width * s)
     (blocks : (related : ℕ → ℕ → Bool) → BlockJoins s block width first related first → BlockJoins s mid width first related (first + width))
     (fronts : IsClosedBlock s mid width first → (i j : ℕ) → IsTrue (cell_at s front i j) ↔ TakesIn s (row_words s before i) mid width first j)
     (behinds : IsClosedBlock s mid width first → (i j : ℕ) → IsTrue (cell_at s behind i j) ↔ TakesIn s (row_words s after i) mid width first j) where
-  -- The words afterwards.
+  -- The words after the step.
   abbrev now : List ℕ
   now = front ++ (mid ++ behind)
 
-  -- The rows of the block.
+  -- The rows of the block represent the walks with inner numbers below the block's end.
   block_advances : (related : ℕ → ℕ → Bool) → AllJoins s words related first → BlockJoins s mid width first related (first + width)
   unfolding cell_at
   block_advances related inv =
@@ -78,7 +80,7 @@ module _ (s first width : ℕ) (words before block after front mid behind : List
       (λ i j below. let same = ap (λ zs. row_words s zs (first + i)) whole ∙ row_in_block s first width before block after long wide i below in
       subst (λ r. IsTrue (bit_at_word r j) ↔ JoinsBelow (λ a b. IsTrue (related a b)) first (first + i) j) same (inv (first + i) j))
 
-  -- A row outside the block.
+  -- A row outside the block represents the walks with inner numbers below the block's end.
   row_advances : (related : ℕ → ℕ → Bool) → AllJoins s words related first → (i : ℕ) (row : List ℕ) → row_words s words i ≡ row → (j : ℕ) →
       TakesIn s row mid width first j ↔ JoinsBelow (λ a b. IsTrue (related a b)) (first + width) i j
   unfolding cell_at

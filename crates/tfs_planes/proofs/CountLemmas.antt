@@ -1,4 +1,4 @@
--- Laws of the number of bits that are set.
+-- Lemmas about the number of set bits.
 use Rattle.std.proofs.Common.{◌≡◌, ℕ, ◌+◌, ◌-◌, ◌*◌, ◌/◌, ◌%◌, ◌^◌, ◌<◌, ◌≤◌, suc, zero, Bool, true, false, cond, ◌&&◌, eqb, List, [], ◌∷◌, length}
 use Rattle.std.proofs.Common.{get_or, map, sum_by, count_by, count_ones, filter, Fits, w64, refl, ap, ap₂, sym, ◌∙◌, inl, arith}
 use Rattle.std.proofs.lemmas.Bool.{eqb-true}
@@ -16,13 +16,13 @@ use Rattle.std.specs.Simd.Lanes.{mask_l}
 use Rattle.tfs_planes.specs.Row.{bit_at_word, members_of, number_set, IsClearFrom}
 use Rattle.tfs_planes.proofs.BitLemmas.{none_in_range}
 
--- A bit is the number of its test.
+-- A bit is 1 if its test holds, and 0 otherwise.
 bit_is_cond : (b : ℕ) → b < 2 → b ≡ cond (eqb b 1) 1 0
 bit_is_cond zero below = refl
 bit_is_cond (suc zero) below = refl
 bit_is_cond (suc (suc b)) below = absurd (omega arith)
 
--- The set bits of a word of w bits, counted one by one.
+-- The number of ones in a word of w bits is the number of its set bits, counted one by one.
 count_word : (w word : ℕ) → word < 2 ^ w → count_ones word ≡ count_by (λ i. eqb (bit_at word i) 1) (range_with_len 0 w)
 count_word w word fits =
     let p : ℕ → Bool = λ i. eqb (bit_at word i) 1 in
@@ -35,7 +35,7 @@ count_word w word fits =
     ∙ ap (λ b. cond b 1 0) (get_or-map-range_with_len p 0 w i i false below (omega arith)))))
     ∙ ones-mask_l p (range_with_len 0 w)
 
--- Two ranges that pass two tests alike have one count.
+-- Two ranges of one length have equal counts if the tests agree at each offset.
 count_alike : (p q : ℕ → Bool) (a b n : ℕ) → ((i : ℕ) → i < n → p (a + i) ≡ q (b + i)) → count_by p (range_with_len a n) ≡ count_by q (range_with_len b n)
 count_alike p q a b zero alike = refl
 count_alike p q a b (suc n) alike =
@@ -46,7 +46,7 @@ count_alike p q a b (suc n) alike =
     ap p at_a ∙ alike (1 + i) (omega arith) ∙ ap q at_b))
     ∙ sym (sum_by-cons (λ x. cond (q x) 1 0) b (range_with_len (b + 1) n))
 
--- A range in two parts.
+-- The count over a range is the sum of the counts over its two parts.
 count_parts : (p : ℕ → Bool) (a n m k : ℕ) → k ≡ n + m → count_by p (range_with_len a k) ≡ count_by p (range_with_len a n) + count_by p
     (range_with_len (a + n) m)
 count_parts p a zero m k e = let whole : k ≡ m = omega arith in let start : a ≡ a + 0 = omega arith in ap (λ j. count_by p (range_with_len a j)) whole
@@ -58,14 +58,14 @@ count_parts p a (suc n) m (suc k) e =
     let moved = ap (λ j. count_by p (range_with_len j m)) start in
     omega (arith, rest, moved, sum_by-cons (λ x. cond (p x) 1 0) a (range_with_len (a + 1) k), sum_by-cons (λ x. cond (p x) 1 0) a (range_with_len (a + 1) n))
 
--- Where nothing passes, the count is 0.
+-- If no number passes, the count is 0.
 count_none : (p : ℕ → Bool) (a n : ℕ) → ((i : ℕ) → a ≤ i → p i ≡ false) → count_by p (range_with_len a n) ≡ 0
 count_none p a zero none = refl
 count_none p a (suc n) none =
     sum_by-cons (λ x. cond (p x) 1 0) a (range_with_len (a + 1) n)
     ∙ ap₂ (λ x y. cond x 1 0 + y) (none a (omega arith)) (count_none p (a + 1) n (λ i from. none i (omega arith)))
 
--- Bits of the first word, and of the words behind it.
+-- The bits below 64 of a list are the bits of its first word.
 first_word : (word : ℕ) (words : List ℕ) (i : ℕ) → i < 64 → bit_at_word (word ∷ words) (0 + i) ≡ eqb (bit_at word (0 + i)) 1
 unfolding bit_at_word
 first_word word words i below =
@@ -73,7 +73,7 @@ first_word word words i below =
     let place : (0 + i) % 64 ≡ 0 + i = omega arith in
     ap₂ (λ k j. eqb (bit_at (get_or (word ∷ words) k 0) j) 1) start place
 
--- A bit of a later word.
+-- The bits from 64 on of a list are the bits of the words after the first.
 later_words : (word : ℕ) (words : List ℕ) (i : ℕ) → bit_at_word (word ∷ words) (0 + 64 + i) ≡ bit_at_word words (0 + i)
 unfolding bit_at_word
 later_words word words i =
@@ -81,7 +81,7 @@ later_words word words i =
     let place : (0 + 64 + i) % 64 ≡ (0 + i) % 64 = omega arith in
     ap₂ (λ k j. eqb (bit_at (get_or (word ∷ words) k 0) j) 1) next place
 
--- The set bits of words, counted one by one.
+-- The sum of the ones in the words is the number of set bits, counted one by one.
 pub count_each : (words : List ℕ) → ((k : ℕ) → Fits w64 (get_or words k 0)) →
     sum_by count_ones words ≡ count_by (bit_at_word words) (range_with_len 0 (64 * length words))
 count_each [] fits = refl
@@ -92,7 +92,7 @@ count_each (word ∷ words) fits =
     sum_by-cons count_ones word words ∙ ap₂ ◌+◌ first rest ∙ sym (count_parts (bit_at_word (word ∷ words)) 0 64 (64 * length words)
     (64 * suc (length words)) (omega arith))
 
--- A set made of a range that passes a test has as many members as pass.
+-- The set of the numbers of a range that pass a test has as many members as the count says.
 len_passes : (p : ℕ → Bool) (a n : ℕ) → len (from_list {R = nat_cmp} (filter p (range_with_len a n))) ≡ count_by p (range_with_len a n)
 len_passes p a zero = len-empty nat_cmp
 len_passes p a (suc n) =
@@ -110,7 +110,7 @@ len_passes p a (suc n) =
       | false ↦ λ is. let before = len_passes p (a + 1) n in before ∙ omega arith
     ] refl ∙ sym (sum_by-cons (λ x. cond (p x) 1 0) a (range_with_len (a + 1) n))
 
--- The members of a clear row are as many as its bits that are set.
+-- The number of members of a clear row is the number of its set bits.
 pub len-row : (n : ℕ) (words : List ℕ) → n ≤ 64 * length words → IsClearFrom n words →
     count_by (bit_at_word words) (range_with_len 0 (64 * length words)) ≡ len (number_set n words).members
 unfolding members_of

@@ -1,4 +1,4 @@
--- Laws of work done word by word: what is done so far, and one step more.
+-- Lemmas about loops over words: the invariants of the loops, and their steps.
 use Rattle.std.proofs.Common.{◌≡◌, ℕ, ◌+◌, ◌-◌, ◌*◌, ◌%◌, ◌^◌, ◌<◌, ◌≤◌, suc, zero, Bool, cond, not, eqb, Decides, List, [], ◌∷◌, ◌++◌, length, take}
 use Rattle.std.proofs.Common.{drop, get_or, set, map, sum_by, count_ones, Fits, w64, refl, ap, sym, ◌∙◌, inl, inr, arith}
 use Rattle.std.proofs.Math.Seq.{take-add}
@@ -11,14 +11,14 @@ use Rattle.std.proofs.lemmas.Simd.{length-zip2, mask_l-mod, tops_compared}
 use Rattle.std.specs.Simd.Lanes.{zip2, chunk, put_chunk, mask_l, top}
 use borrow.Rule.Slice.PartMut.{put_mid}
 
--- The first n elements of xs combined with those of ys, and the others as they were.
+-- The first n elements of xs combined with those of ys, followed by the remaining elements of xs.
 abbrev pub front : {X : Type 0} → (X → X → X) → ℕ → List X → List X → List X
 front f zero xs ys = xs
 front f (suc n) [] ys = []
 front f (suc n) (x ∷ xs) [] = x ∷ xs
 front f (suc n) (x ∷ xs) (y ∷ ys) = f x y ∷ front f n xs ys
 
--- With all of them it is `zip2`.
+-- If n covers the whole list, the result is `zip2`.
 pub front_all : {X : Type 0} (f : X → X → X) (n : ℕ) (xs ys : List X) → length xs ≤ n → length xs ≡ length ys → front f n xs ys ≡ zip2 f xs ys
 front_all f zero [] ys short same = refl
 front_all f zero (x ∷ xs) ys short same = absurd (omega arith)
@@ -26,14 +26,14 @@ front_all f (suc n) [] ys short same = refl
 front_all f (suc n) (x ∷ xs) [] short same = absurd (omega arith)
 front_all f (suc n) (x ∷ xs) (y ∷ ys) short same = ap (λ zs. f x y ∷ zs) (front_all f n xs ys (omega arith) (omega arith))
 
--- It keeps the length.
+-- Combining the first n elements keeps the length.
 pub length-front : {X : Type 0} (f : X → X → X) (n : ℕ) (xs ys : List X) → length (front f n xs ys) ≡ length xs
 length-front f zero xs ys = refl
 length-front f (suc n) [] ys = refl
 length-front f (suc n) (x ∷ xs) [] = refl
 length-front f (suc n) (x ∷ xs) (y ∷ ys) = ap suc (length-front f n xs ys)
 
--- A chunk combined at the list's head.
+-- Writing a combined chunk at the start of a list combines its first k elements.
 put_first : {X : Type 0} (f : X → X → X) (k : ℕ) (xs ys : List X) → length xs ≡ length ys → put_chunk 0 xs (zip2 f (take k xs) (take k ys)) ≡ front f k xs ys
 put_first f zero [] ys same = refl
 put_first f zero (x ∷ xs) ys same = refl
@@ -41,7 +41,7 @@ put_first f (suc k) [] ys same = refl
 put_first f (suc k) (x ∷ xs) [] same = absurd (omega arith)
 put_first f (suc k) (x ∷ xs) (y ∷ ys) same = ap (λ zs. f x y ∷ zs) (put_first f k xs ys (omega arith))
 
--- One chunk more.
+-- Combining the next chunk extends the combined part by k elements.
 pub front_chunk : {X : Type 0} (f : X → X → X) (n k m : ℕ) (xs ys : List X) → m ≡ n + k → length xs ≡ length ys →
     put_chunk n (front f n xs ys) (zip2 f (chunk n k (front f n xs ys)) (chunk n k ys)) ≡ front f m xs ys
 front_chunk f zero k m xs ys e same = let to : m ≡ k = omega arith in rw to (put_first f k xs ys same)
@@ -50,7 +50,7 @@ front_chunk f (suc n) k (suc m) [] ys e same = refl
 front_chunk f (suc n) k (suc m) (x ∷ xs) [] e same = absurd (omega arith)
 front_chunk f (suc n) k (suc m) (x ∷ xs) (y ∷ ys) e same = ap (λ zs. f x y ∷ zs) (front_chunk f n k m xs ys (omega arith) (omega arith))
 
--- One element more.
+-- Combining the next element extends the combined part by one element.
 pub front_set : {X : Type 0} (f : X → X → X) (n m : ℕ) (xs ys : List X) (d e : X) → m ≡ n + 1 → length xs ≡ length ys → n < length xs →
     set (front f n xs ys) n (f (get_or (front f n xs ys) n d) (get_or ys n e)) ≡ front f m xs ys
 front_set f zero m [] ys d e to same in_range = absurd (omega arith)
@@ -61,7 +61,7 @@ front_set f (suc n) (suc m) [] ys d e to same in_range = absurd (omega arith)
 front_set f (suc n) (suc m) (x ∷ xs) [] d e to same in_range = absurd (omega arith)
 front_set f (suc n) (suc m) (x ∷ xs) (y ∷ ys) d e to same in_range = ap (λ zs. f x y ∷ zs) (front_set f n m xs ys d e (omega arith) (omega arith) (omega arith))
 
--- Two parts combined are the whole combined.
+-- The combinations of two parts, joined, are the combination of the whole lists.
 pub zip2_parts : {X : Type 0} (f : X → X → X) (n : ℕ) (xs ys : List X) → length xs ≡ length ys →
     zip2 f (take n xs) (take n ys) ++ zip2 f (drop n xs) (drop n ys) ≡ zip2 f xs ys
 zip2_parts f zero xs ys same = refl
@@ -69,7 +69,7 @@ zip2_parts f (suc n) [] ys same = refl
 zip2_parts f (suc n) (x ∷ xs) [] same = absurd (omega arith)
 zip2_parts f (suc n) (x ∷ xs) (y ∷ ys) same = ap (λ zs. f x y ∷ zs) (zip2_parts f n xs ys (omega arith))
 
--- A list whose part behind the first n elements was combined after the part before it.
+-- If the first n elements are combined first and the rest after them, the whole lists are combined.
 pub parts_combined : {X : Type 0} (f : X → X → X) (n k : ℕ) (xs ys done rest : List X) → n ≤ length xs → length xs ≡ length ys →
     done ≡ zip2 f (take n xs) (take n ys) → rest ≡ zip2 f (drop n (done ++ drop n xs)) (drop n ys) → length xs ≤ n + k →
     put_mid n k (done ++ drop n xs) rest ≡ zip2 f xs ys
@@ -86,15 +86,16 @@ parts_combined f n k xs ys done rest within same first second whole =
     ∙ ap (λ zs. zs ++ zip2 f (drop n xs) (drop n ys)) first
     ∙ zip2_parts f n xs ys same
 
--- The sum over a chunk is what the sum over a beginning grows by.
+-- The sum over a longer prefix is the sum over the shorter prefix plus the sum over the chunk
+-- between.
 pub sum_chunk : (g : ℕ → ℕ) (n k m : ℕ) (xs : List ℕ) → m ≡ n + k → sum_by g (take m xs) ≡ sum_by g (take n xs) + sum_by g (chunk n k xs)
 sum_chunk g n k m xs e = ap (λ j. sum_by g (take j xs)) e ∙ ap (sum_by g) (take-add n k xs) ∙ sum_by-append g (take n xs) (take k (drop n xs))
 
--- No more bits are set than there are.
+-- The number of ones is at most 64 for each word.
 pub count_bound : (xs : List ℕ) → ((k : ℕ) → Fits w64 (get_or xs k 0)) → sum_by count_ones xs ≤ length xs * 64
 count_bound xs fits = sum_by-le count_ones 64 xs (All-from_get_or (λ x. count_ones x ≤ 64) xs 0 (λ i _. ones-le 64 (get_or xs i 0) (fits i).fits))
 
--- Two vectors of which no lane differs are equal.
+-- Two vectors are equal if no lane differs.
 same_from_no_difference : (xs ys : List ℕ) → length xs ≡ length ys → mask_l (zip2 (λ a b. not (eqb a b)) xs ys) ≡ 0 → xs ≡ ys
 same_from_no_difference [] [] same none = refl
 same_from_no_difference [] (y ∷ ys) same none = absurd (omega arith)
@@ -112,7 +113,7 @@ no_difference (x ∷ xs) =
     let equal : cond {A = ℕ} (not (eqb x x)) 1 0 ≡ 0 = ap (λ b. cond (not b) 1 0) (eq-eqb x x refl) in
     omega (arith, no_difference xs)
 
--- The mask of the lanes that differ is 0 where the vectors are equal, and nowhere else.
+-- The mask of the differing lanes is 0 if and only if the vectors are equal.
 pub differ_mask : (xs ys : List ℕ) → length xs ≡ 8 → length ys ≡ 8 → Decides
     (eqb (mask_l (map (top 63) (zip2 (λ a b. cond (not (eqb a b)) (2 ^ 64 - 1) 0) xs ys)) % 2 ^ 64) 0) (xs ≡ ys)
 differ_mask xs ys long also =
@@ -123,12 +124,12 @@ differ_mask xs ys long also =
       λ equal. eq-eqb _ _ (whole ∙ ap (λ zs. mask_l (zip2 ne xs zs)) (sym equal) ∙ no_difference xs),
     )
 
--- Lists that agree before a chunk and in it agree up to its end.
+-- Lists that agree before a chunk and in it agree up to the chunk's end.
 pub same_with_chunk : (n k m : ℕ) (xs ys : List ℕ) → m ≡ n + k → take n xs ≡ take n ys → chunk n k xs ≡ chunk n k ys → take m xs ≡ take m ys
 same_with_chunk n k m xs ys e before within =
     ap (λ j. take j xs) e ∙ take-add n k xs ∙ ap (λ zs. zs ++ take k (drop n xs)) before ∙ ap (λ zs. take n ys ++ zs) within ∙ sym (take-add n k ys)
     ∙ ap (λ j. take j ys) (sym e)
 
--- Lists are equal where both parts are.
+-- Lists are equal if both their parts are equal.
 pub same_parts : (n : ℕ) (xs ys : List ℕ) → take n xs ≡ take n ys → drop n xs ≡ drop n ys → xs ≡ ys
 same_parts n xs ys first second = sym (take-append-drop n xs) ∙ ap (λ zs. zs ++ drop n xs) first ∙ ap (λ zs. take n ys ++ zs) second ∙ take-append-drop n ys

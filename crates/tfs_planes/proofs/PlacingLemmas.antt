@@ -1,4 +1,4 @@
--- Laws of rows that are placed one after the other.
+-- Lemmas about rows that are placed one after another.
 use Rattle.std.proofs.Common.{◌≡◌, ◌≢◌, ℕ, ◌*◌, Bool, ◌||◌, eqb, IsTrue, List, [], ◌∷◌}
 use Rattle.std.proofs.Common.{length, replicate, bit_or, ap, sym, subst, ◌∙◌, inl, inr, arith}
 use Rattle.std.proofs.lemmas.Bool.{cases_eq, or_cases, or_left, or_right, false≢true, ne_eqb}
@@ -16,28 +16,28 @@ pub placed_closed : (s : ℕ) (words placed : List ℕ) (related : ℕ → ℕ �
 placed_closed s words placed related placing t a b is to on =
     placing.closed t b is (joins_trans (λ x y. IsTrue (related x y)) t a b (placing.sound t a to) (placing.sound a b on))
 
--- A row that took in the rows of its targets is placed.
+-- A row that is united with the rows of its targets is placed.
 module _ (s : ℕ) (words placed came now also : List ℕ) (row : ℕ) (related : ℕ → ℕ → Bool) (placing : IsPlacing s words placed related)
     (before : List ℕ) (gathers : Gathers s words (row_words s words row) row before came 0 (64 * s))
     (long : length (row_words s words row) ≡ s) (wide : length came ≡ s)
     (here : row_words s now row ≡ zip2 bit_or (row_words s words row) came)
     (others : (i : ℕ) → i ≢ row → row_words s now i ≡ row_words s words i)
     (bits : (j : ℕ) → bit_at_word also j ≡ (eqb j row || bit_at_word placed j)) where
-  -- The pairs at the start.
+  -- The relation of the words before the step.
   abbrev R : ℕ → ℕ → Type 0
   R = λ a b. IsTrue (related a b)
 
-  -- The row's bits are its own, and those that came.
+  -- The set bits of the row are its own and the collected ones.
   cell_here : (j : ℕ) → cell_at s now row j ≡ (cell_at s words row j || bit_at_word came j)
   unfolding cell_at
   cell_here j = ap (λ r. bit_at_word r j) here ∙ bit_at_word-union (row_words s words row) came j (long ∙ sym wide)
 
-  -- Each other row keeps its bits.
+  -- Every other row keeps its bits.
   cell_there : (i j : ℕ) → i ≢ row → cell_at s now i j ≡ cell_at s words i j
   unfolding cell_at
   cell_there i j other = ap (λ r. bit_at_word r j) (others i other)
 
-  -- A walk from a target came.
+  -- The end of a walk from a target is one of the collected bits.
   came_along : (t j : ℕ) (ms : List ℕ) → IsTarget (row_words s words row) row t → Chain R t ms j → IsTrue (bit_at_word came j)
   came_along t j [] target chain = let below = set_within (row_words s words row) t target.0 in
       gathers.covers t j (omega arith) (omega arith) target (placing.grown t j chain)
@@ -47,7 +47,7 @@ module _ (s : ℕ) (words placed came now also : List ℕ) (row : ℕ) (related 
       let start = gathers.covers t m (omega arith) (omega arith) target (placing.grown t m chain.0) in
       end_by_steps R P P (λ a b is pair. gathers.come.closed a b is (placing.grown a b pair)) (λ b is. is) m j ms start chain.1
 
-  -- And so a walk from the row is one of its bits.
+  -- The end of a walk from the row is one of the row's bits.
   closed_along : (j : ℕ) (ms : List ℕ) → Chain R row ms j → IsTrue (cell_at s now row j)
   unfolding cell_at
   closed_along j [] chain = cell_here j ∙ or_left (cell_at s words row j) (bit_at_word came j) (placing.grown row j chain)
@@ -56,7 +56,7 @@ module _ (s : ℕ) (words placed came now also : List ℕ) (row : ℕ) (related 
     | inr other ↦ cell_here j ∙ or_right (cell_at s words row j) (bit_at_word came j) (came_along m j ms (placing.grown row m chain.0, other) chain.1)
   ]
 
-  -- Each bit of the row is a walk.
+  -- Each bit of the row is the end of a walk.
   sound_here : (j : ℕ) → IsTrue (cell_at s now row j) → Joins R row j
   unfolding cell_at
   sound_here j is = elim (or_cases (cell_at s words row j) (bit_at_word came j) (sym (cell_here j) ∙ is)) [
@@ -86,7 +86,7 @@ module _ (s : ℕ) (words placed came now also : List ℕ) (row : ℕ) (related 
     ];
   }
 
--- Before the first row is placed.
+-- At the start no row is placed.
 pub placing_none : (s n : ℕ) (words : List ℕ) → IsPlacing s words (replicate n 0) (cell_at s words)
 placing_none s n words = record {
   grown = λ i j is. is;
@@ -94,7 +94,7 @@ placing_none s n words = record {
   closed = λ i j is walk. absurd (false≢true (sym (bit_at_word-zeros n i) ∙ is));
 }
 
--- The closure of rows that lie between others and their closure is the closure of the others.
+-- If rows lie between other rows and their closure, both have the same closure.
 pub closure_between : (s : ℕ) (words mid now : List ℕ) → IsBetween s words mid → IsClosure s mid now → IsClosure s words now
 closure_between s words mid now between closed i j =
     let same = joins_between (λ a b. IsTrue (cell_at s words a b)) (λ a b. IsTrue (cell_at s mid a b)) between.grown between.sound i j in

@@ -1,4 +1,4 @@
--- What one round does to the rows of a plane, and that the rounds together are the walks.
+-- Lemmas about one round of the closure, and about all rounds together.
 use Rattle.std.proofs.Common.{◌≡◌, ◌≢◌, ◌↔◌, ℕ, ◌+◌, ◌-◌, ◌*◌, ◌<◌, Bool, true, false, ◌||◌, eqb, IsTrue, List, [], ◌++◌, length, bit_or, ap, ap₂}
 use Rattle.std.proofs.Common.{sym, subst, ◌∙◌, inl, inr, arith}
 use Rattle.std.proofs.Math.Nat.{mul-le-mul_right}
@@ -13,21 +13,21 @@ use Rattle.tfs_planes.proofs.PlaneLemmas.{row_fits, length-row_words, row_words_
 use Rattle.tfs_planes.proofs.WalkLemmas.{joins_below_zero, joins_below_one_pair, joins_below_more, joins_below_through, joins_below_cases}
 use Rattle.tfs_planes.proofs.WalkLemmas.{joins_from_below, joins_below_from_joins}
 
--- A row whose bit k is not set stays.
+-- A row is unchanged if its bit k is not set.
 pub row_through_clear : (other : List ℕ) (k : ℕ) (row : List ℕ) → bit_at_word row k ≡ false → row_through other k row ≡ row
 unfolding row_through
 row_through_clear other k row clear = cond-false (bit_at_word row k) (zip2 bit_or row other) row clear
 
--- And one whose bit k is set is united.
+-- A row is united with the other row if its bit k is set.
 pub row_through_set : (other : List ℕ) (k : ℕ) (row : List ℕ) → bit_at_word row k ≡ true → row_through other k row ≡ zip2 bit_or row other
 unfolding row_through
 row_through_set other k row is = cond-true (bit_at_word row k) (zip2 bit_or row other) row is
 
--- The empty row stays.
+-- The empty row is unchanged.
 pub row_through_nil : (other : List ℕ) (k : ℕ) → row_through other k [] ≡ []
 row_through_nil other k = row_through_clear other k [] (bit_at_word-past [] k (omega arith))
 
--- The rows after a round, from those before row k and those behind it.
+-- The rows after a round are the changed rows before row k, row k, and the changed rows after it.
 pub round_others : (s k column : ℕ) (words before row after front behind : List ℕ) → words ≡ before ++ (row ++ after) → length before ≡ k * s →
     length front ≡ k * s → length row ≡ s → ((i : ℕ) → row_words s front i ≡ row_through row column (row_words s before i)) →
     ((i : ℕ) → row_words s behind i ≡ row_through row column (row_words s after i)) → (i : ℕ) → i ≢ k →
@@ -47,7 +47,7 @@ round_others s k column words before row after front behind whole long also one 
           ∙ row_words_behind s k (i - k - 1) before row after long one))
     ]
 
--- A bit that is set lies in one of the rows.
+-- A set bit is in one of the rows.
 pub row_of_set_cell : (s count : ℕ) (words : List ℕ) (i j : ℕ) → length words ≡ count * s → IsTrue (cell_at s words i j) → i < count
 unfolding cell_at
 row_of_set_cell s count words i j long is =
@@ -71,7 +71,7 @@ module _ (s width k first : ℕ) (before now : List ℕ) (long : length before �
   cell_clear i j other clear =
       ap (λ r. bit_at_word r j) (others i (ne_eqb i k other) ∙ row_through_clear (row_words s before k) (first + k) (row_words s before i) clear)
 
-  -- A row with the bit of row k has those of row k too.
+  -- A row with the bit of row k gains the bits of row k.
   cell_united : (i j : ℕ) → i ≢ k → cell_at s before i (first + k) ≡ true → cell_at s now i j ≡ (cell_at s before i j || cell_at s before k j)
   unfolding cell_at
   cell_united i j other is =
@@ -82,7 +82,8 @@ module _ (s width k first : ℕ) (before now : List ℕ) (long : length before �
       ∙ bit_at_word-union (row_words s before i) (row_words s before k) j
       (length-row_words s i before (omega arith) ∙ sym (length-row_words s k before (omega arith)))
 
-  -- Warshall's step: walks whose inner numbers are below first + k become those whose inner numbers are below one more.
+  -- Warshall's step: if the rows represent the walks with inner numbers below first + k, then after
+  -- the round they represent those with inner numbers below first + k + 1.
   pub round_walks : (related : ℕ → ℕ → Bool) → BlockJoins s before width first related (first + k) → BlockJoins s now width first related (first + (k + 1))
   round_walks related inv i j below =
       let R : ℕ → ℕ → Type 0 = λ a b. IsTrue (related a b) in
@@ -122,11 +123,11 @@ module _ (s width k first : ℕ) (before now : List ℕ) (long : length before �
         ]
       ]
 
--- Before the first block: single pairs.
+-- Before the first block, the walks are single pairs.
 pub no_round_walks : (R : ℕ → ℕ → Type 0) (i j : ℕ) → R i j ↔ JoinsBelow R 0 i j
 no_round_walks R i j = (joins_below_one_pair R 0 i j, joins_below_zero R i j)
 
--- After the last block: all walks.
+-- After the last block, the rows represent all walks.
 pub all_rounds_walks : (s count : ℕ) (words now : List ℕ) → length words ≡ count * s → AllJoins s now (cell_at s words) count → (i j : ℕ) →
     IsTrue (cell_at s now i j) ↔ Joins (λ a b. IsTrue (cell_at s words a b)) i j
 all_rounds_walks s count words now long inv i j =

@@ -1,4 +1,4 @@
--- A row that takes in the rows of a block: what it has so far, and one row more.
+-- Lemmas about a row that takes in the rows of a block: the invariant of the loop, and its step.
 use Rattle.std.proofs.Common.{◌≡◌, ◌↔◌, ◌⊎◌, ℕ, ◌+◌, ◌-◌, ◌*◌, ◌/◌, ◌%◌, ◌^◌, ◌<◌, ◌≤◌, min, max, false, eqb, IsTrue, List, [], length, take, drop}
 use Rattle.std.proofs.Common.{get_or, bit_and, bit_or, Fits, w64, lit<, ap, ap₂, sym, subst, ◌∙◌, inl, inr, arith}
 use Rattle.std.proofs.lemmas.Bool.{cases_eq, cases_lt, cases_Bool, or_cases, or_left, or_right, false≢true, eqb-true, eqb-false, eq-eqb}
@@ -13,7 +13,8 @@ use Rattle.tfs_planes.specs.Rounds.{IsClosedBlock, TakesIn}
 use Rattle.tfs_planes.specs.Row.{bit_at_word}
 use Rattle.tfs_planes.proofs.BitLemmas.{bit_at_word-union, bit_at_word-past}
 
--- Bit m of the row's word at the block, where the block's rows begin at a whole word.
+-- Bit m of the row's word at the block is bit first + m of the row, because a block begins at a
+-- whole word.
 word_bit : (first m : ℕ) (row : List ℕ) → first % 64 ≡ 0 → m < 64 → bit_at_word row (first + m) ≡ eqb (bit_at (get_or row (first / 64) 0) m) 1
 unfolding bit_at_word
 word_bit first m row aligned below =
@@ -21,7 +22,8 @@ word_bit first m row aligned below =
     let place : (first + m) % 64 ≡ m = omega arith in
     ap₂ (λ k j. eqb (bit_at (get_or row k 0) j) 1) word place
 
--- The row started as `row`, holds `now`, and took in those of the block's rows that `bits` doesn't name any more.
+-- The row was `row` at the start and is `now`; it has taken in each row of the block whose bit it
+-- has, except those in `bits`.
 pub record TookIn (s : ℕ) (row now block : List ℕ) (width first bits : ℕ) : Type 0 where
   pub sound : (j : ℕ) → IsTrue (bit_at_word now j) → TakesIn s row block width first j
   pub keeps : (j : ℕ) → IsTrue (bit_at_word row j) → IsTrue (bit_at_word now j)
@@ -29,11 +31,11 @@ pub record TookIn (s : ℕ) (row now block : List ℕ) (width first bits : ℕ) 
       (bit_at bits m ≡ 1) ⊎ ((j : ℕ) → IsTrue (cell_at s block m j) → IsTrue (bit_at_word now j))
   pub had : (m : ℕ) → bit_at bits m ≡ 1 → IsTrue (bit_at_word row (first + m))
 
--- The lesser of a bit and a number is 1.
+-- If the smaller of a bit and a number is 1, the bit is 1.
 least_one : (a b : ℕ) → a < 2 → min a b ≡ 1 → a ≡ 1
 least_one a b below is = omega arith
 
--- Bit m of a word of which the lowest `width` bits were kept.
+-- Bit m of a word masked to its lowest `width` bits.
 masked_bit : (word width m : ℕ) → 0 < width → width ≤ 64 → bit_at (bit_and word ((2 ^ 64 - 1) / 2 ^ (64 - width))) m ≡ min (bit_at word m)
     (bit_at (2 ^ width - 1) m)
 masked_bit word width m some narrow =
@@ -49,7 +51,7 @@ start_within word width some narrow m is =
       | inr past ↦ let none = bit_at_ones_above width m past in let both = masked_bit word width m some narrow in absurd (omega arith)
     ]
 
--- At the start.
+-- At the start no row is taken in.
 pub took_none : (s : ℕ) (row block : List ℕ) (width first : ℕ) → first % 64 ≡ 0 → 0 < width → width ≤ 64 →
     TookIn s row row block width first (bit_and (get_or row (first / 64) 0) ((2 ^ 64 - 1) / 2 ^ (64 - width)))
 took_none s row block width first aligned some narrow =
@@ -68,11 +70,11 @@ took_none s row block width first aligned some narrow =
           word_bit first m row aligned (omega arith) ∙ eq-eqb _ 1 (least_one (bit_at word m) (bit_at (2 ^ width - 1) m) (bit_at-lt word m) (sym (mask m) ∙ is));
     }
 
--- The bits that are left once row k was taken in, and with it all that its own bits name.
+-- The remaining bits after row k is taken in: without bit k and without the bits of row k's word.
 abbrev pub bits_left : ℕ → ℕ → ℕ → ℕ
 bits_left bits word k = bit_and bits (bit_not w64 (bit_or word (1 * 2 ^ k % 2 ^ 64)))
 
--- A bit is left where it was, and neither the word nor bit k has it.
+-- A bit remains if it was there before and is neither bit k nor a bit of the word.
 pub bit_at_left : (bits word k m : ℕ) → k < 64 → word < 2 ^ 64 → m < 64 →
     bit_at (bits_left bits word k) m ≡ min (bit_at bits m) (1 - max (bit_at word m) (bit_at (2 ^ k) m))
 bit_at_left bits word k m below fits in_word =
@@ -83,7 +85,7 @@ bit_at_left bits word k m below fits in_word =
     (or_lt 64 word (1 * 2 ^ k % 2 ^ 64) fits (subst (λ n. n < 2 ^ 64) (sym one) two)) in_word)
     ∙ ap (λ b. min (bit_at bits m) (1 - b)) (bit_at_or word (1 * 2 ^ k % 2 ^ 64) m ∙ ap (λ n. max (bit_at word m) (bit_at n m)) one)
 
--- They are fewer.
+-- Each step leaves a smaller number of bits.
 pub bits_left_less : (bits word k : ℕ) → k < 64 → word < 2 ^ 64 → bit_at bits k ≡ 1 → bits_left bits word k < bits
 bits_left_less bits word k below fits set =
     let most = and_le_l bits (bit_not w64 (bit_or word (1 * 2 ^ k % 2 ^ 64))) in
@@ -96,13 +98,13 @@ bits_left_less bits word k below fits set =
       | inr less ↦ omega arith
     ]
 
--- And were there before.
+-- Each remaining bit was there before.
 pub bits_left_before : (bits word k m : ℕ) → bit_at (bits_left bits word k) m ≡ 1 → bit_at bits m ≡ 1
 bits_left_before bits word k m is =
     let rest = bit_not w64 (bit_or word (1 * 2 ^ k % 2 ^ 64)) in
     least_one (bit_at bits m) (bit_at rest m) (bit_at-lt bits m) (sym (bit_at_and bits rest m) ∙ is)
 
--- One row more.
+-- One step: row k is taken in.
 pub took_more : (s : ℕ) (row now block : List ℕ) (width first k bits : ℕ) → TookIn s row now block width first bits → IsClosedBlock s block width first →
     first % 64 ≡ 0 → width ≤ 64 → k < width → bit_at bits k ≡ 1 → length now ≡ length (row_words s block k) →
     get_or (row_words s block k) (first / 64) 0 < 2 ^ 64 → TookIn s row (zip2 bit_or now (row_words s block k)) block width first
@@ -138,7 +140,7 @@ took_more s row now block width first k bits took closed aligned narrow below_wi
       had = λ m is. took.had m (bits_left_before bits word k m is);
     }
 
--- At the end no bit is left.
+-- When no bit remains, the row has taken in all rows of the block.
 pub took_all : (s : ℕ) (row now block : List ℕ) (width first bits : ℕ) → bits ≡ 0 → TookIn s row now block width first bits → (j : ℕ) →
     IsTrue (bit_at_word now j) ↔ TakesIn s row block width first j
 took_all s row now block width first bits none took j = (
@@ -158,7 +160,7 @@ takes_in_nil s block width first j =
     let clear : (i : ℕ) → bit_at_word [] i ≡ false = λ i. bit_at_word-past [] i (omega arith) in
     (λ is. inl is, λ takes. elim takes [ inl own ↦ own | inr through ↦ absurd (false≢true (sym (clear (first + through.0)) ∙ through.2)) ])
 
--- A word of a row is a word of the block.
+-- A word of a row fits in 64 bits, because it is a word of the block.
 pub row_word_fits : (s k m : ℕ) (block : List ℕ) → ((i : ℕ) → Fits w64 (get_or block i 0)) → get_or (row_words s block k) m 0 < 2 ^ 64
 unfolding row_words
 row_word_fits s k m block fits =
@@ -169,7 +171,7 @@ row_word_fits s k m block fits =
           subst (λ w. w < 2 ^ 64) (sym none) (lit< tt)
     ]
 
--- What a row took in, at the length and the row that it was lent as.
+-- The result of the loop for the row's length and words as they were lent.
 pub took_row : (s t : ℕ) (lent row now block : List ℕ) (width first : ℕ) → t ≡ s → lent ≡ row →
     (IsClosedBlock t block width first → (j : ℕ) → IsTrue (bit_at_word now j) ↔ TakesIn t lent block width first j) → IsClosedBlock s block width first →
     (j : ℕ) → IsTrue (bit_at_word now j) ↔ TakesIn s row block width first j

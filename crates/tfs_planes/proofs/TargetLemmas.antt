@@ -1,4 +1,4 @@
--- Laws of rows that take in the rows of their targets.
+-- Lemmas about rows that take in the rows of their targets.
 use Rattle.std.proofs.Common.{◌≡◌, ◌≢◌, ◌↔◌, ◌⊎◌, ℕ, ◌+◌, ◌-◌, ◌*◌, ◌/◌, ◌%◌, ◌^◌, ◌<◌, ◌≤◌, min, ◌||◌, eqb, IsTrue, List, false}
 use Rattle.std.proofs.Common.{length, get_or, replicate, bit_and, bit_or, w64, ap, sym, subst, ◌∙◌, inl, inr, arith}
 use Rattle.std.proofs.lemmas.Bool.{cases_eq, cases_lt, or_cases, or_left, or_right, false≢true, eqb-true, eq-eqb, ne_eqb}
@@ -12,14 +12,14 @@ use Rattle.tfs_planes.specs.Targets.{IsTarget, ArePlacedClosed, HasCome, Gathers
 use Rattle.tfs_planes.proofs.BitLemmas.{bit_at_word-union, bit_at_word-zeros, bit_of_word, covered_bit}
 use Rattle.tfs_planes.proofs.TakeLemmas.{bits_left, bit_at_left}
 
--- A set bit of a word is a target, where its number isn't the row itself.
+-- A set bit of a word is a target if its number is not the row itself.
 target_bit : (own : List ℕ) (row word k : ℕ) → k < 64 → 64 * word + k ≢ row → (bit_at (get_or own word 0) k ≡ 1) ↔ IsTarget own row (64 * word + k)
 target_bit own row word k below other = (
   λ one. (bit_of_word word k own below ∙ eq-eqb _ 1 one, other),
   λ target. eqb-true _ 1 (sym (bit_of_word word k own below) ∙ target.0),
 )
 
--- The bits of a word without the row's own are its targets there.
+-- The targets in the word with the row's own bit are the set bits without that bit.
 pub targets_of_own_word : (own : List ℕ) (row word k : ℕ) → get_or own word 0 < 2 ^ 64 → word ≡ row / 64 → k < 64 →
     (bit_at (bit_and (get_or own word 0) (bit_not w64 (1 * 2 ^ (row % 64) % 2 ^ 64))) k ≡ 1) ↔ IsTarget own row (64 * word + k)
 targets_of_own_word own row word k fits here below =
@@ -35,26 +35,26 @@ targets_of_own_word own row word k fits here below =
           (λ one. bit.0 (sym kept ∙ one), λ target. kept ∙ bit.1 target)
     ]
 
--- The bits of another word are all targets.
+-- The targets in any other word are all its set bits.
 pub targets_of_word : (own : List ℕ) (row word k : ℕ) → word ≢ row / 64 → k < 64 → (bit_at (get_or own word 0) k ≡ 1) ↔ IsTarget own row (64 * word + k)
 targets_of_word own row word k apart below = target_bit own row word k below (λ same. apart (omega arith))
 
--- The rows of the targets in one word came, but for those that `left` names.
+-- The rows of the targets in one word are collected, except those in `left`.
 pub record TakesWord (s : ℕ) (words own : List ℕ) (row : ℕ) (before now : List ℕ) (word left : ℕ) : Type 0 where
   pub come : HasCome s words own row now
   pub keeps : (j : ℕ) → IsTrue (bit_at_word before j) → IsTrue (bit_at_word now j)
   pub rest : (k : ℕ) → k < 64 → IsTarget own row (64 * word + k) → (bit_at left k ≡ 1) ⊎
       ((j : ℕ) → IsTrue (cell_at s words (64 * word + k) j) → IsTrue (bit_at_word now j))
 
--- The bits of one number that another hasn't.
+-- The bits of one number that are not in another.
 abbrev pub bits_without : ℕ → ℕ → ℕ
 bits_without bits others = bit_and bits (bit_not w64 others)
 
--- A bit that both have isn't among them, and each other is.
+-- A bit is in the difference if it is in the first number and not in the other.
 bit_at_without : (bits others k : ℕ) → others < 2 ^ 64 → k < 64 → bit_at (bits_without bits others) k ≡ min (bit_at bits k) (1 - bit_at others k)
 bit_at_without bits others k fits below = bit_at_and bits (bit_not w64 others) k ∙ ap (min (bit_at bits k)) (bit_at_not w64 others k fits below)
 
--- A bit that one word has without the other's is a number of its list and none of the other's.
+-- A bit of the difference of two words is a number of the first list and not of the other.
 pub number_without : (words others : List ℕ) (at k : ℕ) → get_or others at 0 < 2 ^ 64 → k < 64 →
     bit_at (bits_without (get_or words at 0) (get_or others at 0)) k ≡ 1 →
     IsTrue (bit_at_word words (at * 64 + k)) × (bit_at_word others (at * 64 + k) ≡ false)
@@ -65,7 +65,7 @@ number_without words others at k fits below one =
       ap (bit_at_word others) place ∙ bit_of_word at k others below ∙ ne_eqb _ 1 (omega arith),
     )
 
--- The bits that are left to take are targets, and they are placed where none is missing.
+-- The remaining bits are targets, and they are placed if no bit is missing in `placed`.
 pub left_within : (bits others placed k : ℕ) → bits < 2 ^ 64 → others < 2 ^ 64 → placed < 2 ^ 64 → bits_without (bits_without bits others) placed ≡ 0 →
     bit_at (bits_without bits others) k ≡ 1 →
     (k < 64) × (bit_at bits k ≡ 1) × (bit_at placed k ≡ 1)
@@ -83,7 +83,7 @@ left_within bits others placed k fits also too none is =
           absurd (omega arith)
     ]
 
--- At the start of a word.
+-- At the start of a word, the remaining bits are the targets that have not been collected.
 pub takes_word_start : (s : ℕ) (words own : List ℕ) (row : ℕ) (came : List ℕ) (word bits : ℕ) → get_or came word 0 < 2 ^ 64 →
     ((k : ℕ) → k < 64 → (bit_at bits k ≡ 1) ↔ IsTarget own row (64 * word + k)) →
     HasCome s words own row came → TakesWord s words own row came came word (bits_without bits (get_or came word 0))
@@ -101,24 +101,24 @@ takes_word_start s words own row came word bits fits targets come = record {
       ];
 }
 
--- What came with one target's row more.
+-- The collected bits united with one target's row.
 module _ (s : ℕ) (words own : List ℕ) (row : ℕ) (placed now : List ℕ) (t : ℕ) (closed : ArePlacedClosed s words placed) (come : HasCome s words own row now)
     (target : IsTarget own row t) (is_placed : IsTrue (bit_at_word placed t)) (long : length now ≡ length (row_words s words t)) (after : List ℕ)
     (made : after ≡ zip2 bit_or now (row_words s words t)) where
-  -- A bit is set where it was, or where the target's row has it.
+  -- A bit is set if it was set before or is set in the target's row.
   united : (j : ℕ) → bit_at_word after j ≡ (bit_at_word now j || bit_at_word (row_words s words t) j)
   united j = ap (λ zs. bit_at_word zs j) made ∙ bit_at_word-union now (row_words s words t) j long
 
-  -- What was there stays.
+  -- The bits that were set stay set.
   keeps_more : (j : ℕ) → IsTrue (bit_at_word now j) → IsTrue (bit_at_word after j)
   keeps_more j is = united j ∙ or_left (bit_at_word now j) (bit_at_word (row_words s words t) j) is
 
-  -- The target's row is there.
+  -- The bits of the target's row are set.
   covers_more : (j : ℕ) → IsTrue (cell_at s words t j) → IsTrue (bit_at_word after j)
   unfolding cell_at
   covers_more j is = united j ∙ or_right (bit_at_word now j) (bit_at_word (row_words s words t) j) is
 
-  -- What is there has come.
+  -- The collected bits keep their invariant.
   come_more : HasCome s words own row after
   unfolding cell_at
   come_more = record {
@@ -132,7 +132,7 @@ module _ (s : ℕ) (words own : List ℕ) (row : ℕ) (placed now : List ℕ) (t
     ];
   }
 
--- One target more of a word.
+-- One step: the row of target k of a word is added.
 pub takes_word_more : (s : ℕ) (words own : List ℕ) (row : ℕ) (placed before now after : List ℕ) (word left k : ℕ) → ArePlacedClosed s words placed →
     TakesWord s words own row before now word left → k < 64 →
     IsTarget own row (64 * word + k) → IsTrue (bit_at_word placed (64 * word + k)) → length now ≡ length (row_words s words (64 * word + k)) →
@@ -167,7 +167,7 @@ takes_word_more s words own row placed before now after word left k closed takes
         let two = bit_at-lt others m in
         omega arith
 
--- At the end of a word none is left.
+-- When no bit of a word remains, the rows of its targets are collected.
 pub gathers_word : (s : ℕ) (words own : List ℕ) (row : ℕ) (before now : List ℕ) (word left : ℕ) → left ≡ 0 →
     TakesWord s words own row before now word left → Gathers s words own row before now (64 * word) (64 * word + 64)
 gathers_word s words own row before now word left none takes = record {
@@ -183,11 +183,11 @@ gathers_word s words own row before now word left none takes = record {
       ];
 }
 
--- Before the first target.
+-- An empty range of targets needs no rows.
 pub gathers_none : (s : ℕ) (words own : List ℕ) (row : ℕ) (came : List ℕ) (at : ℕ) → HasCome s words own row came → Gathers s words own row came came at at
 gathers_none s words own row came at come = record { come = come; keeps = λ j is. is; covers = λ t j low high target cell. absurd (omega arith) }
 
--- First the higher targets, and then those below them.
+-- Two adjacent ranges of targets, the higher one collected first, make one range.
 pub gathers_more : (s : ℕ) (words own : List ℕ) (row : ℕ) (before mid now : List ℕ) (low middle high : ℕ) →
     Gathers s words own row before mid middle high → Gathers s words own row mid now low middle →
     Gathers s words own row before now low high
@@ -200,7 +200,7 @@ gathers_more s words own row before mid now low middle high first second = recor
   ];
 }
 
--- The targets of one block more, whose rows are as long as a block says.
+-- The targets of the next block extend the range, for a block with the row length of the plane.
 pub gathers_block : (s n : ℕ) (words own : List ℕ) (row : ℕ) (placed before mid now : List ℕ) (low middle top high : ℕ) → n ≡ s → middle ≡ top →
     Gathers s words own row before mid top high →
     (ArePlacedClosed n words placed → HasCome n words own row mid → Gathers n words own row mid now low middle) → ArePlacedClosed s words placed →
@@ -209,7 +209,7 @@ gathers_block s n words own row placed before mid now low middle top high same m
     let turned = subst (λ m. ArePlacedClosed m words placed → HasCome m words own row mid → Gathers m words own row mid now low middle) same step in
     gathers_more s words own row before mid now low top high first (subst (λ m. Gathers s words own row mid now low m) meets (turned closed first.come))
 
--- Targets that came have their rows there.
+-- If all targets of a lane block are collected bits, their rows are collected too.
 pub gathers_skip : (s : ℕ) (words own : List ℕ) (row : ℕ) (came : List ℕ) (at : ℕ) → at + 8 ≤ length own → at + 8 ≤ length came →
     zip2 bit_or (chunk at 8 own) (chunk at 8 came) ≡ chunk at 8 came →
     HasCome s words own row came → Gathers s words own row came came (64 * at) (64 * (at + 8))
@@ -219,14 +219,15 @@ gathers_skip s words own row came at long also same come = record {
   covers = λ t j low high target cell. come.closed t j (covered_bit at own came long also same t low high target.0) cell;
 }
 
--- Nothing came yet.
+-- At the start nothing is collected.
 pub come_none : (s : ℕ) (words own : List ℕ) (row n : ℕ) → HasCome s words own row (replicate n 0)
 come_none s words own row n = record {
   sound = λ j is. absurd (false≢true (sym (bit_at_word-zeros n j) ∙ is));
   closed = λ a b is cell. absurd (false≢true (sym (bit_at_word-zeros n a) ∙ is));
 }
 
--- From the first that came to the rows of all targets, at the length and the row that were lent.
+-- The collected bits include the rows of all targets, for the row's length and words as they were
+-- lent.
 pub gathers_all : (s n : ℕ) (words own lent : List ℕ) (row : ℕ) (placed first came : List ℕ) → n ≡ s → lent ≡ own →
     (ArePlacedClosed s words placed → HasCome s words lent row first) →
     (ArePlacedClosed n words placed → HasCome n words lent row first → Gathers n words lent row first came 0 (64 * n)) →
@@ -236,7 +237,7 @@ gathers_all s n words own lent row placed first came same is begins rest closed 
     Gathers k words lent row first came 0 (64 * k)) same rest closed (begins closed) in
     subst (λ r. Gathers s words r row first came 0 (64 * s)) is all
 
--- A target's row came, and the target with it.
+-- After the row of a placed target is collected with the target's own bit, the invariant holds.
 pub come_target : (s : ℕ) (words own : List ℕ) (row : ℕ) (placed : List ℕ) (t : ℕ) (mid also : List ℕ) → ArePlacedClosed s words placed →
     IsTarget own row t → IsTrue (bit_at_word placed t) → mid ≡ row_words s words t →
     ((j : ℕ) → bit_at_word also j ≡ (eqb j t || bit_at_word mid j)) → HasCome s words own row also

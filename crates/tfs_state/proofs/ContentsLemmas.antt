@@ -1,4 +1,4 @@
--- Laws of specs/Contents.antt, and of the document that a text spells.
+-- Lemmas about specs/Contents.antt and about the document that a text spells.
 use Rattle.std.proofs.Common.{codes, nat_eq, not, Bool, ◌≡◌, ℕ, ◌≤◌, ◌<◌, List, length, take, true, false, cond, Option, Some, None, Ok, Err, string_bytes}
 use Rattle.std.proofs.Common.{refl, sym, ap, subst, ◌∙◌, arith}
 use Rattle.std.specs.List.{AllZip}
@@ -19,12 +19,12 @@ use Rattle.tfs_state.specs.declared.content.Content.{Content}
 use Rattle.tfs_state.specs.declared.tables.Tables.{Tables}
 use Rattle.tfs_state.proofs.ListLemmas.{zip_length, take_short, take_few}
 
--- A test of an optional number that holds.
+-- If an optional number equals n by the test, it is n.
 pub is_number : (o : Option ℕ) (n : ℕ) → option_eq nat_eq o (Some n) ≡ true → o ≡ Some n
 is_number None n e = cc
 is_number (Some m) n e = ap Some (eqb-true m n e)
 
--- All instances of a list of resources.
+-- The instances of a list of resources are the instances of each resource, joined.
 all_read : (value : Data) (values : List Data) (lists : List (List Instance)) → Some values ≡ list_at (codes "resources") value
     → read_each read_resource 0 values ≡ Ok lists → instances_of value ≡ few_instances (joined lists)
 unfolding instances_of
@@ -32,11 +32,12 @@ all_read value values lists is e =
     ap (λ o. result_and_then few_instances (result_and_then read_resources (ok_or o (Resource 0)))) (sym is)
     ∙ ap (λ r. result_and_then few_instances (result_map joined r)) e
 
--- As many rows are packed as there are, 4,097 at most.
+-- The number of packed rows is the number of rows, at most 4,097.
 rows_packed : (tables : Tables) (instances : List Instance) (t : Tabulates tables instances) → length tables.packed.rows.items ≡ length (take 4097 t.rows)
 rows_packed tables instances t = zip_length _ tables.packed.rows.items (take 4097 t.rows) t.packed
 
--- At most 4,096 instances were read as tables, of which the blocks and what is packed stay.
+-- If at most 4,096 rows were read, tables with equal blocks and equal packed rows represent all
+-- instances of the value.
 pub instances_read : (value : Data) (values : List Data) (tables kept : Tables) → Some values ≡ list_at (codes "resources") value
     → ReadsResources values tables → AreApart tables.names → length tables.packed.rows.items ≤ 4096
     → kept.blocks.items ≡ tables.blocks.items → kept.packed.rows ≡ tables.packed.rows → kept.packed.numbers.items ≡ tables.packed.numbers.items
@@ -56,7 +57,7 @@ instances_read value values tables kept is r apart few blocks rows numbers =
       stand = subst (λ bs. Stand bs t.rows all) (sym blocks) (record { names = tables.names; apart = apart; each = t.stand });
     }
 
--- More than 4,096 instances.
+-- If more than 4,096 instances were read, the fault is TooManyInstances.
 pub many_instances : (value : Data) (values : List Data) (tables : Tables) → Some values ≡ list_at (codes "resources") value
     → ReadsResources values tables → 4096 < length tables.packed.rows.items → instances_of value ≡ Err TooManyInstances
 many_instances value values tables is r many =
@@ -67,7 +68,7 @@ many_instances value values tables is r many =
     all_read value values r.lists is r.read
     ∙ ap (λ b. cond b (Ok all) (Err TooManyInstances)) (lt-leb (length all) 4096 (omega (arith, long, same, many, take_short 4097 t.rows)))
 
--- The content of a value whose parts were read.
+-- The parts that were read represent the content of the value.
 pub content_read : (value : Data) (parts : Content) (tables : Tables) → version_of value ≡ Some 4 → serial_of value ≡ Some parts.serial
     → lineage_of value ≡ Some (string_bytes parts.lineage) → ReadsInstancesOf value tables
     → parts.blocks ≡ tables.blocks → parts.packed ≡ tables.packed → ReadsContent value parts
@@ -85,12 +86,12 @@ content_read value parts tables version serial lineage r blocks packed = record 
   };
 }
 
--- A member `resources` that is no list.
+-- If the member `resources` is not a list, the fault is that of resource 0.
 pub no_list : (value : Data) → None ≡ list_at (codes "resources") value → instances_of value ≡ Err (Resource 0)
 unfolding instances_of
 no_list value none = ap (λ o. result_and_then few_instances (result_and_then read_resources (ok_or o (Resource 0)))) (sym none)
 
--- Resources of which one is refused.
+-- If a resource is invalid, its fault is the fault of all instances.
 pub refused_resource : (value : Data) (values : List Data) (fault : StateFault) → Some values ≡ list_at (codes "resources") value
     → read_each read_resource 0 values ≡ Err fault → instances_of value ≡ Err fault
 unfolding instances_of
@@ -98,7 +99,7 @@ refused_resource value values fault is e =
     ap (λ o. result_and_then few_instances (result_and_then read_resources (ok_or o (Resource 0)))) (sym is)
     ∙ ap (λ r. result_and_then few_instances (result_map joined r)) e
 
--- A value of another version.
+-- If the version is not 4, the fault is Version.
 pub other_version : (value : Data) (version : Option ℕ) → version ≡ version_of value → true ≡ not (option_eq nat_eq version (Some 4))
     → content_of value ≡ Err Version
 unfolding content_of
@@ -111,7 +112,7 @@ other_version value version is other =
     by true e = cc
     by false e = refl
 
--- A value of this version.
+-- If the version test does not fail, the version is 4.
 pub right_version : (value : Data) (version : Option ℕ) → version ≡ version_of value → false ≡ not (option_eq nat_eq version (Some 4))
     → version_of value ≡ Some 4
 right_version value version is same = sym is ∙ is_number version 4 (by (option_eq nat_eq version (Some 4)) same)
@@ -120,18 +121,18 @@ right_version value version is same = sym is ∙ is_number version 4 (by (option
     by true e = refl
     by false e = cc
 
--- A value without a serial.
+-- If the value has no serial, the fault is Serial.
 pub no_serial : (value : Data) → version_of value ≡ Some 4 → None ≡ serial_of value → content_of value ≡ Err Serial
 unfolding content_of
 no_serial value version none = rw version (rw (← none) refl)
 
--- A value without a lineage.
+-- If the value has no lineage, the fault is Lineage.
 pub no_lineage : (value : Data) (serial : ℕ) → version_of value ≡ Some 4 → serial_of value ≡ Some serial → None ≡ lineage_of value
     → content_of value ≡ Err Lineage
 unfolding content_of
 no_lineage value serial version is none = rw version (rw is (rw (← none) refl))
 
--- A value with a fault of its resources.
+-- If the resources have a fault, it is the fault of the value.
 pub refused_resources : (value : Data) (serial : ℕ) (lineage : List ℕ) (fault : StateFault) → version_of value ≡ Some 4 → serial_of value ≡ Some serial
     → lineage_of value ≡ Some lineage → instances_of value ≡ Err fault → content_of value ≡ Err fault
 unfolding content_of

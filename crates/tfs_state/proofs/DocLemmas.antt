@@ -1,4 +1,4 @@
--- Laws of a document and the parts that keep its text.
+-- Lemmas about a document and the parts that represent its text.
 use Rattle.std.proofs.Common.{◌≡◌, ℕ, zero, suc, ◌≤◌, ◌<◌, ◌↔◌, List, [], ◌∷◌, ◌++◌, length, true, false, ◌||◌, nat_eq, Some, option_map}
 use Rattle.std.proofs.Common.{option_and_then, string_bytes, IsTrue, refl, sym, ap, subst, ◌∙◌, append_assoc, eq-eqb}
 use Rattle.std.specs.List.{AllZip, slice_get, list_any}
@@ -20,10 +20,11 @@ use Rattle.tfs_state.specs.Packed.{IsPacked, IsWithin, dependencies_of}
 use Rattle.tfs_state.proofs.ListLemmas.{zip_length, zip_at}
 use Rattle.tfs_state.proofs.StateTextLemmas.{kept_document}
 
--- ---- numbers that stand for texts
+-- ---- numbers that represent texts
 
 module _ (names : List (List ℕ)) (n : ℕ) (bare : List ℕ) (named : slice_get names n ≡ Some bare) where
-  -- Where the number is among those of some texts, one of the texts, stripped, is its text.
+  -- If a number is among the numbers of some texts, one of these texts, stripped, is the number's
+  -- text.
   pub text_of_number : (ns : List ℕ) (texts : List (List ℕ)) → AllZip (StandsForBare names) ns texts → list_any (λ y. nat_eq y n) ns ≡ true
       → (place : ℕ) × (text : List ℕ) × (slice_get texts place ≡ Some text) × (stripped_text text ≡ Some bare)
   text_of_number [] texts z e = cc
@@ -35,7 +36,7 @@ module _ (names : List (List ℕ)) (n : ℕ) (bare : List ℕ) (named : slice_ge
         | false ↦ λ _ f. let later = text_of_number ns texts z.1 f in (suc later.0, later.1, later.2, later.3)
       ] refl e
 
-  -- Where one of the texts, stripped, is the text of the number, the number is among theirs.
+  -- If one of the texts, stripped, is the number's text, the number is among their numbers.
   pub number_of_text : AreApart names → (ns : List ℕ) (texts : List (List ℕ)) (place : ℕ) (text : List ℕ) → AllZip (StandsForBare names) ns texts
       → slice_get texts place ≡ Some text → stripped_text text ≡ Some bare → list_any (λ y. nat_eq y n) ns ≡ true
   number_of_text apart [] [] place text z at s = cc
@@ -49,14 +50,14 @@ module _ (names : List (List ℕ)) (n : ℕ) (bare : List ℕ) (named : slice_ge
   number_of_text apart (m ∷ ns) (t ∷ texts) (suc place) text z at s =
       ap (λ b. nat_eq m n || b) (number_of_text apart ns texts place text z.1 at s) ∙ or-true (nat_eq m n)
 
--- ---- a document and what keeps its text
+-- ---- a document and the parts that represent it
 
 module _ (bytes : List ℕ) (parts : Content) (keeps : Keeps bytes parts) (d : Document) (is : document_given bytes ≡ d) where
-  -- The instances of the document are those of the content.
+  -- The instances of the document are the instances of the content.
   same_instances : keeps.content.instances ≡ d.instances
   same_instances = ap (λ (e : Document). e.instances) (sym (kept_document bytes parts keeps) ∙ is)
 
-  -- There is a row for each instance.
+  -- The number of rows is the number of instances.
   pub kept_length : length parts.packed.rows.items ≡ length d.instances
   kept_length = zip_length _ parts.packed.rows.items keeps.holds.rows keeps.holds.packed
       ∙ zip_length _ keeps.holds.rows keeps.content.instances keeps.holds.stand.each ∙ ap (λ (us : List Instance). length us) same_instances
@@ -65,7 +66,8 @@ module _ (bytes : List ℕ) (parts : Content) (keeps : Keeps bytes parts) (d : D
   pub kept_limit : length d.instances ≤ 4096
   kept_limit = subst (λ (us : List Instance). length us ≤ 4096) same_instances keeps.holds.limit
 
-  -- What a packed row is: the instance that it stands for, and the row that was read of it.
+  -- The meaning of a packed row: the instance that it represents, and the row from which it was
+  -- packed.
   pub record KeptRow (i : ℕ) (packed : PackedRow) : Type 0 where
     pub instance : Instance
     pub found : slice_get d.instances i ≡ Some instance
@@ -73,7 +75,7 @@ module _ (bytes : List ℕ) (parts : Content) (keeps : Keeps bytes parts) (d : D
     pub packing : IsPacked parts.packed.numbers.items packed row
     pub stands : StandsFor keeps.holds.stand.names parts.blocks.items row instance
 
-  -- The instance that a packed row stands for.
+  -- Each packed row represents an instance.
   pub kept_row : (i : ℕ) (packed : PackedRow) → slice_get parts.packed.rows.items i ≡ Some packed → KeptRow i packed
   kept_row i packed at =
       let row = zip_at _ parts.packed.rows.items keeps.holds.rows i packed keeps.holds.packed at in
@@ -86,25 +88,25 @@ module _ (bytes : List ℕ) (parts : Content) (keeps : Keeps bytes parts) (d : D
         stands = found.2;
       }
 
-  -- The block of a row is there.
+  -- The block of a row is in the list of blocks.
   pub kept_block : (i : ℕ) (row : PackedRow) → slice_get parts.packed.rows.items i ≡ Some row → row.block < length parts.blocks.items
   kept_block i row at = let found = kept_row i row at in
       slice_get_within parts.blocks.items row.block found.stands.block (ap (slice_get parts.blocks.items) found.packing.block ∙ found.stands.placed)
 
-  -- The dependencies of a row are in the list of all.
+  -- The dependencies of a row are within the list of all dependencies.
   pub kept_within : (i : ℕ) (row : PackedRow) → slice_get parts.packed.rows.items i ≡ Some row → IsWithin parts.packed.numbers.items row
   kept_within i row at = let found = kept_row i row at in found.packing.within
 
   module _ (i : ℕ) (row : PackedRow) (block : Block) (at : slice_get parts.packed.rows.items i ≡ Some row) (placed : slice_get parts.blocks.items
       row.block ≡ Some block) where
-    -- The block of the row that was read.
+    -- The block that represents the instance is the block of the packed row.
     same_block : (found : KeptRow i row) → found.stands.block ≡ block
     same_block found =
         let read : slice_get parts.blocks.items row.block ≡ Some found.stands.block
         = ap (slice_get parts.blocks.items) found.packing.block ∙ found.stands.placed in
         cc
 
-    -- The parts of an address are the address.
+    -- The front of the block followed by the tail of the row is the address.
     pub kept_address : address_of d i ≡ Some (string_bytes block.front ++ string_bytes row.tail)
     kept_address =
         let found = kept_row i row at in
@@ -114,7 +116,7 @@ module _ (bytes : List ℕ) (parts : Content) (keeps : Keeps bytes parts) (d : D
         ∙ ap (λ t. module_part u.path u.path ++ resource_part u.mode u.kind u.name ++ t) (sym (found.packing.tail ∙ found.stands.tail))
         ∙ ap (λ t. t ++ string_bytes row.tail) (sym found.stands.front ∙ ap (λ (b : Block). string_bytes b.front) (same_block found)))
 
-    -- The configuration address.
+    -- The configuration address of the instance is the block's.
     pub kept_config : config_of d i ≡ Some (string_bytes block.config)
     kept_config =
         let found = kept_row i row at in
@@ -126,13 +128,14 @@ module _ (bytes : List ℕ) (parts : Content) (keeps : Keeps bytes parts) (d : D
         let found = kept_row i row at in
         subst HasDigests (same_block found) found.stands.digests
 
-    -- The number stands for the configuration address.
+    -- The block's number represents the configuration address.
     kept_named : slice_get keeps.holds.stand.names block.number ≡ Some (string_bytes block.config)
     kept_named =
         let found = kept_row i row at in
         subst (λ (b : Block). slice_get keeps.holds.stand.names b.number ≡ Some (string_bytes b.config)) (same_block found) found.stands.named
 
-    -- An instance depends on this one exactly where the number of the block is among its numbers.
+    -- An instance depends on this one if and only if the block's number is among the numbers of its
+    -- dependencies.
     pub kept_depends : (u : ℕ) (other : PackedRow) → slice_get parts.packed.rows.items u ≡ Some other
         → IsTrue (list_any (λ y. nat_eq y block.number) (dependencies_of parts.packed.numbers.items other)) ↔ DependsOn d u i
     kept_depends u other there =

@@ -1,4 +1,4 @@
--- Laws of specs/FirstFault.antt.
+-- Lemmas about specs/FirstFault.antt.
 use Rattle.std.proofs.Common.{◌≡◌, inl, inr, ℕ, zero, suc, ◌+◌, ◌<◌, ◌↔◌, List, [], ◌∷◌, Option, Some, None, Result, Ok, Err, refl, sym, ap, ◌∙◌}
 use Rattle.std.proofs.Common.{arith, add-zero, zero-add, map}
 use Rattle.std.specs.List.{slice_get}
@@ -11,17 +11,17 @@ use Rattle.tfs_state.specs.Resources.{dependency_of, instance_members, resource_
 use Rattle.tfs_state.specs.declared.fault.StateFault.{StateFault}
 use Rattle.tfs_state.specs.declared.fault.StateFault.TheVariants.{Resource, Instance, Dependency}
 
--- A fault of a mapped result is that of the result.
+-- A fault of a mapped result is a fault of the result.
 map_fault : {A B F : Type 0} (f : A → B) (r : Result A F) (fault : F) → result_map f r ≡ Err fault → r ≡ Err fault
 map_fault f (Ok x) fault e = cc
 map_fault f (Err other) fault e = let same : other ≡ fault = cc in ap Err same
 
--- The same the other way round.
+-- A fault of a result is a fault of the mapped result.
 fault_map : {A B F : Type 0} (f : A → B) (r : Result A F) (fault : F) → r ≡ Err fault → result_map f r ≡ Err fault
 fault_map f r fault e = ap (result_map f) e
 
 module _ {B : Type 0} (read : ℕ → Data → Result B StateFault) where
-  -- The same of a list whose first element has the number i.
+  -- The first fault of a list whose first element has the number i.
   record FirstFrom (i : ℕ) (values : List Data) (fault : StateFault) : Type 0 where
     place : ℕ
     value : Data
@@ -60,7 +60,7 @@ module _ {B : Type 0} (read : ℕ → Data → Result B StateFault) where
               let found = first.before n earlier (omega (arith, h)) at in
               (found.0, ap (λ m. read m earlier) (let same : i + suc n ≡ suc i + n = omega arith in same) ∙ found.1)
 
-  -- A list of which an element is refused, and each before it is read.
+  -- A list has the fault of an invalid element if every element before it is valid.
   refused_at : (i : ℕ) (values : List Data) (place : ℕ) (value : Data) (fault : StateFault) → slice_get values place ≡ Some value
       → read (i + place) value ≡ Err fault
       → ((n : ℕ) (earlier : Data) → n < place → slice_get values n ≡ Some earlier → (y : B) × (read (i + n) earlier ≡ Ok y))
@@ -82,7 +82,7 @@ module _ {B : Type 0} (read : ℕ → Data → Result B StateFault) where
   from_first : (i : ℕ) (values : List Data) (fault : StateFault) → FirstFrom i values fault → read_each read i values ≡ Err fault
   from_first i values fault first = refused_at i values first.place first.value fault first.listed first.refused first.before
 
-  -- A list has a fault exactly where it is that of its first refused element.
+  -- A list has a fault if and only if it is the fault of its first invalid element.
   pub each_fault : (values : List Data) (fault : StateFault) → (read_each read 0 values ≡ Err fault) ↔ IsFirstFault read values fault
   each_fault values fault = (
     λ e. let first = first_from 0 values fault e in record {
@@ -101,7 +101,7 @@ module _ {B : Type 0} (read : ℕ → Data → Result B StateFault) where
     }),
   )
 
--- Of resources.
+-- A list of resources has a fault if and only if it is the fault of the first invalid resource.
 pub resources_fault : (values : List Data) (fault : StateFault) → (read_resources values ≡ Err fault) ↔ IsFirstFault read_resource values fault
 resources_fault values fault =
     let each = each_fault read_resource values fault in (
@@ -110,11 +110,11 @@ resources_fault values fault =
           (each.1 first),
     )
 
--- A resource whose own members are these.
+-- The result of reading a resource with these members of its own.
 abbrev resource_with : ℕ → Option ResourceMembers → Result (List InstanceValue) StateFault
 resource_with i o = result_and_then (λ r. result_map (map (instance_of r)) (read_each (read_instance i) 0 r.instances)) (ok_or o (Resource i))
 
--- Of a resource.
+-- A resource has a fault if and only if it is its own or the first of its instances.
 pub resource_fault : (i : ℕ) (value : Data) (fault : StateFault) → (read_resource i value ≡ Err fault) ↔ IsResourceFault i value fault
 resource_fault i value fault = (λ e. to (resource_of value) refl e, from)
   where
@@ -132,11 +132,11 @@ resource_fault i value fault = (λ e. to (resource_of value) refl e, from)
     from (inr later) = ap (resource_with i) later.1 ∙ fault_map (map (instance_of later.0)) (read_each (read_instance i) 0 later.0.instances) fault
         ((each_fault (read_instance i) later.0.instances fault).1 later.2)
 
--- An instance whose own members are these.
+-- The result of reading an instance with these members of its own.
 abbrev instance_with : ℕ → ℕ → Option InstanceMembers → Result Own StateFault
 instance_with i j o = result_and_then (λ members. result_map (own_of members) (read_each (read_dependency i j) 0 members.dependencies)) (ok_or o (Instance i j))
 
--- Of an instance.
+-- An instance has a fault if and only if it is its own or the first of its dependencies.
 pub instance_fault : (i j : ℕ) (value : Data) (fault : StateFault) → (read_instance i j value ≡ Err fault) ↔ IsInstanceFault i j value fault
 instance_fault i j value fault = (λ e. to (instance_members value) refl e, from)
   where
@@ -154,7 +154,7 @@ instance_fault i j value fault = (λ e. to (instance_members value) refl e, from
     from (inr later) = ap (instance_with i j) later.1 ∙ fault_map (own_of later.0) (read_each (read_dependency i j) 0 later.0.dependencies) fault
         ((each_fault (read_dependency i j) later.0.dependencies fault).1 later.2)
 
--- Of a dependency.
+-- A dependency has a fault if and only if it isn't a text or doesn't read as pieces.
 pub dependency_fault : (i j k : ℕ) (value : Data) (fault : StateFault) → (read_dependency i j k value ≡ Err fault) ↔ IsDependencyFault i j k value fault
 dependency_fault i j k value fault = (λ e. to (dependency_of value) refl e, λ own. ap (λ o. ok_or o (Dependency i j k)) own.1 ∙ ap Err (sym own.0))
   where

@@ -1,5 +1,5 @@
--- Laws of lists: of elements at a place, of two lists whose elements are related one by one, and of lists whose elements are
--- read one after the other.
+-- Lemmas about lists: elements at an index, two lists whose elements are related pairwise, and
+-- lists whose elements are read one after another.
 use Rattle.std.proofs.Common.{option_map, None, ◌≡◌, ℕ, zero, suc, ◌+◌, ◌<◌, ◌≤◌, List, [], ◌∷◌, ◌++◌, length, map, take, drop, get_or, Some, Result, Ok}
 use Rattle.std.proofs.Common.{Err, refl, sym, ap, subst, ◌∙◌, arith, add-zero, append_assoc}
 use Rattle.std.specs.List.{AllZip, slice_get}
@@ -8,20 +8,20 @@ use Rattle.std.proofs.lemmas.List.{take_more, map-append, length-take-le, take-a
 use Rattle.std.proofs.Math.ListN.{length-map}
 use Rattle.tfs_state.specs.Resources.{result_and_then, result_map, read_each}
 
--- ---- elements at a place
+-- ---- elements at an index
 
--- An element stays at its place where more elements come after it.
+-- Appending to a list keeps the elements at their indexes.
 pub slice_get_longer : {A : Type 0} (xs ys : List A) (n : ℕ) (x : A) → slice_get xs n ≡ Some x → slice_get (xs ++ ys) n ≡ Some x
 slice_get_longer [] ys n x e = cc
 slice_get_longer (y ∷ xs) ys zero x e = e
 slice_get_longer (y ∷ xs) ys (suc n) x e = slice_get_longer xs ys n x e
 
--- What is put last stands at the place of the length.
+-- An appended element has the old length as its index.
 pub slice_get_last : {A : Type 0} (xs : List A) (y : A) → slice_get (xs ++ y ∷ []) (length xs) ≡ Some y
 slice_get_last [] y = refl
 slice_get_last (x ∷ xs) y = slice_get_last xs y
 
--- The element that one of a mapped list comes from.
+-- Each element of a mapped list is the image of the element at its index.
 pub map_at : {A B : Type 0} (f : A → B) (xs : List A) (n : ℕ) (y : B) → slice_get (map f xs) n ≡ Some y → (x : A) × (slice_get xs n ≡ Some x) × (f x ≡ y)
 map_at {A} {B} f xs n y e =
     elim (slice_get xs n) as (λ o. slice_get xs n ≡ o → option_map f o ≡ Some y → (x : A) × (slice_get xs n ≡ Some x) × (f x ≡ y)) [
@@ -29,35 +29,35 @@ map_at {A} {B} f xs n y e =
       | None ↦ λ is g. cc
     ] refl (sym (slice_get-map f xs n) ∙ e)
 
--- ---- two lists whose elements are related one by one
+-- ---- two lists whose elements are related pairwise
 
 module _ {A B : Type 0} where
-  -- Related lists, joined.
+  -- Appending related lists to related lists gives related lists.
   pub zip_append : (R : A → B → Type 0) (xs xs' : List A) (ys ys' : List B) → AllZip R xs ys → AllZip R xs' ys' → AllZip R (xs ++ xs') (ys ++ ys')
   zip_append R [] xs' [] ys' p q = q
   zip_append R [] xs' (y ∷ ys) ys' p q = absurd p
   zip_append R (x ∷ xs) xs' [] ys' p q = absurd p
   zip_append R (x ∷ xs) xs' (y ∷ ys) ys' p q = (p.0, zip_append R xs xs' ys ys' p.1 q)
 
-  -- One more of each.
+  -- Appending related elements to related lists gives related lists.
   pub zip_push : (R : A → B → Type 0) (xs : List A) (ys : List B) (x : A) (y : B) → AllZip R xs ys → R x y → AllZip R (xs ++ x ∷ []) (ys ++ y ∷ [])
   zip_push R xs ys x y p r = zip_append R xs (x ∷ []) ys (y ∷ []) p (r, tt)
 
-  -- A relation that follows from another.
+  -- Lists related by a relation are related by every weaker relation.
   pub zip_weaken : (R S : A → B → Type 0) → ((x : A) (y : B) → R x y → S x y) → (xs : List A) (ys : List B) → AllZip R xs ys → AllZip S xs ys
   zip_weaken R S f [] [] p = tt
   zip_weaken R S f [] (y ∷ ys) p = p
   zip_weaken R S f (x ∷ xs) [] p = p
   zip_weaken R S f (x ∷ xs) (y ∷ ys) p = (f x y p.0, zip_weaken R S f xs ys p.1)
 
-  -- Related lists are as long.
+  -- Related lists have equal lengths.
   pub zip_length : (R : A → B → Type 0) (xs : List A) (ys : List B) → AllZip R xs ys → length xs ≡ length ys
   zip_length R [] [] p = refl
   zip_length R [] (y ∷ ys) p = absurd p
   zip_length R (x ∷ xs) [] p = absurd p
   zip_length R (x ∷ xs) (y ∷ ys) p = ap (λ n. suc n) (zip_length R xs ys p.1)
 
-  -- The element of the second list at the place of one of the first.
+  -- Each element of the first list is related to the element of the second list at its index.
   pub zip_at : (R : A → B → Type 0) (xs : List A) (ys : List B) (n : ℕ) (x : A) → AllZip R xs ys → slice_get xs n ≡ Some x
       → (y : B) × (slice_get ys n ≡ Some y) × R x y
   zip_at R [] [] n x p e = cc
@@ -66,14 +66,15 @@ module _ {A B : Type 0} where
   zip_at R (a ∷ xs) (y ∷ ys) zero x p e = (y, refl, subst (λ z. R z y) (let same : a ≡ x = cc in same) p.0)
   zip_at R (a ∷ xs) (y ∷ ys) (suc n) x p e = zip_at R xs ys n x p.1 e
 
-  -- The second list with a function of its elements.
+  -- If the elements are related to the images of the second list's elements, the lists are related
+  -- after mapping.
   pub zip_map : {C : Type 0} (R : A → C → Type 0) (f : B → C) (xs : List A) (ys : List B) → AllZip (λ x y. R x (f y)) xs ys → AllZip R xs (map f ys)
   zip_map R f [] [] p = tt
   zip_map R f [] (y ∷ ys) p = p
   zip_map R f (x ∷ xs) [] p = p
   zip_map R f (x ∷ xs) (y ∷ ys) p = (p.0, zip_map R f xs ys p.1)
 
-  -- The fronts of related lists.
+  -- Prefixes of one length of related lists are related.
   pub zip_take : (R : A → B → Type 0) (n : ℕ) (xs : List A) (ys : List B) → AllZip R xs ys → AllZip R (take n xs) (take n ys)
   zip_take R zero xs ys p = tt
   zip_take R (suc n) [] [] p = tt
@@ -81,37 +82,38 @@ module _ {A B : Type 0} where
   zip_take R (suc n) (x ∷ xs) [] p = absurd p
   zip_take R (suc n) (x ∷ xs) (y ∷ ys) p = (p.0, zip_take R n xs ys p.1)
 
--- ---- fronts of lists
+-- ---- prefixes of lists
 
 module _ {A : Type 0} where
-  -- The empty list has an empty front.
+  -- Every prefix of the empty list is empty.
   pub take_none : (n : ℕ) → ◌≡◌ {A = List A} [] (take n [])
   take_none zero = refl
   take_none (suc n) = refl
 
-  -- A front is no longer than the list.
+  -- A prefix is not longer than the list.
   pub take_short : (n : ℕ) (xs : List A) → length (take n xs) ≤ length xs
   take_short zero xs = omega arith
   take_short (suc n) [] = omega arith
   take_short (suc n) (x ∷ xs) = omega (arith, take_short n xs)
 
-  -- A front of fewer elements than were asked for is the list.
+  -- A prefix shorter than the requested length is the whole list.
   pub take_few : (n : ℕ) (xs : List A) → length (take (suc n) xs) ≤ n → (length xs ≤ n) × (take (suc n) xs ≡ xs)
   take_few n [] few = (omega arith, refl)
   take_few zero (x ∷ xs) few = absurd (omega arith)
   take_few (suc n) (x ∷ xs) few = let rest = take_few n xs (omega arith) in (omega (arith, rest.0), ap (λ t. x ∷ t) rest.1)
 
-  -- The front of two lists is that of a front of the first and the second.
+  -- Appending to a prefix of at least k elements does not change the first k elements of the joined
+  -- list.
   pub take_front : (k n : ℕ) (xs ys : List A) → k ≤ n → take k (take n xs ++ ys) ≡ take k (xs ++ ys)
   take_front zero n xs ys le = refl
   take_front (suc k) zero xs ys le = absurd (omega arith)
   take_front (suc k) (suc n) [] ys le = refl
   take_front (suc k) (suc n) (x ∷ xs) ys le = ap (λ t. x ∷ t) (take_front k n xs ys (omega arith))
 
--- ---- lists whose elements are read one after the other
+-- ---- lists whose elements are read one after another
 
 module _ {A B F : Type 0} (read : ℕ → A → Result B F) where
-  -- One more element that is read.
+  -- If a list and then one more element are read, the extended list is read.
   read_snoc : (i : ℕ) (xs : List A) (x : A) (ys : List B) (y : B) → read_each read i xs ≡ Ok ys → read (i + length xs) x ≡ Ok y
       → read_each read i (xs ++ x ∷ []) ≡ Ok (ys ++ y ∷ [])
   unfolding read_each
@@ -137,7 +139,7 @@ module _ {A B F : Type 0} (read : ℕ → A → Result B F) where
           rw more (ap (λ zs. Ok (zs ++ y ∷ [])) whole)
       rest more_of b (Err fault) is f = cc
 
-  -- An element that is refused after those that are read.
+  -- If an element after a list that was read is invalid, the whole list has its fault.
   read_refused : (i : ℕ) (xs zs : List A) (x : A) (ys : List B) (fault : F) → read_each read i xs ≡ Ok ys → read (i + length xs) x ≡ Err fault
       → read_each read i (xs ++ x ∷ zs) ≡ Err fault
   unfolding read_each
@@ -162,15 +164,15 @@ module _ {A B F : Type 0} (read : ℕ → A → Result B F) where
       rest refused b (Err other) is f = cc
 
   module _ {V : Type 0} (v : V → A) (xs : List V) (k : ℕ) (x : V) (ys : List B) where
-    -- The elements so far are k.
+    -- The prefix before element k has length k.
     so_far : k < length xs → length (map v (take k xs)) ≡ k
     so_far h = length-map (take k xs) v ∙ length-take-le k xs (omega arith)
 
-    -- One element more.
+    -- The prefix that includes element k is the prefix before it followed by the element.
     longer : k < length xs → x ≡ get_or xs k x → map v (take (k + 1) xs) ≡ map v (take k xs) ++ v x ∷ []
     longer h is = ap (map v) (take_more xs k x h ∙ ap (λ z. take k xs ++ z ∷ []) (sym is)) ∙ map-append v (take k xs) (x ∷ [])
 
-    -- One more element of a list is read.
+    -- If the elements before element k and the element itself are read, the longer prefix is read.
     pub read_more : (y : B) → k < length xs → x ≡ get_or xs k x → read_each read 0 (map v (take k xs)) ≡ Ok ys → read k (v x) ≡ Ok y
         → read_each read 0 (map v (take (k + 1) xs)) ≡ Ok (ys ++ y ∷ [])
     read_more y h is e r =
@@ -178,7 +180,7 @@ module _ {A B F : Type 0} (read : ℕ → A → Result B F) where
         ap (λ n. read n (v x)) (let same : 0 + length (map v (take k xs)) ≡ k = omega (arith, so_far h) in same) ∙ r in
         ap (read_each read 0) (longer h is) ∙ read_snoc 0 (map v (take k xs)) (v x) ys y e here
 
-    -- An element of a list is refused.
+    -- If the elements before element k are read and the element is invalid, the list has its fault.
     pub read_stops : (fault : F) → k < length xs → x ≡ get_or xs k x → read_each read 0 (map v (take k xs)) ≡ Ok ys → read k (v x) ≡ Err fault
         → read_each read 0 (map v xs) ≡ Err fault
     read_stops fault h is e r =

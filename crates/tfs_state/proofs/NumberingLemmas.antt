@@ -1,4 +1,4 @@
--- Laws of specs/Numbering.antt.
+-- Lemmas about specs/Numbering.antt.
 use Rattle.std.proofs.Common.{◌≡◌, ℕ, ◌↔◌, List, nat_eq, Option, option_map, Some, IsTrue, sym, ap, subst, ◌∙◌}
 use Rattle.std.specs.List.{list_any, slice_get}
 use Rattle.std.specs.Option.{unwrap_or}
@@ -15,11 +15,12 @@ use Rattle.tfs_state.proofs.ListLemmas.{map_at}
 use Rattle.tfs_state.proofs.DocLemmas.{kept_length, kept_row, kept_block, kept_within, kept_depends}
 
 module _ (bytes : List ℕ) (parts : Content) (keeps : Keeps bytes parts) (d : Document) (is : document_given bytes ≡ d) where
-  -- Each row has its block, and its dependencies in the list of all.
+  -- Each row's block is in the list of blocks, and its dependencies are within the list of all
+  -- dependencies.
   pub kept_fits : Fits parts.blocks.items parts.packed.rows.items parts.packed.numbers.items
   kept_fits i row at = (kept_block bytes parts keeps d is i row at, kept_within bytes parts keeps d is i row at)
 
-  -- The numbers of the rows are those of the document.
+  -- The numbers of the rows are a numbering of the document.
   pub kept_numbers : IsNumbering d (table_of parts.blocks.items parts.packed.rows.items parts.packed.numbers.items)
   kept_numbers = record {
     configs = length-map parts.packed.rows.items (row_number parts.blocks.items) ∙ kept_length bytes parts keeps d is;

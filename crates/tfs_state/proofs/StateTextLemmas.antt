@@ -1,4 +1,4 @@
--- Laws of specs/StateText.antt: a content, its document, and the first fault.
+-- Lemmas about specs/StateText.antt: a content, its document, and the first fault.
 use Rattle.std.proofs.Common.{◌≡◌, ℕ, ◌≤◌, List, [], length, Bool, true, false, cond, nat_eq, nat_le, Option, Some, None, option_map, Result, Ok, Err}
 use Rattle.std.proofs.Common.{refl, sym, ap, subst, ◌∙◌}
 use Rattle.std.specs.Option.{ok_or, unwrap_or, option_eq}
@@ -16,7 +16,8 @@ use Rattle.tfs_state.specs.declared.fault.StateFault.{StateFault}
 use Rattle.tfs_state.specs.declared.fault.StateFault.TheVariants.{NotJson, Version, Serial, Lineage}
 use Rattle.tfs_state.proofs.ContentsLemmas.{is_number}
 
--- Where four answers give a content, they are its parts.
+-- If the checks of version, serial, lineage and instances give a content, their results are its
+-- parts.
 parts_of : (b : Bool) (s : Option ℕ) (l : Option (List ℕ)) (r : Result (List Instance) StateFault) (content : Content)
     → cond b (result_and_then (λ serial. result_and_then (λ lineage. result_map (λ instances. record {
       serial = serial;
@@ -35,20 +36,20 @@ parts_of true (Some serial) (Some lineage) (Ok instances) content e =
     let same : whole ≡ content = cc in
     (refl, ap (λ (c : Content). Some c.serial) same, ap (λ (c : Content). Some c.lineage) same, ap (λ (c : Content). Ok c.instances) same)
 
--- A value with a content describes its document.
+-- A value with a content describes the document of that content.
 described : (bytes : List ℕ) (value : Data) (content : Content) → content_of value ≡ Ok content → Describes value (document_with bytes content)
 unfolding content_of
 described bytes value content e =
     let parts = parts_of (option_eq nat_eq (version_of value) (Some 4)) (serial_of value) (lineage_of value) (instances_of value) content e in
     record { version = is_number (version_of value) 4 parts.0; serial = parts.1; lineage = parts.2; instances = parts.3 }
 
--- A value that describes a document has its content.
+-- A value that describes a document has the document's content.
 content_described : (value : Data) (d : Document) → Describes value d
     → content_of value ≡ Ok (record { serial = d.serial; lineage = d.lineage; instances = d.instances })
 unfolding content_of
 content_described value d h = rw h.version (rw h.serial (rw h.lineage (rw h.instances refl)))
 
--- A text with a content spells its document.
+-- A text with a content spells the document of that content.
 pub content_spells : (bytes : List ℕ) (content : Content) → length bytes ≤ 16777216 → text_content bytes ≡ Ok content
     → SpellsDocument bytes (document_with bytes content)
 content_spells bytes content size e =
@@ -58,7 +59,7 @@ content_spells bytes content size e =
       | Some value ↦ λ json f. record { size = size; kept = refl; described = (value, json, described bytes value content f) }
     ] refl e
 
--- A text that spells a document has its content.
+-- A text that spells a document has the document's content.
 pub spelled_content : (bytes : List ℕ) (d : Document) → SpellsDocument bytes d
     → (content : Content) × (text_content bytes ≡ Ok content) × (document_with bytes content ≡ d)
 spelled_content bytes d h = (
@@ -67,22 +68,22 @@ spelled_content bytes d h = (
   ap (λ b. let e : Document = record { bytes = b; serial = d.serial; lineage = d.lineage; instances = d.instances } in e) (sym h.kept),
 )
 
--- A text with a content has its document.
+-- The document of a text with a content is the document of that content.
 content_computed : (bytes : List ℕ) (content : Content) → length bytes ≤ 16777216 → text_content bytes ≡ Ok content
     → document_of bytes ≡ Some (document_with bytes content)
 content_computed bytes content size e =
     ap (λ b. cond b (option_map (document_with bytes) (result_ok (text_content bytes))) None) (le-leb (length bytes) 16777216 size)
     ∙ ap (λ r. option_map (document_with bytes) (result_ok r)) e
 
--- Bytes that spell a document have it.
+-- If bytes spell a document, it is their document.
 pub spelled_computed : (bytes : List ℕ) (d : Document) → SpellsDocument bytes d → document_of bytes ≡ Some d
 spelled_computed bytes d h = let c = spelled_content bytes d h in content_computed bytes c.0 h.size c.1 ∙ ap Some c.2
 
--- Bytes that spell a document have no fault.
+-- If bytes spell a document, they have no fault.
 pub spelled_faultless : (bytes : List ℕ) (d : Document) → SpellsDocument bytes d → first_state_fault bytes ≡ None
 spelled_faultless bytes d h = ap result_err (spelled_content bytes d h).1
 
--- Bytes without a fault spell a document.
+-- If bytes have no fault, they spell a document.
 pub faultless_spelled : (bytes : List ℕ) → length bytes ≤ 16777216 → first_state_fault bytes ≡ None → (d : Document) × SpellsDocument bytes d
 faultless_spelled bytes size e =
     elim (text_content bytes) as (λ r. text_content bytes ≡ r → result_err r ≡ None → (d : Document) × SpellsDocument bytes d) [
@@ -90,7 +91,7 @@ faultless_spelled bytes size e =
       | Err fault ↦ λ is f. cc
     ] refl e
 
--- Bytes that have a document spell it.
+-- If bytes have a document, they spell it.
 pub given_spelled : (bytes : List ℕ) (d : Document) → document_of bytes ≡ Some d → SpellsDocument bytes d
 given_spelled bytes d e =
     elim (nat_le (length bytes) 16777216) as (λ b. nat_le (length bytes) 16777216 ≡ b
@@ -105,11 +106,11 @@ given_spelled bytes d e =
         bytes content size is)
     with_content size (Err fault) is f = cc
 
--- The document of parts that keep a text.
+-- The document of the bytes that the parts represent is the document of the content.
 pub kept_document : (bytes : List ℕ) (parts : Parts) (keeps : Keeps bytes parts) → document_given bytes ≡ document_with bytes keeps.content
 kept_document bytes parts keeps =
     ap (λ o. unwrap_or o (record { bytes = bytes; serial = 0; lineage = []; instances = [] })) (content_computed bytes keeps.content keeps.size keeps.read)
 
--- The text of parts that keep it spells its document.
+-- The bytes that the parts represent spell their document.
 pub kept_spells : (bytes : List ℕ) (parts : Parts) → Keeps bytes parts → SpellsDocument bytes (document_given bytes)
 kept_spells bytes parts keeps = subst (SpellsDocument bytes) (sym (kept_document bytes parts keeps)) (content_spells bytes keeps.content keeps.size keeps.read)

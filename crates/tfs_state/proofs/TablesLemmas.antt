@@ -1,4 +1,4 @@
--- Laws of specs/Tables.antt.
+-- Lemmas about specs/Tables.antt.
 use Rattle.std.proofs.Common.{◌≡◌, ℕ, ◌+◌, ◌<◌, List, [], ◌∷◌, ◌++◌, length, map, take, get_or, Some, None, option_map, option_and_then, Ok, Err}
 use Rattle.std.proofs.Common.{string_bytes, refl, sym, ap, subst, ◌∙◌, option_copied, append-nil, suc, true, nat_eq, arith}
 use Rattle.std.specs.List.{AllZip, slice_get}
@@ -30,22 +30,22 @@ use Rattle.tfs_state.proofs.PackedLemmas.{no_rows_packed}
 
 -- ---- dependencies
 
--- A number that stands for a text does so among more texts.
+-- A number that represents a text does so in every extended list of texts.
 stands_longer : (a b : List (List ℕ)) → Extends a b → (n : ℕ) (text : List ℕ) → StandsForBare a n text → StandsForBare b n text
 stands_longer a b p n text s = record { bare = s.bare; stripped = s.stripped; named = keeps_number a b n s.bare p s.named }
 
--- Numbers that stand for texts do so among more texts.
+-- Numbers that represent texts do so in every extended list of texts.
 pub all_stand_longer : (a b : List (List ℕ)) → Extends a b → (ns : List ℕ) (texts : List (List ℕ)) → AllZip (StandsForBare a) ns texts
     → AllZip (StandsForBare b) ns texts
 all_stand_longer a b p ns texts s = zip_weaken (StandsForBare a) (StandsForBare b) (stands_longer a b p) ns texts s
 
--- Before the first dependency nothing is read.
+-- At the start no dependency is read.
 pub no_dependencies : (i j : ℕ) (names : List (List ℕ)) → ReadsDependencies i j [] names names []
 unfolding read_each
 no_dependencies i j names = record { texts = []; read = refl; grown = extends_none names; stand = tt }
 
 module _ (i j k : ℕ) (values : List Value) (value : Value) (a b : List (List ℕ)) (ns : List ℕ) where
-  -- One dependency more.
+  -- Reading the next dependency extends the dependencies that were read.
   pub dependency_more : (c : List (List ℕ)) (n : ℕ) → k < length values → value ≡ get_or values k value
       → ReadsDependencies i j (map view (take k values)) a b ns → ReadsDependency (view value) b c n
       → ReadsDependencies i j (map view (take (k + 1) values)) a c (ns ++ n ∷ [])
@@ -57,7 +57,7 @@ module _ (i j k : ℕ) (values : List Value) (value : Value) (a b : List (List �
     stand = zip_push (StandsForBare c) ns so_far.texts n now.text (all_stand_longer b c now.grown ns so_far.texts so_far.stand) now.stands;
   }
 
-  -- A dependency that is refused.
+  -- If a dependency is invalid, the list of dependencies has its fault.
   pub dependency_stops : (fault : StateFault) → k < length values → value ≡ get_or values k value
       → ReadsDependencies i j (map view (take k values)) a b ns → read_dependency i j k (view value) ≡ Err fault
       → read_each (read_dependency i j) 0 (map view values) ≡ Err fault
@@ -65,7 +65,7 @@ module _ (i j k : ℕ) (values : List Value) (value : Value) (a b : List (List �
 
 -- ---- instances
 
--- A row of an instance is so among more texts.
+-- A row of an instance stays one in every extended list of texts.
 row_longer : (a b : List (List ℕ)) → Extends a b → (place : ℕ) (row : Row) (own : Own) → IsRowOf a place row own → IsRowOf b place row own
 row_longer a b p place row own s = record {
   block = s.block;
@@ -73,7 +73,7 @@ row_longer a b p place row own s = record {
   dependencies = all_stand_longer a b p row.dependencies.items own.dependencies s.dependencies;
 }
 
--- Before the first instance nothing is added.
+-- At the start no instance is added.
 pub no_instances : (i place : ℕ) (tables : Tables) → AddsInstances i place [] tables tables
 unfolding read_each
 no_instances i place tables = record {
@@ -87,7 +87,7 @@ no_instances i place tables = record {
 }
 
 module _ (i j place : ℕ) (values : List Value) (value : Value) (old mid : Tables) where
-  -- One instance more.
+  -- Reading the next instance extends the instances that were added.
   pub instance_more : (new : Tables) (row : Row) → j < length values → value ≡ get_or values j value
       → AddsInstances i place (map view (take j values)) old mid → ReadsInstance i j place (view value) mid.names new.names row
       → new.blocks.items ≡ mid.blocks.items
@@ -107,13 +107,13 @@ module _ (i j place : ℕ) (values : List Value) (value : Value) (old mid : Tabl
         (kept (take 4097 (first ++ so_far.rows)) (so_far.packed first are));
   }
 
-  -- An instance that is refused.
+  -- If an instance is invalid, the list of instances has its fault.
   pub instance_stops : (fault : StateFault) → j < length values → value ≡ get_or values j value
       → AddsInstances i place (map view (take j values)) old mid → read_instance i j (view value) ≡ Err fault
       → read_each (read_instance i) 0 (map view values) ≡ Err fault
   instance_stops fault h is so_far r = read_stops (read_instance i) view values j value so_far.owns fault h is so_far.read r
 
--- An instance's own members, with its dependencies.
+-- An instance is read from its own members and its dependencies.
 pub instance_read : (i j place : ℕ) (value : Data) (a b : List (List ℕ)) (parts : InstanceParts) (row : Row)
     → Some (instance_view parts) ≡ instance_members value → ReadsDependencies i j (map view parts.dependencies.now) a b row.dependencies.items
     → row.block ≡ place → string_bytes row.tail ≡ key_part (option_map key_of parts.key) ++ deposed_part (option_copied parts.deposed)
@@ -129,7 +129,7 @@ instance_read i j place value a b parts row own d at tail = record {
 
 -- ---- resources
 
--- A row that stands for an instance does so among more texts and blocks.
+-- A row that represents an instance does so in extended lists of texts and blocks.
 stands_for_longer : (a b : List (List ℕ)) (blocks more : List Block) → Extends a b → (row : Row) (u : Instance) → StandsFor a blocks row u
     → StandsFor b (blocks ++ more) row u
 stands_for_longer a b blocks more p row u s = record {
@@ -143,7 +143,7 @@ stands_for_longer a b blocks more p row u s = record {
   dependencies = all_stand_longer a b p row.dependencies.items u.dependencies s.dependencies;
 }
 
--- A resource whose module's path is cut is one.
+-- If a resource has a configuration address, it is valid by its own members.
 resource_is : (value : Data) (r : ResourceMembers) (config : List ℕ) → Some r ≡ resource_members value
     → configuration_address r.path r.mode r.kind r.name ≡ Some config → resource_of value ≡ Some r
 resource_is value r config own is =
@@ -154,7 +154,7 @@ resource_is value r config own is =
       | None ↦ λ e. cc
     ] is
 
--- A resource that is one is read by its instances.
+-- A valid resource is read by reading its instances.
 resource_read : (i : ℕ) (value : Data) (r : ResourceMembers) (owns : List Own) → resource_of value ≡ Some r
     → read_each (read_instance i) 0 r.instances ≡ Ok owns
     → read_resource i value ≡ Ok (map (instance_of r) owns)
@@ -181,7 +181,7 @@ resource_without_instances i value r old new block own b none blocks packed = re
   };
 }
 
--- A row of an instance stands for it, where its block stands last.
+-- A row of an instance represents the instance if its block is the last one.
 row_stands : (r : ResourceMembers) (blocks : List Block) (block : Block) (a b : List (List ℕ)) {old : List (List ℕ)} → ReadsBlock r old a block → Extends a b
     → (row : Row) (own : Own) → IsRowOf b (length blocks) row own → StandsFor b (blocks ++ block ∷ []) row (instance_of r own)
 row_stands r blocks block a b is p row own s = record {
@@ -227,7 +227,7 @@ resource_with_instances i place value r old before after new block own b same_bl
       };
     }
 
--- Before the first resource nothing is read.
+-- At the start no resource is read.
 pub no_resources : (tables : Tables) → tables.packed.rows.items ≡ [] → ReadsResources [] tables
 unfolding read_each
 no_resources tables rows = record {
@@ -236,13 +236,13 @@ no_resources tables rows = record {
   stand = record { rows = []; packed = subst (ArePacked tables.packed) (take_none 4097) (no_rows_packed tables.packed rows); stand = tt };
 }
 
--- A list of values that is empty.
+-- If a list has length 0, its mapped list is empty.
 pub no_values : {A B : Type 0} (f : A → B) (xs : List A) → true ≡ nat_eq (length xs) 0 → map f xs ≡ []
 no_values f [] e = refl
 no_values f (x ∷ xs) e = let no : ⊥ = omega (arith, eqb-true (suc (length xs)) 0 (sym e)) in absurd no
 
 module _ (i : ℕ) (values : List Value) (value : Value) (old : Tables) where
-  -- One resource more.
+  -- Reading the next resource extends the resources that were read.
   pub resource_more : (new : Tables) → i < length values → value ≡ get_or values i value
       → ReadsResources (map view (take i values)) old → ReadsResource i (view value) old new
       → ReadsResources (map view (take (i + 1) values)) new
@@ -253,7 +253,7 @@ module _ (i : ℕ) (values : List Value) (value : Value) (old : Tables) where
         (now.added (joined so_far.lists) so_far.stand);
   }
 
-  -- A resource that is refused.
+  -- If a resource is invalid, the list of resources has its fault.
   pub resource_stops : (fault : StateFault) → i < length values → value ≡ get_or values i value
       → ReadsResources (map view (take i values)) old → read_resource i (view value) ≡ Err fault
       → read_each read_resource 0 (map view values) ≡ Err fault

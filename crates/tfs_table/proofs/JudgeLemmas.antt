@@ -1,4 +1,4 @@
--- What a judgement over workspaces says of the journal.
+-- Lemmas about judging an act by the workspaces of a journal instead of the journal.
 use Rattle.std.proofs.lemmas.Option.{slice_get_within}
 use Rattle.std.proofs.Common.{◌≡◌, ◌≢◌, ◌≤◌, IfSome, ℕ, List, [], ◌++◌, length, Bool, not, Option, Some, None, is_some, Result, Ok, Err}
 use Rattle.std.proofs.Common.{refl, sym}
@@ -26,12 +26,12 @@ use Rattle.tfs_calls.specs.Transition.{refusal_of, verdict_refusal, limit_refusa
 use Rattle.tfs_table.specs.declared.workspace.Workspace.{Workspace}
 use Rattle.tfs_table.specs.Workspaces.{is_of, standing_at, AreWorkspacesOf, HasVersion, IsNumbered, IsPlaceOf, IsGapFor, IsFound}
 
--- The refusal by the rules over the workspace of a name is that over its history.
+-- The refusal by the rules over the workspace of a name is the refusal over the name's history.
 pub rules_over : (j : Journal) (ws : List Workspace) (name : List ℕ) (act : ActValue) → AreWorkspacesOf j ws
     → refusal_of (standing_at name ws).holder (verdict_over (standing_at name ws) act) ≡ verdict_refusal (acts_of name j) act
 rules_over j ws name act are = ap (λ s. refusal_of s.holder (verdict_over s act)) (are.standings name)
 
--- The refusal by the limits over workspaces is that over the journal.
+-- The refusal by the limits over the workspaces is the refusal over the journal.
 pub limits_over : (j : Journal) (ws : List Workspace) (name : List ℕ) (is_new : Bool) (count : ℕ) → AreWorkspacesOf j ws
     → length j.entries ≡ count
     → is_new ≡ not (is_some (find (is_of name) ws)) → full_refusal (length ws) is_new count ≡ limit_refusal j name
@@ -40,7 +40,7 @@ limits_over j ws name is_new count are long new =
     ∙ ap (λ t. full_refusal (length (names_of j)) t count) (new ∙ ap not (are.names name))
     ∙ ap (full_refusal (length (names_of j)) (not (list_any (bytes_eq name) (names_of j)))) (sym long)
 
--- An act that neither refuses isn't refused.
+-- If neither the rules nor the limits refuse an act, it isn't refused.
 pub judged_accepted : (j : Journal) (ws : List Workspace) (name : List ℕ) (act : ActValue) (is_new : Bool) (count : ℕ)
     → AreWorkspacesOf j ws
     → length j.entries ≡ count → is_new ≡ not (is_some (find (is_of name) ws))
@@ -50,13 +50,13 @@ judged_accepted j ws name act is_new count are long new rules limits =
     ap (λ o. option_or o (limit_refusal j name)) (sym (rules_over j ws name act are) ∙ rules)
     ∙ sym (limits_over j ws name is_new count are long new) ∙ limits
 
--- What the rules refuse is refused.
+-- If the rules refuse an act, it is refused with their refusal.
 pub judged_by_rules : (j : Journal) (ws : List Workspace) (name : List ℕ) (act : ActValue) (refusal : RefusalValue) → AreWorkspacesOf j ws
     → refusal_of (standing_at name ws).holder (verdict_over (standing_at name ws) act) ≡ Some refusal
     → act_refusal (open_model j) name act ≡ Some refusal
 judged_by_rules j ws name act refusal are rules = ap (λ o. option_or o (limit_refusal j name)) (sym (rules_over j ws name act are) ∙ rules)
 
--- So is what the limits refuse.
+-- If only the limits refuse an act, it is refused with their refusal.
 pub judged_by_limits : (j : Journal) (ws : List Workspace) (name : List ℕ) (act : ActValue) (is_new : Bool) (count : ℕ) (refusal :
     RefusalValue)
     → AreWorkspacesOf j ws → length j.entries ≡ count → is_new ≡ not (is_some (find (is_of name) ws))
@@ -67,17 +67,17 @@ judged_by_limits j ws name act is_new count refusal are long new rules limits =
     ap (λ o. option_or o (limit_refusal j name)) (sym (rules_over j ws name act are) ∙ rules)
     ∙ sym (limits_over j ws name is_new count are long new) ∙ limits
 
--- An act that the rules refuse has a refusal.
+-- If the rules refuse an act, it has a refusal.
 pub refused_by_rules : (j : Journal) (ws : List Workspace) (name : List ℕ) (act : ActValue) → AreWorkspacesOf j ws
     → refusal_of (standing_at name ws).holder (verdict_over (standing_at name ws) act) ≢ None → act_refusal (open_model j) name act ≢ None
 refused_by_rules j ws name act are refused = λ e.
     refused (rules_over j ws name act are ∙ (neither (verdict_refusal (acts_of name j) act) (limit_refusal j name) e).0)
 
--- So has one that has any.
+-- An option equal to a refusal isn't None.
 pub refused_by_any : (refusal : RefusalValue) (found : Option RefusalValue) → found ≡ Some refusal → found ≢ None
 refused_by_any refusal found is = λ none. let both : Some refusal ≡ None = sym is ∙ none in cc
 
--- A name is new where it has a gap.
+-- A name is new if the search found no workspace for it.
 pub new_in_gap : (name : List ℕ) (ws : List Workspace) (place : Result ℕ ℕ) → IsFound name ws place
     → is_err place ≡ not (is_some (find (is_of name) ws))
 new_in_gap name ws (Ok i) found =
@@ -85,13 +85,13 @@ new_in_gap name ws (Ok i) found =
     ∙ find_behind (is_of name) found.before found.after found.own found.first found.named))
 new_in_gap name ws (Err i) found = ap (λ o. not (is_some o)) (sym found.absent)
 
--- The refusal that the standing of a name asks for.
+-- A refusal computed from equal values is the refusal over the state and holder of the name.
 pub heeded : (at s : Standing) (act : ActValue) (holder : Option LockInformation) (v : Verdict) → at ≡ s → holder ≡ s.holder
     → v ≡ verdict_over s act
     → refusal_of at.holder (verdict_over at act) ≡ refusal_of holder v
 heeded at s act holder v same is_holder is_verdict = rw (same, is_holder, is_verdict) refl
 
--- The version of the workspace of a name is that of its state.
+-- The version of a name's workspace is the version of the name's state.
 pub version_here : (name : List ℕ) (ws : List Workspace) (place : ℕ) (d : Workspace) → IsPlaceOf name ws place → All HasVersion ws
     → option_map arc_value (get_or ws place d).version ≡ (standing_at name ws).state
 version_here name ws place d p all =
@@ -100,7 +100,7 @@ version_here name ws place d p all =
     let within : place < length ws = omega arith in
     All-get_or HasVersion ws place d within all ∙ ap (λ (s : Standing). s.state) (sym (standing_at_place name ws place d p))
 
--- The workspace of a name has the name's number.
+-- The number of a name's workspace is the number of the name.
 pub number_here : (j : Journal) (ws : List Workspace) (name : List ℕ) (place : ℕ) (d : Workspace) → IsPlaceOf name ws place
     → AreWorkspacesOf j ws
     → slice_get (names_of j) (get_or ws place d).number ≡ Some name
@@ -112,7 +112,7 @@ number_here j ws name place d p are =
     ∙ ap (λ (w : Workspace). Some w.name) (get_at ws p.before p.after p.own d place p.parts p.at)
     ∙ ap (λ n. Some n) (bytes_same p.own.name name p.named)
 
--- It has it with one entry more.
+-- The number of a name's workspace is still the name's after one more entry for the name.
 pub number_known : (j : Journal) (act : ActValue) (ws : List Workspace) (name : List ℕ) (place : ℕ) (d : Workspace)
     → IsPlaceOf name ws place
     → AreWorkspacesOf j ws → slice_get (names_of (with_entry j (record { name = name; act = act }))) (get_or ws place d).number ≡ Some name
@@ -131,14 +131,14 @@ number_new j act ws name place p are =
     ap (λ ns. slice_get ns (length ws)) (names_added j (record { name = name; act = act }) none)
     ∙ ap (slice_get (names_of j ++ name ∷ [])) are.count ∙ number_behind (names_of j) [] name
 
--- A number is below the count of names.
+-- The number of a name is less than 1,024.
 pub number_below : (found : Option ℕ) (ws : List Workspace) (name : List ℕ) (j : Journal)
     → IfSome found (λ k. (i : Journal) → AreWorkspacesOf i ws → slice_get (names_of i) k ≡ Some name) → AreWorkspacesOf j ws
     → length (names_of j) ≤ 1024 → IfSome found (λ k. k < 1024)
 number_below None ws name j is are few = tt
 number_below (Some k) ws name j is are few = let below = slice_get_within (names_of j) k name (is j are) in omega arith
 
--- No verdict is told as a fault of the journal.
+-- No verdict is reported as a fault of the journal.
 rules_without_fault : (holder : Option LockInformation) (v : Verdict) → refusal_of holder v ≡ Some journal_fault → ⊥
 rules_without_fault holder verdict.Accept e = cc
 rules_without_fault None verdict.Locked e = cc
@@ -148,13 +148,13 @@ rules_without_fault holder verdict.LineageDiffers e = cc
 rules_without_fault holder verdict.SerialTooLow e = cc
 rules_without_fault holder verdict.SerialReused e = cc
 
--- No limit is.
+-- No limit is reported as a fault of the journal.
 limits_without_fault : (full long : Bool) → cond full (Some table_full) (cond long (Some journal_full) None) ≡ Some journal_fault → ⊥
 limits_without_fault true long e = cc
 limits_without_fault false true e = cc
 limits_without_fault false false e = cc
 
--- No act is refused by a fault of the journal.
+-- No act is refused with a fault of the journal.
 pub refused_without_fault : (m : TableModel) (name : List ℕ) (act : ActValue) → act_refusal m name act ≡ Some journal_fault → ⊥
 refused_without_fault m name act = by_stopped m.stopped
   where

@@ -1,4 +1,4 @@
--- Names by their numbers.
+-- Lemmas about the numbers of names.
 use Rattle.std.proofs.Common.{◌≡◌, ◌<◌, ℕ, List, [], ◌∷◌, Bool, true, false, cond, Option, Some, None, is_some, option_map, All}
 use Rattle.std.proofs.Common.{refl, sym, ◌∙◌, ap, subst, arith}
 use Rattle.std.specs.List.{find, slice_get}
@@ -14,7 +14,7 @@ use Rattle.tfs_records.proofs.JournalLemmas.{names_once}
 use Rattle.tfs_table.specs.declared.workspace.Workspace.{Workspace}
 use Rattle.tfs_table.specs.Workspaces.{is_of, has_number, AreWorkspacesOf, IsNumbered}
 
--- What each element has, the one has that a test finds, and it passes.
+-- If each element has a property, the element that a test finds has it, and it passes the test.
 found_has : {A : Type 0} (P : A → Type 0) (test : A → Bool) (xs : List A) (x : A) → All P xs → find test xs ≡ Some x
     → P x × (test x ≡ true)
 found_has P test [] x all e = absurd cc
@@ -26,7 +26,7 @@ found_has P test (first ∷ xs) x all e =
       | false ↦ λ fails later. found_has P test xs x (All-tail P first xs all) later
     ] refl e
 
--- Where a test finds none, each element fails it.
+-- If a test finds no element, each element fails it.
 all_fail : {A : Type 0} (test : A → Bool) (xs : List A) → find test xs ≡ None → All (λ x. test x ≡ false) xs
 all_fail test [] e = All-nil (λ x. test x ≡ false)
 all_fail test (first ∷ xs) e =
@@ -35,7 +35,7 @@ all_fail test (first ∷ xs) e =
       | false ↦ λ fails later. All-cons (λ x. test x ≡ false) first xs fails (all_fail test xs later)
     ] refl e
 
--- A name of a journal has one number.
+-- A name of a journal has only one number.
 one_number : (j : Journal) (i k : ℕ) (name : List ℕ) → slice_get (names_of j) i ≡ Some name → slice_get (names_of j) k ≡ Some name → i ≡ k
 one_number j i k name at_i at_k =
     let own_i = get_or_from_slice_get (names_of j) i name name at_i in
@@ -46,7 +46,7 @@ one_number j i k name at_i at_k =
     let upper : k < i → ⊥ = λ p. names_once j k i name p within_i (own_k ∙ sym own_i) in
     omega arith
 
--- A name of a journal has its number in its workspace.
+-- If a name of the journal has this number, some workspace has it.
 numbered_in : (j : Journal) (ws : List Workspace) (number : ℕ) (name : List ℕ) (o : Option Workspace) → find (is_of name) ws ≡ o
     → find (has_number number) ws ≡ None → AreWorkspacesOf j ws → slice_get (names_of j) number ≡ Some name → ⊥
 numbered_in j ws number name None known none are at =
@@ -61,7 +61,7 @@ numbered_in j ws number name (Some w) known none are at =
     let no : false ≡ true = sym fails.0 ∙ passes in
     cc
 
--- The workspace of a number has the name that has the number among the names of the journal.
+-- The name of the workspace with a number is the name with this number in the journal.
 pub named_by_number : (j : Journal) (ws : List Workspace) (number : ℕ) (o : Option Workspace) → find (has_number number) ws ≡ o
     → AreWorkspacesOf j ws → option_map (λ (w : Workspace). w.name) o ≡ slice_get (names_of j) number
 named_by_number j ws number (Some w) known are =

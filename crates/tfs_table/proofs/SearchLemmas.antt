@@ -1,4 +1,4 @@
--- What a binary search among workspaces finds.
+-- Lemmas about the binary search for a name among workspaces.
 use Rattle.std.proofs.Common.{◌≡◌, ℕ, ◌+◌, ◌<◌, ◌≤◌, List, [], ◌∷◌, length, take, drop, map, get_or, Bool, true, false, All}
 use Rattle.std.proofs.Common.{suc, nat_lt, ltb-true, ltb-false, None, refl, sym, ◌∙◌, ap, arith, take-append-drop, length-drop}
 use Rattle.std.specs.List.{AllByRecursion, find}
@@ -18,17 +18,17 @@ use Rattle.tfs_records.proofs.NameLemmas.{bytes_same}
 use Rattle.tfs_table.specs.declared.workspace.Workspace.{Workspace}
 use Rattle.tfs_table.specs.Workspaces.{is_of, Rise, IsPlaceOf, IsGapFor}
 
--- How a workspace's name stands to a name.
+-- The order of a workspace's name relative to a name.
 abbrev pub order_to : List ℕ → Workspace → Ordering
 order_to name w = slice_cmp nat_cmp w.name name
 
--- None is found where none passes.
+-- If each element fails a test, the test finds none.
 find_none : {A : Type 0} (test : A → Bool) (xs : List A) → All (λ x. test x ≡ false) xs → find test xs ≡ None
 find_none test [] fails = refl
 find_none test (x ∷ xs) fails =
     rw (All-head (λ y. test y ≡ false) x xs fails) (find_none test xs (All-tail (λ y. test y ≡ false) x xs fails))
 
--- What holds of each workspace's name, one after another.
+-- A property of each workspace's name holds for each element of the list of names.
 each_name : (P : List ℕ → Type 0) (ws : List Workspace) → All (λ w. P w.name) ws → AllByRecursion P (map (λ (w : Workspace). w.name) ws)
 each_name P [] all = tt
 each_name P (w ∷ ws) all = (
@@ -37,11 +37,11 @@ each_name P (w ∷ ws) all = (
       all),
 )
 
--- A name that isn't equal is another.
+-- If the names don't compare as equal, the workspace has another name.
 apart : (name : List ℕ) (w : Workspace) (o : Ordering) → order_to name w ≡ o → is_eq o ≡ false → is_of name w ≡ false
 apart name w o is other = sym (is_eq-slice_cmp w.name name) ∙ ap is_eq is ∙ other
 
--- How a workspace stands to an earlier one.
+-- The name of an earlier workspace is less than the name of a later one.
 rises_to : (ws : List Workspace) (i k : ℕ) (d : Workspace) → Rise ws → i < k → k < length ws
     → slice_cmp nat_cmp (get_or ws i d).name (get_or ws k d).name ≡ Less
 rises_to ws i k d rise first within =
@@ -50,7 +50,7 @@ rises_to ws i k d rise first within =
     ∙ ap (λ n. slice_cmp nat_cmp n (get_or (map name_of ws) k d.name)) (sym (get_or-map name_of ws i d))
     ∙ Less-from_sorted (slice_cmp nat_cmp) (map name_of ws) i k d.name rise first (omega (arith, length-map ws name_of))
 
--- The workspaces before one whose name is equal are of other names.
+-- The workspaces before the one with the name have other names.
 names_before : (ws : List Workspace) (i : ℕ) (d : Workspace) (name : List ℕ) → Rise ws → i < length ws → (get_or ws i d).name ≡ name
     → All (λ w. is_of name w ≡ false) (take i ws)
 names_before ws i d name rise within named =
@@ -60,7 +60,7 @@ names_before ws i d name rise within named =
     ap (λ n. slice_cmp nat_cmp (get_or ws k d).name n) (sym named) ∙ rises_to ws k i d rise first within in
     ap (is_of name) (get_or-take i ws k d first) ∙ apart name (get_or ws k d) Less less refl)
 
--- An equal name stands at its place.
+-- If the name at an index compares as equal, the name's workspace has this index.
 pub place_found : (ws : List Workspace) (i : ℕ) (d : Workspace) (name : List ℕ) → Rise ws → i < length ws
     → order_to name (get_or ws i d) ≡ Equal
     → IsPlaceOf name ws i
@@ -76,11 +76,11 @@ place_found ws i d name rise within equal =
       first = find_none (is_of name) (take i ws) (names_before ws i d name rise within (bytes_same (get_or ws i d).name name named));
     }
 
--- Names are above a name where it is below them.
+-- If a workspace's name is greater than a name, the name is less than it.
 above : (name : List ℕ) (w : Workspace) → order_to name w ≡ Greater → slice_cmp nat_cmp name w.name ≡ Less
 above name w greater = nat_list_cmp_total.antisymm name w.name ∙ ap ordering_reverse greater
 
--- A name that isn't there has a gap.
+-- If all earlier names are less and all later names are greater, the index is the gap for the name.
 pub gap_found : (ws : List Workspace) (i : ℕ) (name : List ℕ) → i ≤ length ws
     → IsPartitionPoint (λ w. order_to name w ≡ Less) (λ w. order_to name w ≡ Greater) ws i → IsGapFor name ws i
 gap_found [] i name within parts = record {
@@ -120,7 +120,7 @@ gap_found (w ∷ rest) i name within parts =
     turned : (vs : List Workspace) → All (λ v. order_to name v ≡ Greater) vs → All (λ v. slice_cmp nat_cmp name v.name ≡ Less) vs
     turned vs all = All-weaker (λ v. order_to name v ≡ Greater) (λ v. slice_cmp nat_cmp name v.name ≡ Less) (λ v g. above name v g) vs all
 
--- What is in front of a name that is below is below.
+-- If a workspace's name is less than the name, so is every earlier one.
 pub below_too : (ws : List Workspace) (name : List ℕ) (i : ℕ) (e : Workspace) → Rise ws → i < length ws → e ≡ get_or ws i e
     → order_to name e ≡ Less
     → (k : ℕ) (d : Workspace) → k < i + 1 → order_to name (get_or ws k d) ≡ Less
@@ -133,7 +133,7 @@ below_too ws name i e rise within is less k d first =
       | false ↦ λ later. let same : k ≡ i = omega (arith, ltb-false k i later) in ap (λ n. order_to name (get_or ws n d)) same ∙ at
     ] refl
 
--- What is behind a name that is above is above.
+-- If a workspace's name is greater than the name, so is every later one.
 pub above_too : (ws : List Workspace) (name : List ℕ) (i : ℕ) (e : Workspace) → Rise ws → i < length ws → e ≡ get_or ws i e
     → order_to name e ≡ Greater
     → (k : ℕ) (d : Workspace) → i ≤ k → k < length ws → order_to name (get_or ws k d) ≡ Greater
@@ -148,14 +148,14 @@ above_too ws name i e rise within is greater k d behind inside =
       | false ↦ λ same. let is_same : k ≡ i = omega (arith, ltb-false i k same) in ap (λ n. order_to name (get_or ws n d)) is_same ∙ at
     ] refl
 
--- A name is looked for between two places.
+-- The invariant of the search: the name can only be between `low` and `high`.
 pub record Narrows (ws : List Workspace) (name : List ℕ) (low high : ℕ) : Type 0 where
   pub order : low ≤ high
   pub within : high ≤ length ws
   pub below : (k : ℕ) (d : Workspace) → k < low → order_to name (get_or ws k d) ≡ Less
   pub above : (k : ℕ) (d : Workspace) → high ≤ k → k < length ws → order_to name (get_or ws k d) ≡ Greater
 
--- The name is behind the middle.
+-- If the middle name is less, the search continues after it.
 pub narrows_up : (ws : List Workspace) (name text found : List ℕ) (low high middle : ℕ) (e : Workspace) (o : Ordering) → Rise ws
     → Narrows ws name low high
     → low ≤ middle → middle < high → e ≡ get_or ws middle e → text ≡ name → found ≡ (get_or ws middle e).name
@@ -173,7 +173,7 @@ narrows_up ws name text found low high middle e o rise so from to is is_name is_
       above = so.above;
     }
 
--- It is in front of the middle.
+-- If the middle name is greater, the search continues before it.
 pub narrows_down : (ws : List Workspace) (name text found : List ℕ) (low high middle : ℕ) (e : Workspace) (o : Ordering) → Rise ws
     → Narrows ws name low high
     → low ≤ middle → middle < high → e ≡ get_or ws middle e → text ≡ name → found ≡ (get_or ws middle e).name
@@ -191,7 +191,7 @@ narrows_down ws name text found low high middle e o rise so from to is is_name i
       above = above_too ws name middle e rise (omega arith) is at;
     }
 
--- It is in the middle.
+-- If the middle name is equal, the search has found the workspace.
 pub narrows_here : (ws : List Workspace) (name text found : List ℕ) (low high middle : ℕ) (e : Workspace) (o : Ordering) → Rise ws
     → Narrows ws name low high
     → middle < high → e ≡ get_or ws middle e → text ≡ name → found ≡ (get_or ws middle e).name → o ≡ slice_cmp nat_cmp found text
@@ -204,7 +204,7 @@ narrows_here ws name text found low high middle e o rise so to is is_name is_fou
     ∙ sym compared ∙ equal in
     place_found ws middle e name rise (omega arith) (ap (order_to name) (sym is) ∙ at)
 
--- It is nowhere.
+-- If no index remains, the name has no workspace, and `low` is its gap.
 pub narrows_out : (ws : List Workspace) (name : List ℕ) (low high : ℕ) → Narrows ws name low high → high ≤ low → IsGapFor name ws low
 narrows_out ws name low high so out =
     let order = so.order in

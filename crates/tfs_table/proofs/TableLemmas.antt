@@ -1,4 +1,4 @@
--- What tables keep: at the start, and after a change.
+-- Lemmas about the invariant of tables: at the start, and after a change.
 use Rattle.std.proofs.Common.{◌≡◌, ◌≤◌, length, ℕ, List, [], ◌∷◌, ◌++◌, All, Bool}
 use Rattle.std.proofs.Common.{true, false, Option, Some, None, is_some, IfSome, refl, sym, ◌∙◌}
 use Rattle.std.proofs.Common.{ap, subst, append_assoc, append-nil}
@@ -22,7 +22,8 @@ use Rattle.tfs_table.specs.Workspaces.{standing_at, AreWorkspacesOf, HasVersion}
 use Rattle.tfs_table.specs.declared.workspace.Workspace.{Workspace}
 use Rattle.tfs_table.proofs.LawfulLemmas.{taken, lawful_opened, lawful_more}
 
--- The text of a journal with one more entry.
+-- The text of a journal with one more entry is the text of the journal followed by the entry's
+-- record.
 text_more : (j : Journal) (e : EntryValue) → journal_text (with_entry j e) ≡ journal_text j ++ record_text e
 text_more j e =
     let front = header_text 2 in
@@ -37,21 +38,22 @@ text_more j e =
     flat_more (x ∷ es) = ap (λ t. record_text x ++ t) (flat_more es)
         ∙ sym (append_assoc (record_text x) (flat_map record_text es) (record_text e))
 
--- What a sink was told at the start.
+-- After the text of the journal is appended to an empty sink, the sink's bytes are the journal's.
 told_first : (old new : Option (List ℕ)) (j : Journal) → IfSome old (λ bytes. bytes ≡ []) → Appends old new (journal_text j)
     → is_some old ≡ true → IsTold false j new
 told_first None new j none told there = cc
 told_first (Some bytes) None j none told there = told
 told_first (Some bytes) (Some more) j none told there = told ∙ ap (λ t. t ++ journal_text j) none
 
--- With one more entry.
+-- After the record of an entry is appended, the sink's bytes are those of the journal with the
+-- entry.
 pub told_more : (old new : Option (List ℕ)) (j : Journal) (e : EntryValue) → IsTold false j old → Appends old new (record_text e)
     → IsTold false (with_entry j e) new
 told_more None new j e told more = absurd told
 told_more (Some bytes) None j e told more = more
 told_more (Some bytes) (Some all) j e told more = more ∙ ap (λ t. t ++ record_text e) told ∙ sym (text_more j e)
 
--- After a fault.
+-- After a failure, the sink's bytes are the journal's text followed by a prefix of one record.
 pub told_part : (old new : Option (List ℕ)) (j : Journal) (e : EntryValue) → IsEntry e → IsTold false j old
     → AppendsPart old new (record_text e) → IsTold true j new
 told_part None new j e read told part = absurd told
@@ -65,7 +67,7 @@ told_part (Some bytes) (Some all) j e read told part = record {
   told = part.appended ∙ ap (λ t. t ++ part.front) told;
 }
 
--- What a table keeps that has a base and no entries.
+-- A table with a base and no entries satisfies the invariant.
 pub opened_table : (base : BaseValue) (entries : List EntryValue) (ws : List Workspace) (first old new : Option (List ℕ)) (faults spare : ℕ)
     → IsBase base → entries ≡ [] → AreWorkspacesOf (opened base) ws → All HasVersion ws → first ≡ old → faults ≡ 0
     → IfSome old (λ bytes. bytes ≡ [])
@@ -95,7 +97,7 @@ opened_table base entries ws first old new faults spare based none are versions 
       versions,
     )
 
--- What a change keeps that is ready.
+-- A change that the journal accepts satisfies the invariant of ready changes.
 pub is_ready : (base given_base : BaseValue) (entries given_entries : List EntryValue) (e : EntryValue) (name : List ℕ) (number : ℕ)
     (act : ActValue) (ws : List Workspace) (version : Option Document) (bytes : List ℕ) → base ≡ given_base → entries ≡ given_entries
     → name ≡ e.name → act ≡ e.act → IsEntry e → bytes ≡ record_text e
@@ -131,7 +133,7 @@ is_ready base given_base entries given_entries e name number act ws version byte
       accepted = subst (λ (k : Journal). act_refusal (open_model k) e.name e.act ≡ None) same accepted;
     }
 
--- What a table keeps after a change that was ready.
+-- A table satisfies the invariant after a ready change is finished.
 pub finished : (base : BaseValue) (entries more : List EntryValue) (ws new : List Workspace) (stopped tells : Bool) (told after : Option
     (List ℕ))
     (faults now spare left number : ℕ) (r : ReadyValue) (name : List ℕ) (act : ActValue) (version : Option Document) (bytes : List ℕ)

@@ -1,4 +1,4 @@
--- Laws of specs/Workspaces.antt: one workspace is changed or added, and the others stay.
+-- Lemmas about specs/Workspaces.antt: the effect of changing or adding one workspace.
 use Rattle.std.proofs.Common.{◌≡◌, ℕ, zero, suc, ◌+◌, List, [], ◌∷◌, ◌++◌, length, take, drop, map, get_or, set, Bool, true, false, cond}
 use Rattle.std.proofs.Common.{◌||◌}
 use Rattle.std.proofs.Common.{Result, Ok, Err, is_ok, IsOk, Option, Some, None, is_some, option_map}
@@ -24,34 +24,34 @@ use Rattle.tfs_records.proofs.JournalLemmas.{acts_of_own, acts_of_other, names_k
 use Rattle.tfs_table.specs.declared.workspace.Workspace.{Workspace}
 use Rattle.tfs_table.specs.Workspaces.{is_of, standing_at, AreWorkspacesOf, HasVersion, IsPlaceOf, IsGapFor, IsNumbered}
 
--- The first element that passes, where it stands behind elements that don't.
+-- If no earlier element passes a test and this one does, the test finds it.
 pub find_behind : {A : Type 0} (test : A → Bool) (before after : List A) (x : A) → find test before ≡ None → test x ≡ true
     → find test (before ++ x ∷ after) ≡ Some x
 find_behind test before after x none passes = find-append test before (x ∷ after) ∙ rw (none, passes) refl
 
--- An element that doesn't pass isn't seen.
+-- An element that fails a test does not affect what the test finds.
 pub find_past : {A : Type 0} (test : A → Bool) (before after : List A) (x : A) → test x ≡ false
     → find test (before ++ x ∷ after) ≡ find test (before ++ after)
 find_past test before after x fails = find-append test before (x ∷ after) ∙ rw fails (sym (find-append test before after))
 
--- Two elements that pass the same tests but for one test are seen alike by the others.
+-- Replacing an element by another does not affect a test that both fail.
 pub find_alike : {A : Type 0} (test : A → Bool) (before after : List A) (x y : A) → test x ≡ false → test y ≡ false
     → find test (before ++ x ∷ after) ≡ find test (before ++ y ∷ after)
 find_alike test before after x y p q = find_past test before after x p ∙ sym (find_past test before after y q)
 
--- A list with an element at a place.
+-- The element at the index `place` is x.
 pub get_at : {A : Type 0} (xs before after : List A) (x other : A) (place : ℕ) → xs ≡ before ++ x ∷ after → length before ≡ place
     → get_or xs place other ≡ x
 get_at xs before after x other place parts at =
     ap (λ t. get_or t place other) parts ∙ ap (λ n. get_or (before ++ x ∷ after) n other) (sym at) ∙ get_or-append_seam before x after other
 
--- It is changed.
+-- Setting the element at the index `place` replaces x.
 pub set_at : {A : Type 0} (xs before after : List A) (x new : A) (place : ℕ) → xs ≡ before ++ x ∷ after → length before ≡ place
     → set xs place new ≡ before ++ new ∷ after
 set_at xs before after x new place parts at =
     ap (λ t. set t place new) parts ∙ ap (λ n. set (before ++ x ∷ after) n new) (sym at) ∙ set-append_seam before x after new
 
--- One is added.
+-- Inserting an element at the index `place` puts it between the two parts.
 pub insert_at : {A : Type 0} (xs before after : List A) (new : A) (place : ℕ) → xs ≡ before ++ after → length before ≡ place
     → insert xs place new ≡ before ++ new ∷ after
 insert_at xs before after new place parts at =
@@ -59,7 +59,8 @@ insert_at xs before after new place parts at =
     ∙ ap (λ t. t ++ new ∷ drop (length before) (before ++ after)) (take-append_seam before after)
     ∙ ap (λ t. before ++ new ∷ t) (drop-append_seam before after)
 
--- The standings after an entry: the name's own, and the others as before.
+-- After an entry, its name has the state and holder after its act, and every other name is
+-- unchanged.
 standings_more : (j : Journal) (ws new : List Workspace) (name : List ℕ) (act : ActValue) (after : Standing) → AreWorkspacesOf j ws
     → standing_at name new ≡ after → after ≡ standing_of (acts_of name j ++ act ∷ [])
     → ((other : List ℕ) → bytes_eq name other ≡ false → standing_at other new ≡ standing_at other ws)
@@ -83,7 +84,7 @@ standings_more j ws new name act after are own is others other =
 abbrev pub names_at : List Workspace → List (List ℕ)
 names_at ws = map (λ (w : Workspace). w.name) ws
 
--- The workspace of a name has what the name has.
+-- The state and holder of a name are those of the workspace at its index.
 pub standing_at_place : (name : List ℕ) (ws : List Workspace) (place : ℕ) (other : Workspace) → IsPlaceOf name ws place
     → standing_at name ws ≡ (get_or ws place other).standing
 standing_at_place name ws place other p =
@@ -92,17 +93,17 @@ standing_at_place name ws place other p =
     p.named)
     ∙ ap (λ (w : Workspace). w.standing) (sym (get_at ws p.before p.after p.own other place p.parts p.at))
 
--- Without a workspace it has what no acts leave.
+-- A name without a workspace has the state and holder of an empty history.
 pub standing_absent : (name : List ℕ) (ws : List Workspace) → find (is_of name) ws ≡ None → standing_at name ws ≡ standing_of []
 standing_absent name ws none = ap (λ o. option_map_or (λ (w : Workspace). w.standing) o (standing_of [])) none
 
--- A workspace is there for the name of the place, whatever it has.
+-- If the list has a workspace with the name, the search by name finds one.
 pub found_there : (name : List ℕ) (before after : List Workspace) (own : Workspace) → find (is_of name) before ≡ None
     → is_of name own ≡ true
     → is_some (find (is_of name) (before ++ own ∷ after)) ≡ true
 found_there name before after own none named = ap is_some (find_behind (is_of name) before after own none named)
 
--- Whether a workspace is there doesn't depend on what the workspaces have.
+-- Whether a name has a workspace depends only on the names of the workspaces.
 found_alike : (name : List ℕ) (before after : List Workspace) (own other : Workspace) → own.name ≡ other.name
     → is_some (find (is_of name) (before ++ own ∷ after)) ≡ is_some (find (is_of name) (before ++ other ∷ after))
 found_alike name [] after own other same =
@@ -118,7 +119,7 @@ found_alike name (first ∷ before) after own other same =
       | false ↦ found_alike name before after own other same
     ]
 
--- What each element has, each has where one is changed that has it, too.
+-- If an element with a property is replaced by another one with it, all elements keep the property.
 all_swapped : {A : Type 0} (P : A → Type 0) (before after : List A) (x y : A) → (P x → P y) → All P (before ++ x ∷ after)
     → All P (before ++ y ∷ after)
 all_swapped P [] after x y f all = All-cons P y after (f (All-head P x after all)) (All-tail P x after all)
@@ -126,25 +127,26 @@ all_swapped P (first ∷ before) after x y f all =
     All-cons P first (before ++ y ∷ after) (All-head P first (before ++ x ∷ after) all)
     (all_swapped P before after x y f (All-tail P first (before ++ x ∷ after) all))
 
--- Or where one is added.
+-- If an element with a property is inserted, all elements keep the property.
 all_added : {A : Type 0} (P : A → Type 0) (before after : List A) (x : A) → P x → All P (before ++ after) → All P (before ++ x ∷ after)
 all_added P [] after x has all = All-cons P x after has all
 all_added P (first ∷ before) after x has all =
     All-cons P first (before ++ x ∷ after) (All-head P first (before ++ after) all)
     (all_added P before after x has (All-tail P first (before ++ after) all))
 
--- More names leave the numbers of those before.
+-- Appending names keeps the numbers of the earlier names.
 number_kept : (names more : List (List ℕ)) (k : ℕ) (name : List ℕ) → slice_get names k ≡ Some name → slice_get (names ++ more) k ≡ Some name
 number_kept [] more k name e = cc
 number_kept (first ∷ names) more zero name e = e
 number_kept (first ∷ names) more (suc k) name e = number_kept names more k name e
 
--- A name behind others has their count as its number.
+-- The number of a name is the count of the names before it.
 pub number_behind : (names more : List (List ℕ)) (name : List ℕ) → slice_get (names ++ name ∷ more) (length names) ≡ Some name
 number_behind [] more name = refl
 number_behind (first ∷ names) more name = number_behind names more name
 
--- The workspace of a name is changed.
+-- After the workspace of a name is changed by an act, the workspaces are those of the journal with
+-- the entry.
 pub workspace_changed : (name : List ℕ) (act : ActValue) (ws : List Workspace) (place : ℕ) (own new : Workspace) → IsPlaceOf name ws place
     → own ≡ get_or ws place own → new.name ≡ own.name → new.number ≡ own.number
     → ((h : History) → own.standing ≡ standing_of h → new.standing ≡ standing_of (h ++ act ∷ []))
@@ -187,13 +189,14 @@ workspace_changed name act ws place own new p is same same_number commits j are 
           are.numbers));
     })
 
--- Each name of a list passes where both parts' names do.
+-- If all elements of two parts and a name have a property, all elements with the name between the
+-- parts have it.
 all_between : (P : List ℕ → Type 0) (before after : List (List ℕ)) (name : List ℕ) → AllByRecursion P (before ++ after) → P name
     → AllByRecursion P (before ++ name ∷ after)
 all_between P [] after name all here = (here, all)
 all_between P (first ∷ before) after name all here = (all.0, all_between P before after name all.1 here)
 
--- Rising names with one more between those below it and those above.
+-- Inserting a name between the smaller and the greater names keeps the names sorted.
 rise_with : (before after : List (List ℕ)) (name : List ℕ) → IsStrictlySortedBy (slice_cmp nat_cmp) (before ++ after)
     → AllByRecursion (λ other. slice_cmp nat_cmp other name ≡ Less) before
     → AllByRecursion (λ other. slice_cmp nat_cmp name other ≡ Less) after
@@ -206,7 +209,8 @@ rise_with (first ∷ before) after name rise below above = (
   rise_with before after name rise.1 below.1 above,
 )
 
--- Whether another name has a workspace.
+-- After a workspace is inserted, a name has a workspace if it had one or if the new one has the
+-- name.
 found_apart : (other : List ℕ) (before after : List Workspace) (new : Workspace)
     → is_some (find (is_of other) (before ++ new ∷ after)) ≡ (is_some (find (is_of other) (before ++ after)) || bytes_eq other new.name)
 found_apart other [] after new = rw (bytes_eq_sym new.name other) (by_test (bytes_eq other new.name) (find (is_of other) after))
@@ -223,7 +227,8 @@ found_apart other (first ∷ before) after new =
       | false ↦ found_apart other before after new
     ]
 
--- A workspace is added for a name that has none.
+-- After a workspace is added for a new name, the workspaces are those of the journal with the
+-- entry.
 pub workspace_added : (name : List ℕ) (act : ActValue) (ws : List Workspace) (place : ℕ) (new : Workspace) → IsGapFor name ws place
     → new.name ≡ name → new.number ≡ length ws
     → ((h : History) → standing_of [] ≡ standing_of h → new.standing ≡ standing_of (h ++ act ∷ []))
@@ -282,19 +287,19 @@ workspace_added name act ws place new p same number commits j are =
     before_none None b e = refl
     before_none (Some w) b e = cc
 
--- The versions stay those of the states where one workspace is changed.
+-- Changing a workspace keeps the versions right if the new one has its version.
 pub versions_changed : (ws : List Workspace) (place : ℕ) (new : Workspace) → HasVersion new → All HasVersion ws
     → All HasVersion (set ws place new)
 versions_changed ws place new has all = All-set HasVersion ws place new has all
 
--- So they do where one is added.
+-- Inserting a workspace keeps the versions right if it has its version.
 pub versions_added : (ws : List Workspace) (place : ℕ) (new : Workspace) → HasVersion new → All HasVersion ws
     → All HasVersion (insert ws place new)
 versions_added ws place new has all =
     All-append HasVersion (take place ws) (new ∷ drop place ws) (All-take HasVersion place ws all)
     (All-cons HasVersion new (drop place ws) has (All-drop HasVersion place ws all))
 
--- The version of the state that the journal gives with the entry is that of the changed workspace.
+-- The version of the name's state after the entry is the version of the changed workspace.
 pub own_version : (name : List ℕ) (act : ActValue) (ws : List Workspace) (place : ℕ) (own new : Workspace) → IsPlaceOf name ws place
     → own ≡ get_or ws place own
     → ((h : History) → own.standing ≡ standing_of h → new.standing ≡ standing_of (h ++ act ∷ []))
@@ -306,7 +311,7 @@ own_version name act ws place own new p is commits j are version =
     version ∙ ap state_of (acts_of_own name j (record { name = name; act = act }) ((bytes_eq-Decides name name).1 refl))
     ∙ ap (λ (s : Standing). s.state) (sym (commits (acts_of name j) stands))
 
--- So it is that of the added one.
+-- The version of the name's state after the entry is the version of the added workspace.
 pub new_version : (name : List ℕ) (act : ActValue) (ws : List Workspace) (place : ℕ) (new : Workspace) → IsGapFor name ws place
     → ((h : History) → standing_of [] ≡ standing_of h → new.standing ≡ standing_of (h ++ act ∷ []))
     → (j : Journal) → AreWorkspacesOf j ws
@@ -316,7 +321,7 @@ new_version name act ws place new p commits j are version =
     version ∙ ap state_of (acts_of_own name j (record { name = name; act = act }) ((bytes_eq-Decides name name).1 refl))
     ∙ ap (λ (s : Standing). s.state) (sym (commits (acts_of name j) stands))
 
--- What an insertion that succeeds leaves.
+-- A successful insertion leaves the list with the element inserted.
 pub inserted : {A E : Type 0} (result : Result (Unit {0}) E) (old new added : List A) → new ≡ cond (is_ok result) added old
     → IsOk result → new ≡ added
 inserted (Ok done) old new added is ok = is

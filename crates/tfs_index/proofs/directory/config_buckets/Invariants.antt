@@ -1,4 +1,4 @@
--- The buckets so far.
+-- The instances before the current one have their buckets.
 use Rattle.std.proofs.Common.{◌≡◌, length}
 use Rattle.tfs_state.specs.Dependency.{config_of}
 use Rattle.tfs_index.specs.Directory.{AreBuckets}

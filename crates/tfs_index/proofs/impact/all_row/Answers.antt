@@ -1,4 +1,4 @@
--- The first text, and then each.
+-- The row begins with what the first text reaches and is intersected with what each text reaches.
 use Rattle.std.proofs.Common.{◌∙◌, ◌&&◌, ◌||◌, [], get_or, ap, ap₂}
 use Rattle.std.specs.FinSet.{contains, contains-empty}
 use Rattle.std.specs.List.{list_all}

@@ -1,4 +1,4 @@
--- The row has what the first text gives, and each of the texts so far.
+-- The row has what the first text and each text before the current one reach.
 use Rattle.std.proofs.Common.{◌≡◌, ℕ, length, take, ◌&&◌}
 use Rattle.std.specs.FinSet as set
 use Rattle.std.specs.List.{list_all}

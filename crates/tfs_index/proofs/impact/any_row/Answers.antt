@@ -4,7 +4,7 @@ use Rattle.std.specs.Ordering.{nat_cmp}
 use Rattle.std.specs.FinSet.{contains, contains-empty}
 use Rattle.tfs_index.proofs.impact.any_row.Goals as goal
 
--- No text so far.
+-- At the start no text has been added.
 pub loop-text-init : goal.loop-text-init
 loop-text-init c = record {
   size = ap (λ (r : NumberSet). r.size) c.in_ok-row.ensures.empty ∙ c.size.ensures.size ∙ c.requires.plane.size;

@@ -1,4 +1,4 @@
--- The row has what some of the texts so far gives.
+-- The row has what some text before the current one reaches.
 use Rattle.std.proofs.Common.{◌≡◌, ℕ, length, take}
 use Rattle.std.specs.FinSet as set
 use Rattle.std.specs.List.{list_any}

@@ -1,4 +1,4 @@
--- The row meets what the text gives.
+-- The row is intersected with what the text reaches.
 use Rattle.std.proofs.Common.{◌≡◌, ◌∙◌, ◌||◌, ◌&&◌, ap}
 use Rattle.std.specs.Cmp.{nat_cmp_total}
 use Rattle.std.specs.Ordering.{nat_cmp}

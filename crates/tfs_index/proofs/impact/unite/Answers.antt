@@ -1,4 +1,5 @@
--- The instances with the address, and one with the configuration address.
+-- The row gains what the instances with the address reach, and what one instance with the
+-- configuration address reaches.
 use Rattle.std.proofs.Common.{◌∙◌, ◌||◌, ℕ, ap, ap₂}
 use Rattle.std.specs.FinSet.{contains}
 use Rattle.tfs_index.specs.Impact.{is_reached_from}

@@ -1,4 +1,4 @@
--- From the last instance of the bucket to the first.
+-- The loop handles the instances of the bucket from the last to the first.
 use Rattle.std.proofs.Common.{◌≡◌, ◌∙◌, ◌+◌, ◌-◌, ◌<◌, length, ◌||◌, ◌&&◌, ℕ, refl, sym, ap, arith, leb}
 use Rattle.std.specs.FinSet.{contains}
 use Rattle.tfs_planes.specs.Row.{NumberSet}

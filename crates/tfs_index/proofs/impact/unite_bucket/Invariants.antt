@@ -1,4 +1,4 @@
--- What the instances from the place on reach is in the row.
+-- The row has what the named instances of the bucket from the place on reach.
 use Rattle.std.proofs.Common.{◌≡◌, ℕ, ◌+◌, ◌≤◌, ◌||◌, ◌&&◌, true, length, leb}
 use Rattle.std.specs.FinSet as set
 use Rattle.tfs_index.specs.Impact.{is_reached_from}

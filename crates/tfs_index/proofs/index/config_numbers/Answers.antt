@@ -1,10 +1,10 @@
--- One number more.
+-- Each step appends the next number.
 use Rattle.std.proofs.Common.{◌≡◌, ◌∙◌, ◌+◌, ◌++◌, ◌∷◌, [], ℕ, List, Some, take, slice_get, sym, ap}
 use Rattle.std.proofs.lemmas.Option.{get_or_from_slice_get, slice_get_within}
 use Rattle.std.proofs.lemmas.List.{take_more}
 use Rattle.tfs_index.proofs.index.config_numbers.Goals as goal
 
--- The numbers of a list up to one place further.
+-- Appending the number at index v to the first v numbers gives the first v + 1 numbers.
 numbers_more : (configs old new : List ℕ) (v number : ℕ) → new ≡ old ++ number ∷ [] → old ≡ take v configs → slice_get configs v ≡ Some number →
     new ≡ take (v + 1) configs
 numbers_more configs old new v number pushed so_far at =

@@ -1,4 +1,4 @@
--- The numbers so far.
+-- The list has the numbers before the current one.
 use Rattle.std.proofs.Common.{◌≡◌, take}
 use Rattle.tfs_index.proofs.index.config_numbers.Given as goal
 

@@ -1,4 +1,4 @@
--- The closed plane is that of what is reached.
+-- The closed plane relates each instance to those that it reaches.
 use Rattle.tfs_index.proofs.IndexLemmas.{closed_plane}
 use Rattle.tfs_index.proofs.index.reach_plane.Goals as goal
 

@@ -1,4 +1,4 @@
--- Instance after instance is related to those on which it depends.
+-- Each step relates the next instance to those on which it depends.
 use Rattle.std.proofs.Common.{◌∙◌, ◌&&◌, ◌||◌, ℕ, Bool, List, sym, ap, arith, eqb}
 use Rattle.std.specs.FinSet.{contains, contains-empty}
 use Rattle.std.specs.List.{list_any}

@@ -1,4 +1,4 @@
--- The instances so far are related to those on which they depend.
+-- The instances before the current one are related to those on which they depend.
 use Rattle.std.proofs.Common.{◌≡◌, ℕ, ◌&&◌, nat_lt, length}
 use Rattle.std.specs.FinSet as set
 use Rattle.tfs_index.specs.Reach.{depends_on}

@@ -1,4 +1,4 @@
--- The instances with the numbers so far are related.
+-- The instances with a number before the current one are related.
 use Rattle.std.proofs.Common.{◌≡◌, ℕ, ◌||◌, ◌&&◌, ◌==◌, take}
 use Rattle.std.specs.FinSet as set
 use Rattle.std.specs.List.{list_any}

@@ -1,4 +1,4 @@
--- From the last instance with the number to the first.
+-- The loop handles the instances with the number from the last to the first.
 use Rattle.std.proofs.Common.{◌≡◌, ◌∙◌, ◌+◌, ◌-◌, ◌||◌, ◌&&◌, ℕ, refl, ap, arith, eqb, leb}
 use Rattle.std.specs.FinSet.{contains}
 use Rattle.tfs_planes.specs.Relation.{Relation}

@@ -1,4 +1,4 @@
--- The instances from the place on that have the number are related.
+-- The instances with the number, from the place on, are related.
 use Rattle.std.proofs.Common.{◌≡◌, ℕ, ◌+◌, ◌≤◌, ◌||◌, ◌&&◌, ◌==◌, true, length, leb}
 use Rattle.std.specs.FinSet as set
 use Rattle.tfs_index.specs.Links.{has_number}

@@ -1,4 +1,4 @@
--- Each law is a lemma.
+-- Each law has one lemma.
 use Rattle.tfs_index.proofs.ReachLemmas.{reach_told}
 use Rattle.tfs_index.proofs.LawLemmas.{named_told, any_told, all_told, any_rises, all_rises}
 use Rattle.tfs_index.proofs.laws.impact_follows_names_and_walks.Goals as goal

@@ -1,4 +1,4 @@
--- The texts so far have no more bytes than the document.
+-- The texts of the counted instances are together at most as long as the document.
 use Rattle.std.proofs.Common.{◌≤◌, ◌-◌, length}
 use Rattle.tfs_index.proofs.listing.room_for.Given as goal
 

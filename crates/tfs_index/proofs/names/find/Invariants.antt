@@ -1,4 +1,4 @@
--- The instances of the bucket from the place on aren't named.
+-- No instance of the bucket from the place on is named.
 use Rattle.std.proofs.Common.{◌≡◌, ℕ, ◌+◌, ◌≤◌, true, false, length}
 use Rattle.tfs_index.specs.Impact as impact
 use Rattle.tfs_index.specs.Links.{has_number}

@@ -1,4 +1,4 @@
--- The instances of the bucket from the place on have other configuration addresses.
+-- No instance of the bucket from the place on has the configuration address.
 use Rattle.std.proofs.Common.{◌≡◌, ℕ, ◌+◌, ◌≤◌, true, length, Some}
 use Rattle.tfs_state.specs.Dependency.{config_of}
 use Rattle.tfs_index.specs.Links.{has_number}

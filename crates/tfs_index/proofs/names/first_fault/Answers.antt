@@ -1,4 +1,4 @@
--- The faults in their order.
+-- Each case is one fault, in the order of the checks.
 use Rattle.std.proofs.Common.{◌∙◌, sym, arith, length, map, Bor, List, ℕ, Some, None}
 use Rattle.std.proofs.lemmas.Bool.{eqb-true, eqb-false}
 use Rattle.std.proofs.Math.ListN.{length-map}

@@ -1,11 +1,11 @@
--- A text names nothing where it names nothing in its two buckets.
+-- A text names no instance if it names none in its two buckets.
 use Rattle.std.proofs.Common.{◌≡◌, ◌∙◌, length, subst, sym, arith}
 use Rattle.tfs_index.specs.Index.{HasIndex}
 use Rattle.tfs_index.proofs.DirectoryLemmas.{not_found}
 use Rattle.tfs_index.proofs.ImpactLemmas.{unknown, found_known}
 use Rattle.tfs_index.proofs.names.is_unknown.Goals as goal
 
--- The index of a document with instances.
+-- A document without an index has no instances, so every text is unknown.
 pub returns-in_default : goal.returns-in_default
 returns-in_default c =
     let none : length c.args.doc.now.instances ≡ 0 = subst (HasIndex c.args.doc.now) c.in_default.is c.requires in

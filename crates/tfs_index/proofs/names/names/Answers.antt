@@ -1,4 +1,4 @@
--- The text is the address, or else the configuration address decides.
+-- The address is compared first, and if it differs, the configuration address decides.
 use Rattle.tfs_index.proofs.ImpactLemmas.{named_by_address, named_by_config}
 use Rattle.tfs_index.proofs.names.names.Goals as goal
 

@@ -1,4 +1,4 @@
--- A sign in front makes it no unsigned number.
+-- A number with a minus sign is not an unsigned integer.
 use Rattle.std.proofs.Common.{◌≡◌, option_and_then, drop, get_or, true, false, ◌==◌, sym, ap, ◌∙◌}
 use Rattle.fast_float.specs.Text.{scan}
 use Rattle.serde_json.specs.Find.{as_u64}

@@ -1,4 +1,4 @@
--- A turn of each loop, and each token.
+-- One step of each loop, and each kind of token.
 use Rattle.std.proofs.Common.{◌≡◌, ◌-◌, ◌<◌, [], ◌∷◌, ◌++◌, length, Some, None, option_map, refl, sym, ap, ap₂, ◌∙◌, arith, rules}
 use Rattle.json.specs.Token.{Token}
 use Rattle.json.specs.Json.{Json, array, object, parse_map, after_end_array, read_key, items, members, value}

@@ -1,4 +1,5 @@
--- What was kept, and what is kept of the rest.
+-- The members or elements found so far, followed by the kept part of the rest, are the kept part of
+-- the whole.
 use Rattle.std.proofs.Common.{◌≡◌, ℕ, ◌+◌, ◌*◌, ◌≤◌, length}
 use Rattle.json.specs.Json.{items, members, value, parse_map}
 use Rattle.json.proofs.Trees.{items_before, members_before}

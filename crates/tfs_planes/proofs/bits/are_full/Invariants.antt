@@ -1,4 +1,4 @@
--- The words so far are full.
+-- All words before the current one are full.
 use Rattle.std.proofs.Common.{◌≡◌, ℕ, ◌-◌, ◌^◌, ◌<◌, get_or}
 use Rattle.tfs_planes.proofs.bits.are_full.Given as goal
 

@@ -1,4 +1,4 @@
--- The test of the shifted word is the test of its bit.
+-- Testing the lowest bit of the shifted word tests the bit.
 use Rattle.std.proofs.Common.{◌/◌, ◌%◌, eqb, get_or, ap}
 use Rattle.std.proofs.lemmas.Nat.Bits.{shr_and_one}
 use Rattle.tfs_planes.specs.Row.{bit_at_word}

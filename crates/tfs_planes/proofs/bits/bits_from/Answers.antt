@@ -1,4 +1,4 @@
--- The first word loses its bits below the number, and a later one none.
+-- The first word loses its bits below the number, and a later word loses none.
 use Rattle.tfs_planes.proofs.NextLemmas.{bits_of_first_word, bits_of_later_word}
 use Rattle.tfs_planes.proofs.bits.bits_from.Goals as goal
 

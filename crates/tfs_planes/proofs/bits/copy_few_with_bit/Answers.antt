@@ -1,4 +1,4 @@
--- Each word is that of the other list with the bit set.
+-- Each word is the word of the other list with the bit set.
 use Rattle.std.proofs.Common.{◌*◌, ◌/◌, ◌^◌, ◌%◌, ◌∙◌, arith, bit_or, get_or}
 use Rattle.std.proofs.lemmas.List.{length-set}
 use Rattle.tfs_planes.proofs.BitLemmas.{bit_at_word-same, bit_at_word-with_bit, with_bit}

@@ -1,4 +1,4 @@
--- The words so far are those of the other list with the bit set.
+-- The words before the current one are the words of the other list with the bit set.
 use Rattle.std.proofs.Common.{◌≡◌, ℕ, ◌<◌, length, get_or}
 use Rattle.tfs_planes.proofs.BitLemmas.{with_bit}
 use Rattle.tfs_planes.proofs.bits.copy_few_with_bit.Given as goal

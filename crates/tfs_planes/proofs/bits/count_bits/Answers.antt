@@ -1,4 +1,4 @@
--- The counts of the words are the count of their bits.
+-- The sum of the words' counts is the count of all bits.
 use Rattle.std.proofs.Common.{◌∙◌}
 use Rattle.tfs_planes.proofs.CountLemmas.{count_each}
 use Rattle.tfs_planes.proofs.bits.count_bits.Goals as goal

@@ -1,4 +1,4 @@
--- One number more.
+-- Each step handles the next number.
 use Rattle.std.proofs.Common.{sym, ◌∙◌}
 use Rattle.tfs_planes.specs.Row.{bit_at_word, members_of}
 use Rattle.tfs_planes.proofs.BitLemmas.{filter_range_takes, filter_range_skips}

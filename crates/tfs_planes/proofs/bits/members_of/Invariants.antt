@@ -1,4 +1,4 @@
--- The numbers so far whose bit is set.
+-- The list has the numbers below the current one whose bit is set.
 use Rattle.std.proofs.Common.{◌≡◌}
 use Rattle.tfs_planes.specs.Row.{members_of}
 use Rattle.tfs_planes.proofs.bits.members_of.Given as goal

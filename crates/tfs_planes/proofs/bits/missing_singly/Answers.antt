@@ -1,4 +1,5 @@
--- The highest bit that a word has and the other hasn't is a number of the one list and not of the other.
+-- The highest bit of the difference of two words is a number of the first list and not of the
+-- other.
 use Rattle.std.proofs.Common.{arith}
 use Rattle.tfs_planes.proofs.TargetLemmas.{number_without}
 use Rattle.tfs_planes.proofs.bits.missing_singly.Goals as goal

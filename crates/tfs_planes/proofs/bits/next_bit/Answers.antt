@@ -1,4 +1,4 @@
--- The lowest bit of the first word that isn't 0.
+-- The next number is the lowest bit of the first word that is not 0.
 use Rattle.std.proofs.Common.{◌*◌, w64, arith, inl, inr}
 use Rattle.std.proofs.lemmas.Bool.{cases_lt}
 use Rattle.std.proofs.lemmas.Nat.Bits.{bit_at-trailing_zeros}

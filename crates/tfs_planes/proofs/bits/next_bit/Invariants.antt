@@ -1,4 +1,4 @@
--- No number in the words so far.
+-- No bit is set in the words before the current one.
 use Rattle.std.proofs.Common.{◌≡◌, ℕ, ◌*◌, ◌<◌, ◌≤◌, false}
 use Rattle.tfs_planes.specs.Row.{bit_at_word}
 use Rattle.tfs_planes.proofs.bits.next_bit.Given as goal

@@ -1,4 +1,4 @@
--- The cell of the row that was written is set, and each other cell is as it was.
+-- The cell of the written row is set, and every other cell is unchanged.
 use Rattle.std.proofs.Common.{◌+◌, ◌*◌, ◌-◌, ◌||◌, ◌&&◌, eqb, length, ap, ap₂, sym, ◌∙◌, inl, inr, arith}
 use Rattle.std.proofs.lemmas.Bool.{cases_eq, eq-eqb, ne_eqb}
 use borrow.Rule.Slice.PartMut.{put_mid}

@@ -1,4 +1,4 @@
--- The row goes through the other where its bit is set.
+-- The row is united with the other if its bit is set.
 use Rattle.std.proofs.Common.{sym, ◌∙◌}
 use Rattle.tfs_planes.proofs.RoundLemmas.{row_through_clear, row_through_set}
 use Rattle.tfs_planes.proofs.closure.absorb.Goals as goal

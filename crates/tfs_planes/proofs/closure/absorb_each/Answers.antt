@@ -1,4 +1,4 @@
--- One row more, and all of them.
+-- Each step handles the next row, and at the end all rows are done.
 use Rattle.std.proofs.Common.{◌+◌, ◌*◌, ap, sym, ◌∙◌, length, inl, inr, arith, ◌≤◌}
 use Rattle.std.proofs.lemmas.Bool.{cases_eq, cases_lt}
 use Rattle.std.proofs.Math.Nat.{mul-le-mul_right}

@@ -1,4 +1,4 @@
--- The rows so far went through the other row, and those from here on are as they were.
+-- The rows before the current one are done, and the rows from it on are unchanged.
 use Rattle.std.proofs.Common.{◌≡◌, ℕ, ◌<◌, ◌≤◌}
 use Rattle.tfs_planes.specs.Plane.{row_words, row_through}
 use Rattle.tfs_planes.proofs.closure.absorb_each.Given as goal

@@ -1,4 +1,4 @@
--- The block goes on, and the rows before it and behind it take it in.
+-- The block is closed, and the rows before and after it take it in.
 use Rattle.std.proofs.Common.{◌≡◌, ◌+◌, ◌-◌, ◌*◌, ◌++◌, ap, ◌∙◌, arith}
 use Rattle.std.proofs.Math.Nat.{mul-le-mul_right}
 use Rattle.tfs_planes.proofs.BlockLemmas.{all_advance}

@@ -1,4 +1,4 @@
--- One round more, and all of them.
+-- Each step is one round, and the last round closes the block.
 use Rattle.std.proofs.Common.{◌≡◌, ◌+◌, subst, ◌∙◌, arith}
 use Rattle.tfs_planes.specs.Rounds.{BlockJoins}
 use Rattle.tfs_planes.proofs.RoundLemmas.{round_walks}

@@ -1,4 +1,4 @@
--- After k rounds the rows of the block have the walks whose inner numbers are below first + k.
+-- After k rounds the rows of the block represent the walks with inner numbers below first + k.
 use Rattle.std.proofs.Common.{ℕ, ◌+◌, Bool}
 use Rattle.tfs_planes.specs.Rounds.{BlockJoins}
 use Rattle.tfs_planes.proofs.closure.close_block.Given as goal

@@ -1,4 +1,5 @@
--- Before the first block, after each, and after the last.
+-- The invariant holds before the first block and after each block, and after the last it gives the
+-- closure.
 use Rattle.std.proofs.Common.{◌≡◌, ◌+◌, ◌*◌, min, IsTrue, subst, arith}
 use Rattle.tfs_planes.specs.Plane.{cell_at}
 use Rattle.tfs_planes.specs.Rounds.{AllJoins}

@@ -1,4 +1,4 @@
--- After some blocks the bits that are set are the walks whose inner numbers lie in them.
+-- The set bits are the walks with inner numbers in the blocks before the current one.
 use Rattle.std.proofs.Common.{◌*◌, min}
 use Rattle.tfs_planes.specs.Plane.{cell_at}
 use Rattle.tfs_planes.specs.Rounds.{AllJoins}

@@ -1,4 +1,4 @@
--- Where no order closed the rows, they have the same closure as before.
+-- If no order closed the rows, their closure is unchanged.
 use Rattle.std.proofs.Common.{sym, subst}
 use Rattle.tfs_planes.specs.Targets.{IsBetween}
 use Rattle.tfs_planes.proofs.PlacingLemmas.{closure_between}

@@ -1,4 +1,4 @@
--- Row k stays, and each other row goes through it.
+-- Row k is unchanged, and every other row is united with it if its bit is set.
 use Rattle.std.proofs.Common.{◌≡◌, ℕ, ◌+◌, ◌-◌, ◌*◌, ◌++◌, List, ap, sym, subst, ◌∙◌, arith}
 use Rattle.std.proofs.lemmas.Bool.{eqb-false}
 use Rattle.tfs_planes.specs.Plane.{row_words, row_through}
@@ -20,7 +20,7 @@ absorb_each-requires-2-clause-lengths c =
       first.front_len,
     )
 
--- The words are the rows before row k, row k, and those behind it.
+-- The words are the rows before row k, row k, and the rows after it.
 module _ (words before rest row after : List ℕ) (first : words ≡ before ++ rest) (second : rest ≡ row ++ after) where
   in_parts : words ≡ before ++ (row ++ after)
   in_parts = first ∙ ap (λ zs. before ++ zs) second

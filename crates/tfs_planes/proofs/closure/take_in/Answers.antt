@@ -1,4 +1,4 @@
--- The row takes in the block's row of its lowest bit.
+-- The row takes in the row of the block for its lowest remaining bit.
 use Rattle.std.proofs.Common.{◌≡◌, ◌<◌, ◌/◌, ℕ, List, length, get_or, bit_or, w64, sym, ap, subst, ◌∙◌, arith}
 use Rattle.std.proofs.lemmas.Nat.Bits.{bit_at-trailing_zeros}
 use Rattle.std.specs.Int.{trailing_zeros}
@@ -21,7 +21,7 @@ row_at-other-requires c =
     let low = bit_at-trailing_zeros w64 c.loop-bits.bits (omega arith) c.loop-bits.auto.bits-fits.fits in
     omega (arith, row_fits (trailing_zeros w64 c.loop-bits.bits) c.args.width (length c.args.row.now) (c.loop-bits.invariant.within _ low.1))
 
--- The word of the other row, as a row of the block.
+-- A word of the lent row is a word of a row of the block.
 module _ (s k first bits : ℕ) (lent block : List ℕ) (is : lent ≡ row_words s block k) where
   same_left : bits_left bits (get_or lent (first / 64) 0) k ≡ bits_left bits (get_or (row_words s block k) (first / 64) 0) k
   same_left = ap (λ r. bits_left bits (get_or r (first / 64) 0) k) is

@@ -1,4 +1,4 @@
--- The row took in the block's rows that `bits` doesn't name any more.
+-- The row has taken in the rows of the block whose bits no longer remain in `bits`.
 use Rattle.std.proofs.Common.{◌≡◌, ℕ, ◌<◌}
 use Rattle.std.specs.Int.{bit_at}
 use Rattle.tfs_planes.specs.Rounds.{IsClosedBlock}

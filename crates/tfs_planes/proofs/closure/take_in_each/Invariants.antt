@@ -1,4 +1,4 @@
--- The rows so far took in the block's, and those from here on are as they were.
+-- The rows before the current one have taken in the block, and the rows from it on are unchanged.
 use Rattle.std.proofs.Common.{◌≡◌, ◌↔◌, ℕ, ◌<◌, ◌≤◌, IsTrue}
 use Rattle.tfs_planes.specs.Plane.{row_words, cell_at}
 use Rattle.tfs_planes.specs.Rounds.{IsClosedBlock, TakesIn}

@@ -1,4 +1,4 @@
--- One block more, and no sum over the bound.
+-- Each step counts the next block, and no sum exceeds the bound.
 use Rattle.std.proofs.Common.{◌+◌, ◌*◌, count_ones, arith}
 use Rattle.std.proofs.lemmas.List.Sums.{sum_by-take-le}
 use Rattle.tfs_planes.proofs.KernelLemmas.{sum_chunk, count_bound}

@@ -1,4 +1,4 @@
--- The blocks so far are counted.
+-- The blocks before the current one are counted.
 use Rattle.std.proofs.Common.{◌≡◌, ◌*◌, sum_by, take, count_ones}
 use Rattle.tfs_planes.proofs.kernels.count_blocks.Given as goal
 

@@ -1,4 +1,4 @@
--- No sum is over the bound.
+-- No sum exceeds the bound.
 use Rattle.std.proofs.Common.{count_ones, arith}
 use Rattle.std.proofs.lemmas.List.Sums.{sum_by_more_le}
 use Rattle.tfs_planes.proofs.KernelLemmas.{count_bound}

@@ -1,4 +1,4 @@
--- The words so far are counted.
+-- The words before the current one are counted.
 use Rattle.std.proofs.Common.{◌≡◌, sum_by, take, count_ones}
 use Rattle.tfs_planes.proofs.kernels.count_singly.Given as goal
 

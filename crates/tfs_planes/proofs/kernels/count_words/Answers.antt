@@ -1,4 +1,4 @@
--- The count of the blocks and that of the words behind them are the count of all.
+-- The count of the blocks and the count of the words after them add up to the count of all words.
 use Rattle.std.proofs.Common.{◌*◌, ◌/◌, count_ones, length, arith, sum_by, ap}
 use Rattle.std.proofs.lemmas.List.{take_rest}
 use Rattle.std.proofs.lemmas.List.Sums.{sum_by-take-drop}

@@ -1,4 +1,4 @@
--- No lane changes where the other's block has each bit, and nowhere else.
+-- The union leaves the other block unchanged if and only if that block has every bit.
 use Rattle.std.proofs.Common.{bit_or, arith, ◌∙◌}
 use Rattle.std.proofs.lemmas.Simd.{length-chunk, length-zip2}
 use Rattle.std.specs.Simd.Lanes.{chunk, zip2}

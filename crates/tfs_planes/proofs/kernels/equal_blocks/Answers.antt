@@ -1,4 +1,4 @@
--- One block more is equal.
+-- Each step compares the next block.
 use Rattle.std.proofs.Common.{◌+◌, ◌*◌, refl, arith}
 use Rattle.tfs_planes.proofs.KernelLemmas.{same_with_chunk}
 use Rattle.tfs_planes.proofs.kernels.equal_blocks.Goals as goal

@@ -1,4 +1,4 @@
--- The blocks so far are equal.
+-- The blocks before the current one are equal.
 use Rattle.std.proofs.Common.{◌≡◌, ◌*◌, take}
 use Rattle.tfs_planes.proofs.kernels.equal_blocks.Given as goal
 

@@ -1,4 +1,4 @@
--- No lane differs where the chunks are equal, and nowhere else.
+-- No lane differs if and only if the chunks are equal.
 use Rattle.std.specs.Simd.Lanes.{chunk}
 use Rattle.std.proofs.lemmas.Simd.{length-chunk}
 use Rattle.tfs_planes.proofs.KernelLemmas.{differ_mask}

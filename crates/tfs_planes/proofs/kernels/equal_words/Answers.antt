@@ -1,4 +1,4 @@
--- The lists are equal where the blocks are and the words behind them are.
+-- The lists are equal if their blocks and the words after them are equal.
 use Rattle.std.proofs.Common.{◌*◌, ◌/◌, ◌-◌, List, ℕ, length, take, drop, refl, sym, ap, ◌∙◌}
 use Rattle.std.proofs.lemmas.Bool.Decides.{Decides-eqb}
 use Rattle.std.proofs.lemmas.List.{take_rest}

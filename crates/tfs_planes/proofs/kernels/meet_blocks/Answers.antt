@@ -1,4 +1,4 @@
--- One block more, and all of them.
+-- Each step combines the next block, and at the end all blocks are combined.
 use Rattle.std.proofs.Common.{◌+◌, ◌*◌, ◌∙◌, bit_and, arith}
 use Rattle.tfs_planes.proofs.KernelLemmas.{front_all, front_chunk}
 use Rattle.tfs_planes.proofs.kernels.meet_blocks.Goals as goal

@@ -1,4 +1,4 @@
--- The blocks so far are combined.
+-- The blocks before the current one are combined.
 use Rattle.std.proofs.Common.{◌≡◌, ◌*◌, bit_and}
 use Rattle.tfs_planes.proofs.KernelLemmas.{front}
 use Rattle.tfs_planes.proofs.kernels.meet_blocks.Given as goal

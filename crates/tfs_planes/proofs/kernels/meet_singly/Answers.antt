@@ -1,4 +1,4 @@
--- One word more, and all of them.
+-- Each step combines the next word, and at the end all words are combined.
 use Rattle.std.proofs.Common.{◌+◌, ◌∙◌, bit_and, refl, arith}
 use Rattle.tfs_planes.proofs.KernelLemmas.{front_all, front_set}
 use Rattle.tfs_planes.proofs.kernels.meet_singly.Goals as goal

@@ -1,4 +1,4 @@
--- The words so far are combined.
+-- The words before the current one are combined.
 use Rattle.std.proofs.Common.{◌≡◌, bit_and}
 use Rattle.tfs_planes.proofs.KernelLemmas.{front}
 use Rattle.tfs_planes.proofs.kernels.meet_singly.Given as goal

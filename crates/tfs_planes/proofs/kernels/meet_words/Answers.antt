@@ -1,4 +1,4 @@
--- The blocks and the words behind them are all the words.
+-- The blocks and the words after them are all the words.
 use Rattle.std.proofs.Common.{◌*◌, ◌/◌, ◌++◌, length, drop, bit_and, arith, ◌∙◌, ap₂}
 use Rattle.std.proofs.lemmas.List.{length-append, length-drop, take_rest}
 use Rattle.std.specs.Simd.Lanes.{zip2}

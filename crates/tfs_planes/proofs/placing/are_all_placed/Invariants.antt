@@ -1,4 +1,4 @@
--- The rows so far are placed.
+-- The rows before the current one are placed.
 use Rattle.std.proofs.Common.{ℕ, ◌<◌, IsTrue}
 use Rattle.tfs_planes.specs.Row.{bit_at_word}
 use Rattle.tfs_planes.proofs.placing.are_all_placed.Given as goal

@@ -1,4 +1,5 @@
--- The target for which the row waited last is placed, and without one nothing came yet.
+-- The collected bits are the row of the latest target, if it is a placed target, and otherwise
+-- none.
 use Rattle.std.proofs.Common.{length, sym, subst, ◌∙◌}
 use Rattle.tfs_planes.specs.Targets.{HasCome}
 use Rattle.tfs_planes.proofs.TargetLemmas.{come_none, come_target}

@@ -1,4 +1,4 @@
--- No row is placed at the start, and all of them at the end.
+-- No row is placed at the start, and all rows are placed at the end.
 use Rattle.std.proofs.Common.{sym, ◌∙◌, IsTrue}
 use Rattle.std.proofs.lemmas.Bool.{false≢true}
 use Rattle.tfs_planes.specs.Plane.{cell_at}

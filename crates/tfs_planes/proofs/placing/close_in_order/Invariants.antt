@@ -1,4 +1,4 @@
--- The placed rows have what walks give, and the others lie between what they were and that.
+-- The placed rows are closed, and the others lie between what they were and their closure.
 use Rattle.std.proofs.Common.{ℕ, ◌<◌, IsTrue}
 use Rattle.tfs_planes.specs.Plane.{cell_at}
 use Rattle.tfs_planes.specs.Row.{bit_at_word}

@@ -1,4 +1,4 @@
--- One block more, which is passed over where its targets came.
+-- Each step adds the next lane block, which is skipped if its targets are collected bits.
 use Rattle.std.proofs.Common.{◌≡◌, ◌+◌, ◌-◌, ◌*◌, length, sym, subst, arith}
 use Rattle.tfs_planes.specs.Targets.{Gathers}
 use Rattle.tfs_planes.proofs.TargetLemmas.{gathers_block, gathers_more, gathers_skip}

@@ -1,4 +1,4 @@
--- The rows of the targets from this block on came.
+-- The rows of the targets from the current block on are collected.
 use Rattle.std.proofs.Common.{◌*◌, length}
 use Rattle.tfs_planes.specs.Targets.{ArePlacedClosed, HasCome, Gathers}
 use Rattle.tfs_planes.proofs.placing.gather.Given as goal

@@ -1,4 +1,4 @@
--- The rows of the targets from this word on came.
+-- The rows of the targets from the current word on are collected.
 use Rattle.std.proofs.Common.{◌+◌, ◌*◌, length}
 use Rattle.tfs_planes.specs.Targets.{ArePlacedClosed, HasCome, Gathers}
 use Rattle.tfs_planes.proofs.placing.gather_lanes.Given as goal

@@ -1,4 +1,4 @@
--- The row of the highest bit that is left is taken in.
+-- The row of the highest remaining bit is added.
 use Rattle.std.proofs.Common.{◌≡◌, ℕ, ◌+◌, ◌*◌, length, get_or, bit_or, sym, ap, ◌∙◌, arith}
 use Rattle.std.proofs.lemmas.Bool.{eq-eqb}
 use Rattle.std.specs.Simd.Lanes.{zip2}

@@ -1,4 +1,4 @@
--- The bits that are left are placed targets, and the rows of the word's other targets came.
+-- The remaining bits are placed targets, and the rows of the word's other targets are collected.
 use Rattle.std.proofs.Common.{◌≡◌, ℕ, ◌+◌, ◌*◌, IsTrue}
 use Rattle.std.specs.Int.{bit_at}
 use Rattle.tfs_planes.specs.Row.{bit_at_word}

@@ -1,4 +1,4 @@
--- The row took in the rows of its targets, and each other row is as it was.
+-- The row is united with the rows of its targets, and every other row is unchanged.
 use Rattle.std.proofs.Common.{◌≤◌, ◌+◌, ◌-◌, ◌*◌, length, bit_or, ap, ◌∙◌, arith}
 use Rattle.std.specs.Simd.Lanes.{zip2}
 use Rattle.tfs_planes.specs.Plane.{row_words}

@@ -1,4 +1,4 @@
--- The row's own bit is no target, and each other bit is one.
+-- Every set bit except the row's own is a target.
 use Rattle.tfs_planes.proofs.TargetLemmas.{targets_of_own_word, targets_of_word}
 use Rattle.tfs_planes.proofs.placing.targets_in.Goals as goal
 

@@ -1,4 +1,4 @@
--- The order the other way round.
+-- If the other front is shorter, the reversed order is computed.
 use Rattle.std.proofs.Common.{◌++◌}
 use Rattle.tfs_state.proofs.AddressLemmas.{cmp_reverse}
 use Rattle.tfs_state.proofs.address.order.Goals as goal

@@ -1,4 +1,4 @@
--- The shorter first part decides, and else what follows it.
+-- The shorter front decides first, then the rest.
 use Rattle.std.proofs.Common.{sym}
 use Rattle.tfs_state.proofs.AddressLemmas.{cmp_split_parts}
 use Rattle.tfs_state.proofs.address.order_from_shorter.Goals as goal

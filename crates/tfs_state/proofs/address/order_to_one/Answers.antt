@@ -1,4 +1,4 @@
--- The first part decides, and else the second.
+-- The front decides first, then the tail.
 use Rattle.std.proofs.Common.{◌∙◌, sym}
 use Rattle.tfs_state.proofs.AddressLemmas.{cmp_longer, cmp_split}
 use Rattle.tfs_state.proofs.address.order_to_one.Goals as goal

@@ -1,4 +1,4 @@
--- The content of a value, or its first fault.
+-- The result is the content of the value or its first fault.
 use Rattle.std.proofs.Common.{◌∙◌, sym, ap, Some, refl}
 use Rattle.tfs_json.specs.Tree.{tree_view as view}
 use Rattle.tfs_state.proofs.ContentsLemmas.{other_version, right_version, no_serial, no_lineage, refused_resources, content_read}

@@ -1,4 +1,4 @@
--- The instances of a value, or the first fault of its resources.
+-- The result is the instances of the value or the first fault of its resources.
 use Rattle.std.proofs.Common.{arith, map, refl, sym, ap, ◌∙◌, Err}
 use Rattle.tfs_json.specs.Tree.{tree_view as view}
 use Rattle.tfs_state.proofs.ContentsLemmas.{no_list, refused_resource, many_instances, instances_read}

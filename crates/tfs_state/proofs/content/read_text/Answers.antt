@@ -1,4 +1,4 @@
--- The content of a text is that of what is kept of its value.
+-- The content of a text is the content of the kept part of its value.
 use Rattle.std.proofs.Common.{ap, ◌∙◌}
 use Rattle.std.proofs.lemmas.Result.{IfOk-weaker, IfErr-weaker}
 use Rattle.std.specs.Result.{result_err}

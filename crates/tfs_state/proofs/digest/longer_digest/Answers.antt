@@ -1,4 +1,4 @@
--- The digest of a longer text goes on from that of what it begins with.
+-- The digest of a longer text continues from the digest of its prefix.
 use Rattle.std.proofs.Common.{◌∙◌, ap, sym, ℕ}
 use Rattle.std.specs.List.{fold}
 use Rattle.std.proofs.lemmas.Grind.{fold-append}

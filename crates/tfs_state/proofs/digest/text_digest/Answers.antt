@@ -1,4 +1,4 @@
--- The digest of no bytes, and those of the text.
+-- The digest of a text continues from the digest of no bytes.
 use Rattle.std.proofs.Common.{◌∙◌, ap}
 use Rattle.std.specs.List.{fold}
 use Rattle.tfs_state.specs.Digest.{digest_of, digest_with}

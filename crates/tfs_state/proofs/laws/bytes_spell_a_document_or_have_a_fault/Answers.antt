@@ -1,4 +1,4 @@
--- Bytes spell a document exactly where they have one, and no fault.
+-- Bytes spell a document if and only if it is their document, and then they have no fault.
 use Rattle.tfs_state.proofs.StateTextLemmas.{spelled_faultless, faultless_spelled, given_spelled, spelled_computed}
 use Rattle.tfs_state.proofs.MemoryLemmas.{fault_of_text}
 use Rattle.tfs_state.proofs.laws.bytes_spell_a_document_or_have_a_fault.Goals as goal

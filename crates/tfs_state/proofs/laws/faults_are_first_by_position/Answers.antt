@@ -1,4 +1,4 @@
--- Faults by positions, level by level.
+-- Each level has one lemma.
 use Rattle.tfs_state.proofs.FirstFaultLemmas.{resources_fault, resource_fault, instance_fault, dependency_fault}
 use Rattle.tfs_state.proofs.laws.faults_are_first_by_position.Goals as goal
 

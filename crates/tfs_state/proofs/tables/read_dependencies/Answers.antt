@@ -1,4 +1,4 @@
--- Each dependency is one more, or the first that is refused.
+-- Each step reads the next dependency or returns the fault of the first invalid one.
 use Rattle.tfs_state.proofs.ResultLemmas.{err_carried}
 use Rattle.tfs_state.proofs.TablesLemmas.{no_dependencies, dependency_more, dependency_stops}
 use Rattle.tfs_state.proofs.tables.read_dependencies.Goals as goal

@@ -1,4 +1,4 @@
--- An instance's own members, with its dependencies.
+-- An instance is read from its own members and its dependencies.
 use Rattle.std.proofs.Common.{refl}
 use Rattle.tfs_json.specs.Tree.{tree_view as view}
 use Rattle.tfs_state.proofs.TablesLemmas.{instance_read}

@@ -1,4 +1,4 @@
--- What neither the rules nor the limits refuse is accepted.
+-- An act that neither the rules nor the limits refuse is accepted.
 use Rattle.std.proofs.Common.{◌∙◌, inr}
 use Rattle.std.proofs.lemmas.Result.{err_from_is_err_and}
 use Rattle.tfs_table.proofs.JudgeLemmas.{judged_accepted, judged_by_limits, refused_by_rules, refused_by_any, new_in_gap}

@@ -1,4 +1,4 @@
--- The workspace at the place of the name has what the name has.
+-- The workspace at the name's index has the state and holder of the name.
 use Rattle.std.proofs.Common.{subst, sym}
 use Rattle.tfs_rules.specs.Act.{act_value}
 use Rattle.tfs_table.specs.Workspaces.{IsFound}

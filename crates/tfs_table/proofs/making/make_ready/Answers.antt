@@ -1,4 +1,4 @@
--- The change is ready: the journal accepts its entry.
+-- The change is ready because the journal accepts its entry.
 use Rattle.std.proofs.Common.{◌≡◌, None, sym, ap, subst}
 use Rattle.tfs_rules.specs.Act.{act_value}
 use Rattle.tfs_records.specs.Journal.{Journal, EntryValue}

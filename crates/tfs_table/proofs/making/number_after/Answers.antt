@@ -1,4 +1,4 @@
--- A name that has a workspace keeps its number, and another gets the next one.
+-- A name with a workspace keeps its number, and a new name gets the next one.
 use Rattle.std.proofs.Common.{subst}
 use Rattle.tfs_table.specs.Workspaces.{IsFound}
 use Rattle.tfs_table.proofs.JudgeLemmas.{number_known, number_new}

@@ -1,4 +1,4 @@
--- The workspace of the name has the version of its state.
+-- The workspace of the name has the version of the name's state.
 use Rattle.std.proofs.Common.{Some, sym, ◌∙◌, ap, subst, option_map}
 use Rattle.std.specs.Arc.{arc_value}
 use Rattle.tfs_table.specs.Workspaces.{IsFound}

@@ -1,4 +1,4 @@
--- One workspace more has its version, and the rows stay.
+-- Each step builds the version of the next workspace, and the rows are unchanged.
 use Rattle.std.proofs.Common.{[], ◌∷◌, All, take, sym, ◌∙◌, ap, subst, length, arith}
 use Rattle.std.proofs.Math.Seq.{map-set_same}
 use Rattle.std.proofs.lemmas.List.{take_more_set, take_all, length-map}

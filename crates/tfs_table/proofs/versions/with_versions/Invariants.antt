@@ -1,4 +1,4 @@
--- Nothing but versions has changed, and the workspaces so far have theirs.
+-- Only versions have changed, and the workspaces before the current one have theirs.
 use Rattle.std.proofs.Common.{◌≡◌, All, map, take}
 use Rattle.tfs_table.specs.Workspaces.{row_of, HasVersion}
 use Rattle.tfs_table.specs.declared.workspace.Workspace.{Workspace}

@@ -1,4 +1,4 @@
--- The workspace of the name has the act at the end of its history, and the others stay.
+-- The workspace of the name has the act at the end of its history, and the others are unchanged.
 use Rattle.std.proofs.Common.{◌≡◌, All, length, rules, refl, sym, ◌∙◌, ap, subst}
 use Rattle.tfs_rules.specs.Act.{act_value}
 use Rattle.tfs_rules.specs.Verdict.{verdict_over}

@@ -1,4 +1,4 @@
--- The holder is that of the workspace of the name.
+-- The holder is the holder of the name's workspace.
 use Rattle.std.proofs.Common.{sym, ◌∙◌, ap}
 use Rattle.tfs_rules.specs.History.{Standing}
 use Rattle.tfs_table.proofs.WorkspaceLemmas.{standing_at_place}

@@ -1,4 +1,4 @@
--- The name of a number is that of the number's workspace.
+-- The name of a number is the name of the workspace with the number.
 use Rattle.std.proofs.Common.{Some, None, sym}
 use Rattle.tfs_table.proofs.NumberLemmas.{named_by_number}
 use Rattle.tfs_table.proofs.workspaces.name_at.Goals as goal

@@ -1,4 +1,4 @@
--- The number is that of the workspace of the name.
+-- The number of a name is the number of the name's workspace.
 use Rattle.std.proofs.Common.{sym, ◌∙◌, ap, is_some}
 use Rattle.std.specs.List.{find}
 use Rattle.tfs_table.specs.Workspaces.{is_of}

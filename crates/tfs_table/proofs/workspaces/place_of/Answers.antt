@@ -1,4 +1,4 @@
--- Each comparison leaves the part in which the name may stand.
+-- Each comparison leaves the part in which the name can be.
 use Rattle.std.proofs.Common.{arith}
 use Rattle.tfs_table.proofs.SearchLemmas.{narrows_up, narrows_down, narrows_here, narrows_out}
 use Rattle.tfs_table.proofs.workspaces.place_of.Goals as goal

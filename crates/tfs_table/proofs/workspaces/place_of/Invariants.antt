@@ -1,4 +1,4 @@
--- Names before `low` are below the name, and names from `high` on above it.
+-- Names before `low` are less than the name, and names from `high` on are greater.
 use Rattle.std.proofs.Common.{◌-◌}
 use Rattle.tfs_table.proofs.SearchLemmas.{Narrows}
 use Rattle.tfs_table.proofs.workspaces.place_of.Given as goal

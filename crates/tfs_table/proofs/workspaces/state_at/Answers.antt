@@ -1,4 +1,4 @@
--- The state is that of the workspace of the name.
+-- The state is the state of the name's workspace.
 use Rattle.std.proofs.Common.{Some, refl, sym, ◌∙◌, ap, inr}
 use Rattle.tfs_rules.specs.History.{Standing}
 use Rattle.std.proofs.lemmas.Result.{err_from_is_err_and}

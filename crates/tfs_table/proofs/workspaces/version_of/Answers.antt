@@ -1,4 +1,4 @@
--- The version is that of the workspace of the name.
+-- The version is the version of the name's workspace.
 use Rattle.std.proofs.Common.{sym, ◌∙◌, ap, option_map}
 use Rattle.std.specs.Arc.{arc_value}
 use Rattle.tfs_table.proofs.JudgeLemmas.{version_here}

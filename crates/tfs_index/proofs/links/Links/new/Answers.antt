@@ -1,4 +1,4 @@
--- The instances are linked one after the other.
+-- Each step links the next instance.
 use Rattle.std.proofs.Common.{◌∙◌, ◌∷◌, [], ℕ, List, length, get_or, sym, ap, subst, arith, length-append}
 use Rattle.std.proofs.lemmas.Option.{slice_get-get_or}
 use Rattle.tfs_index.specs.Links.{IsBehindLast, AreLinks}

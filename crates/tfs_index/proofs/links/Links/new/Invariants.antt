@@ -1,4 +1,4 @@
--- The instances so far are linked.
+-- The instances before the current one are linked.
 use Rattle.std.proofs.Common.{◌≡◌, ℕ, ◌<◌, length, slice_get, slice_index, Some}
 use Rattle.tfs_index.specs.Links.{IsBehindLast}
 use Rattle.tfs_index.proofs.links.Links.new.Given as goal

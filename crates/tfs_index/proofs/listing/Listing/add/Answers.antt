@@ -1,4 +1,4 @@
--- One text more.
+-- One more text and its end are appended.
 use Rattle.std.proofs.Common.{◌≡◌, ◌+◌, ◌++◌, ◌∷◌, ◌∙◌, [], ℕ, List, Some, length, arith, sym, ap, length-append}
 use Rattle.tfs_state.specs.Dependency.{address_of}
 use Rattle.tfs_index.specs.Listing.{addresses_from}

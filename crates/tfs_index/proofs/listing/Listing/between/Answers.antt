@@ -1,4 +1,4 @@
--- The text stands between two ends.
+-- The texts are the bytes between the two ends.
 use Rattle.std.proofs.Common.{◌≤◌, length, arith}
 use Rattle.tfs_index.proofs.ListingLemmas.{text_lent}
 use Rattle.tfs_index.proofs.listing.Listing.between.Goals as goal

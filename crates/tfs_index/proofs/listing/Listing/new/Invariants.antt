@@ -1,4 +1,4 @@
--- The texts so far.
+-- The listing has the texts of the instances before the current one.
 use Rattle.std.proofs.Common.{◌≤◌, ◌-◌, length}
 use Rattle.tfs_index.specs.Listing.{IsListing}
 use Rattle.tfs_index.proofs.listing.Listing.new.Given as goal

@@ -1,4 +1,4 @@
--- The members of the row are the answer.
+-- The members of the row are the result.
 use Rattle.std.proofs.Common.{◌≡◌, ◌∙◌, ℕ, List, map, length, Some, Bor, sym, ap, subst, arith}
 use Rattle.std.specs.Arc.{arc_value}
 use Rattle.std.proofs.Math.ListN.{length-map}

@@ -1,4 +1,4 @@
--- The members of the row are the answer.
+-- The members of the row are the result.
 use Rattle.std.proofs.Common.{◌≡◌, ◌∙◌, ℕ, List, map, length, Some, Bor, sym, ap, subst}
 use Rattle.std.specs.Arc.{arc_value}
 use Rattle.tfs_state.specs.Document.{Document}

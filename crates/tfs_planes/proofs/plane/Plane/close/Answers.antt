@@ -1,4 +1,4 @@
--- The closed rows are those of a plane, and relate what walks join.
+-- The closed rows are those of a plane, and they relate exactly the numbers that a walk joins.
 use Rattle.std.proofs.Common.{◌≡◌, ◌↔◌, IsTrue, sym, subst, ◌∙◌, ℕ, List}
 use Rattle.std.proofs.lemmas.List.{with_items_is}
 use Rattle.tfs_planes.specs.Plane.{cell_at, relation_of, row_words}
@@ -8,7 +8,7 @@ use Rattle.tfs_planes.specs.Walk.{Joins}
 use Rattle.tfs_planes.proofs.RelationLemmas.{clear_closed, closed-plane}
 use Rattle.tfs_planes.proofs.plane.Plane.close.Goals as goal
 
--- What the closure of the rows says, at the length that a row of the plane has.
+-- The closure of the rows, stated for the row length of the plane.
 walks_of : (s t : ℕ) (lent words now : List ℕ) → s ≡ t → lent ≡ words →
     ((i j : ℕ) → IsTrue (cell_at s now i j) ↔ Joins (λ a b. IsTrue (cell_at s lent a b)) i j) → (i j : ℕ) →
     IsTrue (cell_at t now i j) ↔ Joins (λ a b. IsTrue (cell_at t words a b)) i j

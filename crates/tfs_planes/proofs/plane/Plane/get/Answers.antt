@@ -1,4 +1,4 @@
--- A pair is related where its bit is set.
+-- A pair is related if its bit is set.
 use Rattle.std.proofs.Common.{◌<◌, ◌*◌, sym, ap, ap₂, subst, ◌∙◌, arith}
 use Rattle.std.specs.FinSet.{contains}
 use Rattle.tfs_planes.specs.Plane.{cell_at}

@@ -1,4 +1,4 @@
--- Zeros relate nothing.
+-- The relation of a plane of zeros is empty.
 use Rattle.std.proofs.Common.{ℕ, ◌*◌, length, sym, ap, subst, ◌∙◌}
 use Rattle.std.proofs.lemmas.List.{length-replicate}
 use Rattle.tfs_planes.specs.Plane.{relation_of, row_words}

@@ -1,4 +1,4 @@
--- The relation has the pair whose bit was set, and the others as before.
+-- The relation gains the pair whose bit is set, and is otherwise unchanged.
 use Rattle.std.proofs.Common.{◌<◌, ◌*◌, ◌||◌, ◌&&◌, eqb, sym, ap, ap₂, subst, ◌∙◌, arith, ℕ}
 use Rattle.std.proofs.lemmas.List.{with_items_is}
 use Rattle.std.specs.FinSet.{insert}

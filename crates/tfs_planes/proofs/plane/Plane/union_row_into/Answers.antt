@@ -1,4 +1,4 @@
--- The row of the words holds the numbers related to.
+-- The row's set gains the numbers to which the number is related.
 use Rattle.std.proofs.Common.{◌≡◌, ◌<◌, ◌*◌, ◌||◌, sym, ap, ap₂, subst, ◌∙◌, arith}
 use Rattle.std.specs.FinSet.{contains}
 use Rattle.tfs_planes.specs.Plane.{cell_at, row_words}

@@ -1,4 +1,4 @@
--- Zeros hold no number.
+-- The set of a row of zeros is empty.
 use Rattle.std.proofs.Common.{length, sym, ap, subst, ◌∙◌}
 use Rattle.std.proofs.lemmas.List.{with_items_is}
 use Rattle.std.specs.FinSet.{empty}

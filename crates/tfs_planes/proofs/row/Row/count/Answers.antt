@@ -1,4 +1,4 @@
--- The bits that are set are as many as the members.
+-- The number of set bits is the number of members.
 use Rattle.std.proofs.Common.{◌*◌, List, ℕ, length, count_by, ap, ◌∙◌, arith}
 use Rattle.std.specs.FinSet.{len}
 use Rattle.std.specs.List.{range_with_len}

@@ -1,4 +1,4 @@
--- A member is a number whose bit is set.
+-- A number is a member if its bit is set.
 use Rattle.std.proofs.Common.{sym, ap, ◌∙◌}
 use Rattle.std.specs.FinSet.{contains}
 use Rattle.tfs_planes.specs.Row.{NumberSet, bit_at_word}

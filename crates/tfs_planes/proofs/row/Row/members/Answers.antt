@@ -1,4 +1,4 @@
--- The numbers whose bits are set are the members, and they rise.
+-- The numbers of the set bits are the members, in ascending order.
 use Rattle.std.proofs.Common.{sym, ap, subst, ◌∙◌}
 use Rattle.std.proofs.lemmas.Result.{IfOk-weaker}
 use Rattle.std.specs.List.Sorted.{IsStrictlyIncreasing}

@@ -1,4 +1,4 @@
--- Zeros hold no number.
+-- The set of a row of zeros is empty.
 use Rattle.std.proofs.Common.{ℕ, length, sym, ap, subst, ◌∙◌}
 use Rattle.std.proofs.lemmas.List.{length-replicate}
 use Rattle.tfs_planes.specs.Row.{IsClearFrom, number_set}

@@ -1,4 +1,4 @@
--- A member is a number whose bit is set.
+-- A number is a member if its bit is set.
 use Rattle.std.proofs.Common.{◌∙◌}
 use Rattle.tfs_planes.proofs.RowLemmas.{member_bit, some_weaker, none_weaker}
 use Rattle.tfs_planes.proofs.row.Row.next_member.Goals as goal

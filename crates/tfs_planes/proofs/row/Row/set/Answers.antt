@@ -1,4 +1,4 @@
--- The set has the number whose bit was set, and the others as before.
+-- The set gains the number whose bit is set, and is otherwise unchanged.
 use Rattle.std.proofs.Common.{◌||◌, ◌==◌, ◌<◌, ℕ, sym, ap, subst, ◌∙◌}
 use Rattle.std.proofs.lemmas.List.{with_items_is}
 use Rattle.std.specs.FinSet.{insert}

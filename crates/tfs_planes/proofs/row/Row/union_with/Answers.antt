@@ -1,4 +1,4 @@
--- The words are combined, so the sets are.
+-- Combining the words unites the sets.
 use Rattle.std.proofs.Common.{sym, subst, bit_or, arith}
 use Rattle.tfs_planes.specs.Row.{IsClearFrom}
 use Rattle.tfs_planes.proofs.BitLemmas.{clear_union}

@@ -1,4 +1,4 @@
--- The words are combined, so the row gains their numbers.
+-- Combining the words adds their numbers to the set.
 use Rattle.std.proofs.Common.{◌||◌, bit_or, refl, sym, ap, subst, ◌∙◌, arith}
 use Rattle.std.specs.FinSet.{contains}
 use Rattle.tfs_planes.specs.Row.{IsClearFrom, NumberSet, number_set, bit_at_word, row_length}

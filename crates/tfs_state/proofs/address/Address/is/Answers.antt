@@ -1,4 +1,5 @@
--- An address is a text exactly where its front is a prefix, and its tail what follows.
+-- An address equals a text if and only if its front is a prefix and its tail is the rest of the
+-- text.
 use Rattle.tfs_state.proofs.AddressLemmas.{text_with_prefix, text_without_prefix}
 use Rattle.tfs_state.proofs.address.Address.is.Goals as goal
 

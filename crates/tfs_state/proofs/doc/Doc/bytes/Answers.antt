@@ -1,4 +1,4 @@
--- The text that is kept spells the document.
+-- The kept text spells the document.
 use Rattle.std.proofs.Common.{◌∙◌, ap, sym, subst, List, ℕ}
 use Rattle.tfs_state.specs.Document.{Document}
 use Rattle.tfs_state.specs.StateText.{SpellsDocument}

@@ -1,4 +1,5 @@
--- An instance depends on another exactly where the number of its block is among its numbers.
+-- An instance depends on another if and only if the number of the other's block is among its
+-- numbers.
 use Rattle.std.proofs.Common.{◌∙◌, ◌↔◌, ap, sym, arith, subst, IsTrue, Bool, List, ℕ, nat_eq}
 use Rattle.std.specs.List.{list_any}
 use Rattle.tfs_state.specs.Dependency.{DependsOn}

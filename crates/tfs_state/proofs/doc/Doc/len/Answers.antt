@@ -1,4 +1,4 @@
--- There is a row for each instance.
+-- The number of rows is the number of instances.
 use Rattle.std.proofs.Common.{arith}
 use Rattle.tfs_state.proofs.DocLemmas.{kept_length, kept_limit}
 use Rattle.tfs_state.proofs.doc.Doc.len.Goals as goal

@@ -1,4 +1,4 @@
--- The numbers of the rows are those of the document.
+-- The numbers of the rows are a numbering of the document.
 use Rattle.tfs_state.proofs.NumberingLemmas.{kept_fits, kept_numbers}
 use Rattle.tfs_state.proofs.doc.Doc.numbers.Goals as goal
 

@@ -1,4 +1,4 @@
--- What was read keeps the text, which spells its document.
+-- The parts that were read represent the text, which spells its document.
 use Rattle.tfs_state.proofs.StateTextLemmas.{kept_spells}
 use Rattle.tfs_state.proofs.doc.Doc.read_over.Goals as goal
 

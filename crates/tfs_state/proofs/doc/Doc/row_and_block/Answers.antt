@@ -1,4 +1,4 @@
--- The row of the instance, with its block, has both addresses and the digests.
+-- The row of the instance and its block give both addresses and the digests.
 use Rattle.std.proofs.Common.{arith}
 use Rattle.tfs_state.proofs.DocLemmas.{kept_length, kept_block, kept_address, kept_config, kept_digests}
 use Rattle.tfs_state.proofs.doc.Doc.row_and_block.Goals as goal

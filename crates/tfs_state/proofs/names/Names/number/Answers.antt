@@ -1,4 +1,4 @@
--- Distinct keys are apart, and what was inserted stands at its place.
+-- Distinct keys have distinct texts, and the inserted text is at its index.
 use Rattle.std.proofs.Common.{◌∙◌, ap, slice_get, map, string_bytes}
 use Rattle.std.proofs.lemmas.Result.{IfOk-weaker}
 use Rattle.tfs_state.proofs.NamesLemmas.{keys_apart, stored_text}

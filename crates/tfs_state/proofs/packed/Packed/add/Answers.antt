@@ -1,4 +1,4 @@
--- One more row is packed, with its dependencies behind those of the others.
+-- One more row is packed, with its dependencies after those of the other rows.
 use Rattle.std.proofs.Common.{◌∙◌, ap, refl, arith, ◌++◌}
 use Rattle.tfs_state.proofs.PackedLemmas.{rows_packed}
 use Rattle.tfs_state.proofs.packed.Packed.add.Goals as goal

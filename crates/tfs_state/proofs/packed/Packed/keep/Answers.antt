@@ -1,4 +1,4 @@
--- A row is packed, if there are fewer than 4,097.
+-- The row is packed if there are fewer than 4,097 rows.
 use Rattle.std.proofs.Common.{arith, refl}
 use Rattle.std.proofs.lemmas.Result.{on_ok_weaker}
 use Rattle.tfs_state.proofs.PackedLemmas.{row_kept, row_passed}

@@ -1,4 +1,4 @@
--- Each resource is one more, or the first that is refused.
+-- Each step reads the next resource or returns the fault of the first invalid one.
 use Rattle.tfs_state.proofs.ResultLemmas.{err_carried}
 use Rattle.tfs_state.proofs.TablesLemmas.{no_resources, resource_more, resource_stops}
 use Rattle.tfs_state.proofs.tables.Tables.read.Goals as goal

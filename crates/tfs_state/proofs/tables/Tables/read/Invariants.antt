@@ -1,4 +1,4 @@
--- The resources so far were read.
+-- The resources before the current one are read.
 use Rattle.std.proofs.Common.{map, take}
 use Rattle.tfs_json.specs.Tree.{tree_view as view}
 use Rattle.tfs_state.specs.Tables.{ReadsResources}

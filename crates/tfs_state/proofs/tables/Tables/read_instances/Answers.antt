@@ -1,4 +1,4 @@
--- Each instance is one more, or the first that is refused.
+-- Each step adds the next instance or returns the fault of the first invalid one.
 use Rattle.std.proofs.Common.{refl}
 use Rattle.tfs_state.proofs.ResultLemmas.{err_carried}
 use Rattle.tfs_state.proofs.TablesLemmas.{no_instances, instance_more, instance_stops}

@@ -1,4 +1,4 @@
--- The instances so far were added.
+-- The instances before the current one are added.
 use Rattle.std.proofs.Common.{map, take}
 use Rattle.tfs_json.specs.Tree.{tree_view as view}
 use Rattle.tfs_state.specs.Tables.{AddsInstances}

@@ -1,4 +1,4 @@
--- A resource adds its block and its rows, or nothing, where it has no instances.
+-- A resource adds its block and its rows, or nothing if it has no instances.
 use Rattle.std.proofs.Common.{refl, arith}
 use Rattle.tfs_json.specs.Tree.{tree_view as view}
 use Rattle.tfs_state.specs.Parts.{resource_view}
