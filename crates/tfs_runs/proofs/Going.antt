@@ -112,7 +112,7 @@ positions_then : (t : ReturnedRun) (runs : List ReturnedRun) → positions_of_al
 positions_then t runs =
     flat_map-append (λ (u : ReturnedRun). u.positions) runs (t ∷ []) ∙ ap (λ (l : List ℕ). positions_of_all runs ++ l) (append-nil t.positions)
 
--- Without a run, the journal is the first one.
+-- No runs lead from the first journal to an equal one.
 pub goes_not_yet : (first now : TableModel) → now ≡ first → GoesOn first now 0
 goes_not_yet first now same = record {
   runs = [];

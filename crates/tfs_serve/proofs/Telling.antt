@@ -72,18 +72,20 @@ times_itself q rest =
     let is = times_more q q rest ∙ ap (λ (t : Bool). cond t 1 0 + times q rest) same in
     omega (arith, is)
 
--- The positions reported by the workers from place `from` on, each once: the worker at place `i`
--- reports only changes made by the session numbered `number - 1 - i`.
+-- The positions reported by the workers from place `from` on: each at most once, and made by a
+-- session whose number is below `number - from`.
 pub record TellApart (opening : Journal) (makers : List ℕ) (from number : ℕ) (all : List ℕ) : Type 0 where
   pub once : (p : ℕ) → times p all ≤ 1
   pub made : (p : ℕ) → 1 ≤ times p all → (m : ℕ) × (m + from < number) × IsMadeAt opening makers p m
 
--- The positions reported by the worker at place `from`, each once and made by its session.
+-- The positions reported by the worker at place `from`: each at most once, and made by its session,
+-- number `number - from - 1`.
 pub record TellsAlone (opening : Journal) (makers : List ℕ) (from number : ℕ) (told : List ℕ) : Type 0 where
   pub once : (p : ℕ) → times p told ≤ 1
   pub made : (p : ℕ) → 1 ≤ times p told → (m : ℕ) × (m + from + 1 ≡ number) × IsMadeAt opening makers p m
 
--- The positions of a worker and those of the workers after it are reported once.
+-- If a worker and the workers after it report only positions of their own sessions, they report
+-- none twice.
 apart_more : (opening : Journal) (makers : List ℕ) (from number : ℕ) (told rest : List ℕ) → TellsAlone opening makers from number told
     → TellApart opening makers (suc from) number rest → TellApart opening makers from number (told ++ rest)
 apart_more opening makers from number told rest first others = record {

@@ -21,8 +21,8 @@ use Rattle.tfs_shared.specs.View.{SessionView, CountsStop}
 abbrev pub IsQuiet : RefusalValue → Type 0
 IsQuiet refusal = (is_fault refusal ≡ false) × (is_stop refusal ≡ false)
 
--- The reply reports a fault if the table became stopped, and reports a stop if the table is stopped
--- after the call.
+-- The reply reports a fault of the sink if and only if the call stopped the table, and reports a
+-- stop if and only if the table is stopped after the call.
 pub record Reports (was is : Bool) (reply : ReplyValue) : Type 0 where
   pub fault : as_number was + as_number (reports_fault reply) ≡ as_number is
   pub stop : reports_stop reply ≡ is
