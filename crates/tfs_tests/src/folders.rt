@@ -195,20 +195,22 @@ fn numbers_in(rt: &(impl Alloc<A = Global> + Abort), word: &str) -> Vec<u64> {
     numbers
 }
 
+/// Returns a list of numbers in words.
+fn list_words(alloc: Global, numbers: &[u64]) -> Result<String, AllocError> {
+    let numbers = numbers.to_vec(alloc)?;
+    format!(in alloc; "{numbers:?}")
+}
+
 /// Returns a plan in words.
-fn plan_words(alloc: Global, plan: Result<StartPlan<'_>, NotPast>) -> Result<String, AllocError> {
-    let Ok(plan) = plan else {
-        return format!(in alloc; "NotPast");
-    };
-    let StartPlan {
-        before,
-        after,
-        twice,
-    } = plan;
-    match (plan.alone(), twice) {
-        (None, None) => format!(in alloc; "{before:?} {after:?}"),
-        (Some(alone), None) => format!(in alloc; "{before:?} {after:?}, {alone} alone"),
-        (_, Some(twice)) => format!(in alloc; "{before:?} {after:?}, {twice} twice"),
+fn plan_words(alloc: Global, plan: &StartPlan<'_>) -> Result<String, AllocError> {
+    let before = list_words(alloc, plan.before)?;
+    let after = list_words(alloc, plan.after)?;
+    if let Some(twice) = plan.twice {
+        return format!(in alloc; "{before} {after}, {twice} twice");
+    }
+    match plan.alone() {
+        Some(alone) => format!(in alloc; "{before} {after}, {alone} alone"),
+        None => format!(in alloc; "{before} {after}"),
     }
 }
 
@@ -221,8 +223,11 @@ impl Judge for Plans {
         let (old, here) = split(words);
         let (old, here) = (numbers_in(rt, old), numbers_in(rt, here));
         let past = past.parse::<u64>().ok();
-        let plan = plan(here.as_slice(), old.as_slice(), past);
-        expect_words(rt, plan_words(rt.alloc(), plan), wanted);
+        let words = match plan(here.as_slice(), old.as_slice(), past) {
+            Ok(plan) => plan_words(rt.alloc(), &plan),
+            Err(NotPast) => format!(in rt.alloc(); "NotPast"),
+        };
+        expect_words(rt, words, wanted);
     }
 }
 
