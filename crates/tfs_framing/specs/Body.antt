@@ -1,4 +1,4 @@
--- Message bodies: their length (RFC 9112, section 6.3) and their bytes.
+-- Message bodies (RFC 9112, section 6.3).
 use Rattle.std.specs.Prelude.{◌≡◌, ◌==◌, ◌&&◌, ℕ, nat_lt, nat_le, Bool, true, false, List, [], ◌∷◌, ◌++◌, length, codes}
 use Rattle.std.specs.Prelude.{if◌then◌else◌, Result, Ok, Err}
 use Rattle.std.specs.List.{list_all}
@@ -15,25 +15,23 @@ use Rattle.tfs_framing.specs.declared.lines.BodyLength.TheVariants.{Absent, Size
 use Rattle.tfs_framing.specs.declared.chunks.Flaw.{Flaw}
 use Rattle.tfs_framing.specs.declared.chunks.Flaw.TheVariants.{TooLarge, Unreadable}
 
--- The head has one `Host` field, or none in version 1.0 (RFC 9112, section 3.2).
+-- One `Host` field, or none in version 1.0 (RFC 9112, section 3.2).
 abbrev pub names_host : ℕ → List (List ℕ) → Bool
 names_host minor [] = minor == 0
 names_host minor (host ∷ []) = true
 names_host minor (host ∷ other ∷ hosts) = false
 
--- The length in a `Content-Length` field (RFC 9110, section 8.6), or its refusal.
+-- The length in a `Content-Length` field (RFC 9110, section 8.6).
 abbrev pub length_of_text : List ℕ → Result BodyLength Refusal
 length_of_text text = if nat_lt 0 (length text) && list_all is_ascii_digit text
     then (if nat_le (digits_value 10 text) 16777216 then Ok (Sized (digits_value 10 text)) else Err BodyTooLarge)
     else Err BadLength
 
--- The length by a single `Transfer-Encoding` field: only `chunked` is supported, in any case and in
--- version 1.1 (RFC 9112, section 7).
+-- Only `chunked` is supported, in any case and in version 1.1 (RFC 9112, section 7).
 abbrev pub length_of_coding : ℕ → List ℕ → Result BodyLength Refusal
 length_of_coding minor coding = if minor == 1 && bytes_eq (lower coding) (codes "chunked") then Ok Chunked else Err TransferCoding
 
--- The length by all `Content-Length` and `Transfer-Encoding` values. Both kinds together, or
--- several lengths, are refused: the end of the body would be ambiguous (RFC 9112, section 6.3).
+-- Both kinds of fields, or several lengths, are refused as ambiguous (RFC 9112, section 6.3).
 abbrev pub length_told : ℕ → List (List ℕ) → List (List ℕ) → Result BodyLength Refusal
 length_told minor [] [] = Ok Absent
 length_told minor [] (coding ∷ []) = length_of_coding minor coding
@@ -42,23 +40,23 @@ length_told minor (text ∷ []) [] = length_of_text text
 length_told minor (text ∷ other ∷ texts) [] = Err BadLength
 length_told minor (text ∷ texts) (coding ∷ codings) = Err BadLength
 
--- The length by the version and all fields, or the first refusal.
+-- The length by all fields.
 abbrev pub length_of_fields : ℕ → List (List ℕ × List ℕ) → Result BodyLength Refusal
 length_of_fields minor fields = if names_host minor (values_named (codes "host") fields)
     then length_told minor (values_named (codes "content-length") fields) (values_named (codes "transfer-encoding") fields)
     else Err NoHost
 
--- The length of the body that a head states, or its refusal.
+-- The length of a body.
 abbrev pub body_length : RequestHead → Result BodyLength Refusal
 body_length h = length_of_fields h.minor (fields_of h)
 
--- The coded bytes are the coding of the body for this length.
+-- The coding of a body.
 abbrev pub SpellsBody : BodyLength → List ℕ → List ℕ → Type 0
 SpellsBody Absent coded body = (coded ≡ []) × (body ≡ [])
 SpellsBody (Sized size) coded body = (coded ≡ body) × (length body ≡ size)
 SpellsBody Chunked coded body = SpellsChunks coded body
 
--- No body can begin the bytes `rest`, because of this flaw.
+-- No body can begin `rest`, because of this flaw.
 abbrev pub HasBadBody : BodyLength → List ℕ → Flaw → Type 0
 HasBadBody Absent rest flaw = ⊥
 HasBadBody (Sized size) rest flaw = ⊥
@@ -69,7 +67,7 @@ abbrev pub refusal_of : Flaw → Refusal
 refusal_of TooLarge = BodyTooLarge
 refusal_of Unreadable = BadChunk
 
--- The bytes `rest` don't begin with a body of this length, and have no flaw yet.
+-- No body of this length begins `rest`, and it has no flaw yet.
 pub record HasNoBody (size : BodyLength) (rest : List ℕ) : Type 0 where
   pub none : (coded body after : List ℕ) → rest ≡ coded ++ after → ¬ (SpellsBody size coded body)
   pub no_flaw : (flaw : Flaw) → ¬ (HasBadBody size rest flaw)

@@ -16,37 +16,37 @@ pub record Chunk : Type 0 where
 abbrev pub print_chunk : Chunk → List ℕ
 print_chunk c = print_chunk_line c.line ++ (c.bytes ++ print_end crlf)
 
--- The text of a list of chunks.
+-- The text of chunks.
 abbrev pub print_chunks : List Chunk → List ℕ
 print_chunks chunks = flat_map print_chunk chunks
 
--- The joined bytes of a list of chunks.
+-- The joined bytes of chunks.
 abbrev pub joined : List Chunk → List ℕ
 joined chunks = flat_map (λ c. c.bytes) chunks
 
--- The chunk line is valid, and has at most 1,024 bytes.
+-- A valid chunk line of at most 1,024 bytes.
 pub record IsShortLine (line : ChunkLine) : Type 0 where
   pub is_line : IsChunkLine line
   pub short : length (print_chunk_line line) ≤ 1024
 
--- The chunk is valid: it isn't empty, and has the size in its line.
+-- A valid chunk, not empty.
 pub record IsChunk (c : Chunk) : Type 0 where
   pub line : IsShortLine c.line
   pub size : chunk_size c.line ≡ length c.bytes
   pub some : 0 < length c.bytes
 
--- The chunks are valid: at most 65,536, with at most 16 MiB together.
+-- Valid chunks: at most 65,536, with at most 16 MiB together.
 pub record AreChunks (chunks : List Chunk) : Type 0 where
   pub each : All IsChunk chunks
   pub few : length chunks ≤ 65536
   pub small : length (joined chunks) ≤ 16777216
 
--- The trailer ends with its first empty line, within 16,384 bytes.
+-- A trailer up to its first empty line, within 16,384 bytes.
 pub record IsTrailer (trailer : List ℕ) : Type 0 where
   pub is_head : IsMessageHead (line_feed ∷ trailer)
   pub short : length trailer ≤ 16384
 
--- The coded bytes are the body's chunks, a chunk line of size 0 and a trailer.
+-- A chunked body: chunks, a chunk line of size 0, and a trailer.
 pub record SpellsChunks (coded body : List ℕ) : Type 0 where
   pub chunks : List Chunk
   pub are : AreChunks chunks
@@ -58,12 +58,12 @@ pub record SpellsChunks (coded body : List ℕ) : Type 0 where
   pub parts : coded ≡ print_chunks chunks ++ (print_chunk_line last ++ trailer)
   pub is_body : body ≡ joined chunks
 
--- A complete line, or at least 1,024 bytes, that doesn't begin with a valid chunk line.
+-- No valid chunk line, despite a complete line or at least 1,024 bytes.
 pub record HasBadLine (left : List ℕ) : Type 0 where
   pub there : (1024 ≤ length left) ⊎ ((before : List ℕ) × (after : List ℕ) × (left ≡ before ++ line_feed ∷ after))
   pub none : (line : ChunkLine) (after : List ℕ) → IsShortLine line → ¬ (left ≡ print_chunk_line line ++ after)
 
--- The bytes of a chunk are followed by two bytes other than CR LF.
+-- Two bytes other than CR LF after a chunk.
 pub record HasBadEnd (size : ℕ) (after : List ℕ) : Type 0 where
   pub bytes : List ℕ
   pub end : List ℕ
@@ -73,26 +73,24 @@ pub record HasBadEnd (size : ℕ) (after : List ℕ) : Type 0 where
   pub two : length end ≡ 2
   pub other : ¬ (end ≡ print_end crlf)
 
--- At least 16,384 bytes, which don't begin with a trailer.
+-- No trailer, despite at least 16,384 bytes.
 pub record HasLongTrailer (after : List ℕ) : Type 0 where
   pub long : 16384 ≤ length after
   pub none : (trailer rest : List ℕ) → IsTrailer trailer → ¬ (after ≡ trailer ++ rest)
 
--- After `count` chunks with `total` bytes, a chunk line of this size leads to a flaw: too many
--- bytes, too many chunks, a bad chunk end, or a trailer that is too long.
+-- A flaw after `count` chunks with `total` bytes and a chunk line.
 abbrev pub IsFlawBehind : ℕ → ℕ → ℕ → List ℕ → Flaw → Type 0
 IsFlawBehind count total size after TooLarge = 16777216 < total + size
 IsFlawBehind count total size after Unreadable = (total + size ≤ 16777216)
     × (((0 < size) × (count ≡ 65536)) ⊎ (((0 < size) × (count < 65536) × HasBadEnd size after) ⊎ ((size ≡ 0) × HasLongTrailer after)))
 
--- After `count` chunks with `total` bytes, the chunk line is bad, or it is valid and leads to a
--- flaw.
+-- A bad chunk line after `count` chunks with `total` bytes, or a flaw after a valid one.
 abbrev pub IsFlawAt : ℕ → ℕ → List ℕ → Flaw → Type 0
 IsFlawAt count total left flaw = ((flaw ≡ Unreadable) × HasBadLine left)
     ⊎ ((line : ChunkLine) × (after : List ℕ) × IsShortLine line × (left ≡ print_chunk_line line ++ after)
     × IsFlawBehind count total (chunk_size line) after flaw)
 
--- The bytes are valid chunks followed by a flaw.
+-- Valid chunks followed by a flaw.
 pub record HasFlaw (rest : List ℕ) (flaw : Flaw) : Type 0 where
   pub chunks : List Chunk
   pub are : AreChunks chunks

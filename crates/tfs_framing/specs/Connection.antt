@@ -19,7 +19,7 @@ unfoldable pub parts_of : List ℕ → List (List ℕ)
 parts_of [] = [] ∷ []
 parts_of (byte ∷ text) = if byte == comma then [] ∷ parts_of text else lengthen byte (parts_of text)
 
--- The part is `close`, in any case, with optional spaces and tabs around it.
+-- The part is `close`, trimmed and in any case.
 abbrev pub is_close : List ℕ → Bool
 is_close part = bytes_eq (lower (trim_ows part)) (codes "close")
 
@@ -27,7 +27,6 @@ is_close part = bytes_eq (lower (trim_ows part)) (codes "close")
 abbrev pub lists_close : List ℕ → Bool
 lists_close value = list_any is_close (parts_of value)
 
--- The conversation ends after the request: its version is 1.0, or a `Connection` field lists
--- `close` (RFC 9112, section 9.3).
+-- The conversation ends after version 1.0 or `close` (RFC 9112, section 9.3).
 abbrev pub asks_to_close : RequestHead → Bool
 asks_to_close h = h.minor == 0 || list_any lists_close (values_named (codes "connection") (fields_of h))

@@ -1,4 +1,4 @@
--- Decoders of requests: what they know of their bytes, and what they return.
+-- Decoders of requests.
 use Rattle.std.specs.Prelude.{◌≡◌, ◌≤◌, ◌<◌, ◌+◌, ◌⊎◌, ◌==◌, ℕ, List, [], length, drop, vec_capacity, Option, Some, None, Result, Ok, Err, IfOk}
 use Rattle.std.specs.Allocator.{alloc_error}
 use Rattle.std.specs.declared.alloc.AllocError.{AllocError}
@@ -15,27 +15,25 @@ use Rattle.tfs_framing.specs.declared.progress.SizedBody.{SizedBody}
 use Rattle.tfs_framing.specs.declared.progress.Progress.{Progress}
 use Rattle.tfs_framing.specs.declared.framing.Received.{Received}
 
--- A decoder as its callers see it: the bytes after the last message, the room for more, the number
--- of undecoded bytes, and the lasting result, if any.
+-- A decoder: bytes after the last message, room for more, undecoded count, and lasting result.
 pub record DecoderValue : Type 0 where
   pub bytes : List ℕ
   pub room : ℕ
   pub unused : ℕ
   pub over : Option (Result Received AllocError)
 
--- The bytes begin with a request whose body has a known length. Its bytes are in a vector of their
--- own, with capacity for all of them.
+-- A request with a body of known length, in a vector with capacity for all of it.
 pub record IsApart (bytes : List ℕ) (s : SizedBody) (unused : List ℕ) : Type 0 where
   pub opens : Opens bytes (Ok s.request) (Sized s.size) s.body.items
   pub none : unused ≡ []
   pub within : length s.body.items ≤ s.size
   pub room : s.size ≤ vec_capacity s.body
 
--- The bytes are unfinished or begin with a message.
+-- Unfinished bytes or a message.
 abbrev pub HasNoRefusal : List ℕ → Type 0
 HasNoRefusal bytes = IsUnfinished bytes ⊎ ((r : RequestValue) × (used : ℕ) × BeginsWith bytes r used)
 
--- The bytes have this refusal; `None` means lack of memory.
+-- The refusal; `None` means lack of memory.
 abbrev pub IsReason : List ℕ → Option Refusal → Type 0
 IsReason bytes (Some refusal) = framing_refusal bytes refusal
 IsReason bytes None = HasNoRefusal bytes
@@ -45,19 +43,19 @@ pub record IsOver (bytes : List ℕ) (o : Over) : Type 0 where
   pub is_empty : o.is_empty ≡ (length bytes == 0)
   pub reason : IsReason bytes o.reason
 
--- The result of a decoder that has ended.
+-- The result of an ended decoder.
 abbrev pub last_result : Option Refusal → Result Received AllocError
 last_result (Some refusal) = Ok (Received.Refused refusal)
 last_result None = Err alloc_error
 
--- The progress is right for these bytes; `unused` are the undecoded bytes at their end.
+-- The progress for these bytes; `unused` are undecoded.
 abbrev pub IsAt : List ℕ → Progress → List ℕ → Type 0
 IsAt bytes (Progress.Head search) unused = (bytes ≡ unused) × IsSought unused search
 IsAt bytes (Progress.Sized s) unused = IsApart bytes s unused
 IsAt bytes (Progress.Chunks c) unused = Decodes bytes (Ok c.request) c.decoded unused
 IsAt bytes (Progress.Over o) unused = IsOver bytes o
 
--- The decoder has room for this many more bytes.
+-- Room for `room` more bytes.
 abbrev pub HasRoomFor : ℕ → Progress → ℕ → Type 0
 HasRoomFor room (Progress.Head search) spare = room ≤ spare
 HasRoomFor room (Progress.Sized s) spare = length s.body.items + room ≤ s.size
@@ -71,7 +69,7 @@ over_of (Progress.Sized s) = None
 over_of (Progress.Chunks c) = None
 over_of (Progress.Over o) = Some (last_result o.reason)
 
--- The outcome of framing, with the number of bytes that are left.
+-- The outcome of framing, with the number of bytes left.
 abbrev pub IsFramed : List ℕ → List ℕ → Framed → Type 0
 IsFramed bytes unused (Framed.Message r left) = (after : List ℕ) × EndsWith unused after
     × (left ≡ length after) × (used : ℕ) × BeginsWith bytes r used × (after ≡ drop used bytes)
@@ -80,14 +78,14 @@ IsFramed bytes unused (Framed.More progress left) = IsUnfinished bytes
     × IfOk progress (λ p. (after : List ℕ) × EndsWith unused after
     × (left ≡ length after) × (left < 17408) × IsAt bytes p after × (over_of p ≡ None))
 
--- The result of `next` for the bytes, and the decoder's new value.
+-- The result of `next`, and the decoder's new value.
 abbrev pub Gives : List ℕ → DecoderValue → Received → Type 0
 Gives bytes new (Received.More room) = IsUnfinished bytes × (new.bytes ≡ bytes) × (new.room ≡ room) × (0 < room) × (room ≤ 65536)
     × (new.unused < 17408)
 Gives bytes new (Received.Message r) = (used : ℕ) × BeginsWith bytes r used × (new.bytes ≡ drop used bytes)
 Gives bytes new (Received.Refused refusal) = framing_refusal bytes refusal
 
--- The same as `Gives`, in terms of progress and spare room.
+-- The same as `Gives`, by progress and spare room.
 abbrev pub Comes : List ℕ → List ℕ → ℕ → Progress → Received → Type 0
 Comes bytes unused spare progress (Received.More room) = IsUnfinished bytes × IsAt bytes progress unused
     × HasRoomFor room progress spare × (0 < room) × (room ≤ 65536) × (length unused < 17408)

@@ -13,17 +13,17 @@ use Rattle.tfs_framing.specs.declared.fields.AskedDigest.TheVariants.{Any, Text,
 abbrev pub digest_text : List ℕ → List ℕ
 digest_text body = encode_of standard (md5 body)
 
--- The body matches the `Content-MD5` values: there is none, or exactly one, which is its digest.
+-- No `Content-MD5` value, or exactly one, the body's digest.
 abbrev pub fits_values : List (List ℕ) → List ℕ → Bool
 fits_values [] body = true
 fits_values (value ∷ []) body = bytes_eq value (digest_text body)
 fits_values (value ∷ other ∷ values) body = false
 
--- The body matches the `Content-MD5` fields of the head.
+-- The body matches the head's `Content-MD5` fields.
 abbrev pub fits_digest : RequestHead → List ℕ → Bool
 fits_digest h body = fits_values (values_named (codes "content-md5") (fields_of h)) body
 
--- The body matches the digest that was kept from a head.
+-- The body matches the digest kept from a head.
 abbrev pub has_asked : AskedDigest → List ℕ → Bool
 has_asked Any body = true
 has_asked (Text text) body = bytes_eq text (digest_text body)

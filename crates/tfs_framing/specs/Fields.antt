@@ -7,7 +7,7 @@ use Rattle.httparse.specs.Spans.{name_and_value}
 use Rattle.tfs_framing.specs.declared.fields.Values.{Values}
 use Rattle.tfs_framing.specs.declared.fields.Values.TheVariants.{Absent, One, Several}
 
--- The names and trimmed values of a head's fields.
+-- The names and trimmed values.
 abbrev pub fields_of : RequestHead → List (List ℕ × List ℕ)
 fields_of h = map name_and_value h.fields
 
@@ -15,11 +15,11 @@ fields_of h = map name_and_value h.fields
 abbrev pub lower : List ℕ → List ℕ
 lower text = map to_ascii_lowercase text
 
--- The values of the fields with a name, in any case (RFC 9110, section 5.1).
+-- The values by name, in any case (RFC 9110, section 5.1).
 abbrev pub values_named : List ℕ → List (List ℕ × List ℕ) → List (List ℕ)
 values_named name fields = map (λ f. f.1) (filter (λ f. bytes_eq (lower f.0) name) fields)
 
--- The values of type `Values` are these.
+-- The values of type `Values`.
 abbrev pub TellsValues : Values → List (List ℕ) → Type 0
 TellsValues Absent values = values ≡ []
 TellsValues (One value) values = values ≡ value.now ∷ []

@@ -13,19 +13,19 @@ use Rattle.tfs_framing.specs.declared.chunks.Flaw.{Flaw}
 use Rattle.tfs_framing.specs.declared.framing.Take.{Take}
 use Rattle.tfs_framing.specs.declared.framing.Take.TheVariants.{Need, Got, Fault}
 
--- The head is valid, and states this length of its body.
+-- A valid head, with its body's length.
 pub record ReadsHead (head : List ℕ) (h : RequestHead) (size : BodyLength) : Type 0 where
   pub lines : line_feeds head ≤ 66
   pub is_head_of : IsHeadOf head h
   pub body : body_length h ≡ Ok size
 
--- The head is refused: it has too many lines, is invalid, or states no valid length of its body.
+-- A refused head: too many lines, invalid, or without a valid body length.
 abbrev pub IsHeadRefused : List ℕ → Refusal → Type 0
 IsHeadRefused head HeadTooLarge = 66 < line_feeds head
 IsHeadRefused head BadHead = (line_feeds head ≤ 66) × ((h : RequestHead) → ¬ (IsHeadOf head h))
 IsHeadRefused head refusal = (line_feeds head ≤ 66) × (h : RequestHead) × IsHeadOf head h × (body_length h ≡ Err refusal)
 
--- The bytes are exactly one message, with this request.
+-- Exactly one message.
 pub record ReadsMessage (frame : List ℕ) (r : RequestValue) : Type 0 where
   pub skipped : List LineEnd
   pub head : List ℕ
@@ -38,7 +38,7 @@ pub record ReadsMessage (frame : List ℕ) (r : RequestValue) : Type 0 where
   pub spells : SpellsBody size coded body
   pub is_request : r ≡ request_of h body
 
--- The bytes begin with a head that is refused.
+-- A refused head at the beginning.
 pub record HasRefusedHead (bytes : List ℕ) (refusal : Refusal) : Type 0 where
   pub skipped : List LineEnd
   pub head : List ℕ
@@ -46,7 +46,7 @@ pub record HasRefusedHead (bytes : List ℕ) (refusal : Refusal) : Type 0 where
   pub has_head : HasHead bytes skipped head rest
   pub refused : IsHeadRefused head refusal
 
--- The bytes begin with a valid head and a body that is refused.
+-- A valid head and a refused body.
 pub record HasRefusedBody (bytes : List ℕ) (refusal : Refusal) : Type 0 where
   pub skipped : List LineEnd
   pub head : List ℕ
@@ -59,18 +59,17 @@ pub record HasRefusedBody (bytes : List ℕ) (refusal : Refusal) : Type 0 where
   pub bad : HasBadBody size rest flaw
   pub refused : refusal ≡ refusal_of flaw
 
--- The bytes are refused: no head ends in the first 16,384 bytes, or the head or the body is
--- refused.
+-- No head in the first 16,384 bytes, or a refused head or body.
 abbrev pub framing_refusal : List ℕ → Refusal → Type 0
 framing_refusal bytes refusal = ((16384 ≤ length bytes) × HasNoHead bytes × (refusal ≡ HeadTooLarge))
     ⊎ (HasRefusedHead bytes refusal ⊎ HasRefusedBody bytes refusal)
 
--- The bytes begin with no message, and are not refused.
+-- No message at the beginning, and no refusal.
 pub record IsUnfinished (bytes : List ℕ) : Type 0 where
   pub no_message : (frame rest : List ℕ) (r : RequestValue) → bytes ≡ frame ++ rest → ¬ (ReadsMessage frame r)
   pub no_refusal : (refusal : Refusal) → ¬ (framing_refusal bytes refusal)
 
--- The bytes begin with the message, which has this length.
+-- A message of `used` bytes at the beginning.
 pub record BeginsWith (bytes : List ℕ) (r : RequestValue) (used : ℕ) : Type 0 where
   pub frame : List ℕ
   pub rest : List ℕ
@@ -78,13 +77,13 @@ pub record BeginsWith (bytes : List ℕ) (r : RequestValue) (used : ℕ) : Type 
   pub used_is : length frame ≡ used
   pub reads : ReadsMessage frame r
 
--- The result of `take` for the bytes.
+-- The result of `take`.
 abbrev pub Frames : List ℕ → Take → Type 0
 Frames bytes Need = IsUnfinished bytes
 Frames bytes (Got r used) = BeginsWith bytes r used
 Frames bytes (Fault refusal) = framing_refusal bytes refusal
 
--- The bytes begin with a valid head, from which the request was made.
+-- A valid head, and the request made from it.
 pub record Opens (bytes : List ℕ) (request : Result OpenRequest AllocError) (size : BodyLength)
     (rest : List ℕ) : Type 0 where
   pub skipped : List LineEnd

@@ -3,21 +3,20 @@ use Rattle.std.specs.Prelude.{◌≡◌, ℕ, ◌+◌, ◌≤◌, ◌==◌, List
 use Rattle.httparse.specs.Ascii.{line_feed}
 use Rattle.httparse.specs.Grammar.{LineEnd, print_end, print_blank, RequestHead, ReadsRequest}
 
--- The bytes start with CR LF or LF.
+-- CR LF or LF at the start.
 abbrev pub StartsWithEmptyLine : List ℕ → Type 0
 StartsWithEmptyLine bytes = (end : LineEnd) × (rest : List ℕ) × (bytes ≡ print_end end ++ rest)
 
--- The bytes end with an empty line.
+-- An empty line at the end.
 abbrev pub EndsWithEmptyLine : List ℕ → Type 0
 EndsWithEmptyLine bytes = (front : List ℕ) × (end : LineEnd) × (bytes ≡ front ++ line_feed ∷ print_end end)
 
--- The bytes end with an empty line, and no shorter prefix of them does.
+-- A text up to its first empty line.
 pub record IsMessageHead (head : List ℕ) : Type 0 where
   pub ends : EndsWithEmptyLine head
   pub shortest : (part rest : List ℕ) → head ≡ part ++ rest → EndsWithEmptyLine part → rest ≡ []
 
--- The bytes are empty lines, which are skipped, then a head of at most 16,384 bytes with them, then
--- a rest.
+-- Skipped empty lines and a head, at most 16,384 bytes together, then a rest.
 pub record HasHead (bytes : List ℕ) (skipped : List LineEnd) (head rest : List ℕ) : Type 0 where
   pub parts : bytes ≡ print_blank skipped ++ (head ++ rest)
   pub starts : ¬ (StartsWithEmptyLine head)
@@ -32,7 +31,7 @@ HasNoHead bytes = (skipped : List LineEnd) (head rest : List ℕ) → ¬ (HasHea
 abbrev pub line_feeds : List ℕ → ℕ
 line_feeds bytes = count_by (λ byte. byte == line_feed) bytes
 
--- The head is valid by the grammar of `httparse`, and has at most 64 fields.
+-- A valid head by the grammar of `httparse`, with at most 64 fields.
 pub record IsHeadOf (head : List ℕ) (h : RequestHead) : Type 0 where
   pub reads : ReadsRequest head h []
   pub fields : length h.fields ≤ 64

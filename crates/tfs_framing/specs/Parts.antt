@@ -10,7 +10,7 @@ use Rattle.tfs_framing.specs.declared.chunks.Flaw.{Flaw}
 use Rattle.tfs_framing.specs.declared.chunks.Part.{Part}
 use Rattle.tfs_framing.specs.declared.lines.BodyLength.TheVariants.{Chunked}
 
--- The bytes begin with this valid chunk line, which has the given length and chunk size.
+-- A valid chunk line at the beginning, with its length and size.
 pub record IsLineAt (left : List ℕ) (len size : ℕ) (line : ChunkLine) : Type 0 where
   pub is_line : IsShortLine line
   pub after : List ℕ
@@ -26,8 +26,7 @@ pub record HasNoFeedIn (seen : ℕ) (left : List ℕ) : Type 0 where
   pub seen_is : seen ≡ length front
   pub none : (before after : List ℕ) → ¬ (front ≡ before ++ line_feed ∷ after)
 
--- After `count` chunks with `total` bytes, a chunk is incomplete: the bytes `seen` have arrived,
--- and `lacking` are missing.
+-- A chunk after `count` chunks with `total` bytes: `seen` has arrived, `lacking` bytes are missing.
 pub record IsBegun (count total : ℕ) (line : ChunkLine) (seen : List ℕ) (lacking : ℕ) : Type 0 where
   pub is_line : IsShortLine line
   pub size : chunk_size line ≡ length seen + lacking
@@ -35,8 +34,7 @@ pub record IsBegun (count total : ℕ) (line : ChunkLine) (seen : List ℕ) (lac
   pub few : count < 65536
   pub small : total + chunk_size line ≤ 16777216
 
--- The bytes `rest` are these chunks, perhaps the beginning of one more, and then `left`. `body` has
--- the decoded bytes.
+-- The bytes `rest` are chunks, perhaps a partial one, and `left`; `body` has their decoded bytes.
 abbrev pub Stands : List ℕ → List Chunk → List ℕ → Ahead → List ℕ → Type 0
 Stands rest chunks body (Ahead.Line seen) left = (rest ≡ print_chunks chunks ++ left) × (body ≡ joined chunks) × HasNoFeedIn seen left
 Stands rest chunks body (Ahead.Bytes lacking) left = (line : ChunkLine) × (seen : List ℕ)
@@ -45,14 +43,14 @@ Stands rest chunks body (Ahead.Bytes lacking) left = (line : ChunkLine) × (seen
 Stands rest chunks body (Ahead.Trailer len passed) left = (rest ≡ print_chunks chunks ++ left) × (body ≡ joined chunks)
     × (line : ChunkLine) × (at : IsLineAt left len 0 line) × HasNoEndYet passed (line_feed ∷ at.after)
 
--- The same as `Stands`, for some list of `count` valid chunks.
+-- The same for some list of `count` valid chunks.
 pub record IsPassed (rest : List ℕ) (count : ℕ) (body : List ℕ) (ahead : Ahead) (left : List ℕ) : Type 0 where
   pub chunks : List Chunk
   pub are : AreChunks chunks
   pub count_is : count ≡ length chunks
   pub stands : Stands rest chunks body ahead left
 
--- The bytes end with these.
+-- The bytes end with `end`.
 abbrev pub EndsWith : List ℕ → List ℕ → Type 0
 EndsWith bytes end = (front : List ℕ) × (bytes ≡ front ++ end)
 

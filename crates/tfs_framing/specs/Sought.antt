@@ -13,7 +13,7 @@ HasNoEndIn passed bytes = (before after : List ℕ) → bytes ≡ before ++ line
 abbrev pub HasNoEndYet : ℕ → List ℕ → Type 0
 HasNoEndYet passed bytes = (more : List ℕ) → HasNoEndIn passed (bytes ++ more)
 
--- The bytes are empty lines and a text, which is searched up to `search`.
+-- Empty lines and a text, searched up to `search`.
 pub record IsSought (bytes : List ℕ) (search : Search) : Type 0 where
   pub lines : List LineEnd
   pub text : List ℕ
