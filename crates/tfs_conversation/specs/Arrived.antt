@@ -10,22 +10,22 @@ use Rattle.tfs_conversation.specs.declared.ended.Ended.TheVariants.{Clean, Cut}
 use Rattle.tfs_http.specs.declared.fault.ServeFault.{ServeFault}
 use Rattle.tfs_http.specs.declared.fault.ServeFault.TheVariants.{NoMemory}
 
--- How the input ended: between messages, or inside one.
+-- How input ended: between messages, or inside one.
 abbrev pub EndsSo : List ℕ → Ended → Type 0
 EndsSo bytes ended = ((ended ≡ Clean) × (bytes ≡ [])) ⊎ ((ended ≡ Cut) × ¬ (bytes ≡ []) × IsUnfinished bytes)
 
--- The next input of the bytes, and the bytes left after it.
+-- The next input, and the bytes left after it.
 abbrev pub Arrives : List ℕ → List ℕ → Arrived → Type 0
 Arrives bytes left (Arrived.Message r) = (used : ℕ) × BeginsWith bytes r used × (left ≡ drop used bytes)
 Arrives bytes left (Arrived.Refused refusal) = framing_refusal bytes refusal
 Arrives bytes left (Arrived.Ended ended) = EndsSo bytes ended
 
--- The next input of the bytes; or none, and all bytes are left.
+-- The next input; or none, and all bytes are left.
 abbrev pub ArrivesOrStays : List ℕ → List ℕ → Option Arrived → Type 0
 ArrivesOrStays bytes left None = left ≡ bytes
 ArrivesOrStays bytes left (Some arrived) = Arrives bytes left arrived
 
--- If the input has ended, the reader is at its end.
+-- If input has ended, the reader is at its end.
 abbrev pub EndsThere : Option (List ℕ) → Arrived → Type 0
 EndsThere reader (Arrived.Message r) = Unit {0}
 EndsThere reader (Arrived.Refused refusal) = Unit {0}

@@ -8,11 +8,11 @@ use Rattle.tfs_conversation.specs.declared.ended.Ended.{Ended}
 use Rattle.tfs_conversation.specs.Desk.{AnswersCall}
 use Rattle.tfs_conversation.specs.Conversation.{Exchange, Converses}
 
--- The reply reports neither lack of memory nor an error of the sink.
+-- The reply reports neither lack of memory nor a sink error.
 abbrev pub IsUndisturbed : Exchange → Type 0
 IsUndisturbed x = (x.reply ≢ refused out_of_memory) × (x.reply ≢ refused journal_fault)
 
--- The output of bytes over a table: the text, the table after it, and how the conversation ends.
+-- The output of bytes over a table, the table after it, and how the conversation ends.
 pub record HasOutput (old new : TableValue) (bytes text : List ℕ) (ended : Ended) : Type 0 where
   pub converses : Converses AnswersCall old new bytes text ended
   pub undisturbed : AllByRecursion IsUndisturbed converses.course.exchanges
