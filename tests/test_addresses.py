@@ -57,7 +57,7 @@ def test_ample_memory():
     assert run_refused(requests + 1, FOREVER)[:2] == (AMPLE, 0), "there is no further request"
 
 
-def test_each_request_is_refused_in_turn():
+def test_each_allocation_is_refused_once():
     requests = run_refused(0, 0)[2]
     seen = set()
     for request in range(1, requests + 1):

@@ -66,7 +66,7 @@ def test_bodies_in_one_piece(size):
 
 
 @pytest.mark.parametrize("size", [41, LONG])
-def test_bodies_stand_behind_heads_of_every_spelling(size):
+def test_bodies_follow_heads_of_every_spelling(size):
     body = text_of(size)
     start = b"\r\n\nPOST /state/a HTTP/1.1\nHost: h\nContent-Length: " + b"%010d\n\n" % size
     for pieces in ([start + body + GET], [start, body + GET], [start + body[:3], body[3:] + GET]):
@@ -148,7 +148,7 @@ def test_a_long_body_is_answered_before_the_next_byte_is_there(length):
 
 
 @pytest.mark.parametrize("size", [999, 4_096, 65_535, MAX_READ])
-def test_bodies_behind_each_other_are_kept_apart(size):
+def test_bodies_one_after_another_are_kept_apart(size):
     pushes = [text_of(LONG), S2, text_of(70_000, S2), S2[:-1], text_of(LONG + 1, S2.replace(b"2 ", b"3 ")), b"", S2.replace(b"2 ", b"4 ")]
     names = ["SerialReused", "BadState", "BadState"]
     replies = [DONE, DONE, *map(refusal_text, names[:2]), DONE, refusal_text(names[2]), DONE]

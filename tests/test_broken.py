@@ -153,7 +153,7 @@ def test_a_journal_without_room_for_its_base_fails_the_start():
     expect(run("serve", "127.0.0.1:0", "1", fresh(), preexec_fn=limited(30)), (b"", 1, b"tfstated: SinkFault\n"))
 
 
-def test_a_journal_is_opened_where_its_file_holds_all_of_it():
+def test_a_journal_is_opened_if_its_file_holds_all_of_it():
     record = record_text(1, b"a", b'{"ID":"B"}')
     old = fresh(b"TFJ1\n" + record_text(3, b"a", push_content(b"", S1)) + record)
     expect((len(Path(old).read_bytes()), len(JOURNAL + record)), (104, 130))

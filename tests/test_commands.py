@@ -96,7 +96,7 @@ ONE_ROW, NO_ROW = SECOND + base_text(1, [(b"a", b"", S1)]), SECOND + base_text(0
 @pytest.mark.parametrize("data, numbers, new", [
     (TEXT, "2 1", REBASED), (TEXT[:90], "1 1", ONE_ROW), (TEXT[:71], "1 1", ONE_ROW), (TEXT[:70], "0 0", NO_ROW), (FIRST, "0 0", NO_ROW),
     (b"TFJ", "0 0", NO_ROW), (b"", "0 0", NO_ROW), (REBASED, "2 1", REBASED), (REBASED + b"\3", "2 1", REBASED)])
-def test_a_journal_goes_on_from_a_base(data, numbers, new):
+def test_a_journal_continues_from_a_base(data, numbers, new):
     expect(len(REBASED), 92)
     expect(rebase(data), (told("rebased " + numbers), 0, b"", new), data)
 
@@ -192,12 +192,12 @@ def expect_refused(words, ample, faults):
 NO_MEMORY = (b"", 1, b"tfstated: NoMemory\n")
 
 
-def test_refused_memory_of_a_check_is_told_or_does_no_harm():
+def test_refused_memory_of_a_check_is_reported_or_does_no_harm():
     listed = (told("1 push a", "2 lock a", "whole"), 0, b"", None)
     expect_refused(("check", path_of("journal", TEXT)), listed, {(*NO_MEMORY, None)})
 
 
-def test_refused_memory_of_a_rebase_is_told_or_does_no_harm():
+def test_refused_memory_of_a_rebase_is_reported_or_does_no_harm():
     made = (told("rebased 2 1"), 0, b"", REBASED)
     expect_refused(("rebase", path_of("old", TEXT), path_of("new")), made, {(*NO_MEMORY, new) for new in (None, b"")})
 
@@ -228,7 +228,7 @@ def rebased(data):
     return told(f"rebased {position} {len(left)}"), 0, b"", SECOND + base_text(position, left)
 
 
-def test_random_journals_are_told_as_the_plain_programs_say():
+def test_random_journals_are_reported_as_the_plain_programs_say():
     statuses, faults = set(), set()
 
     @settings(max_examples=500)

@@ -76,7 +76,7 @@ def test_many_compactions_in_a_row_lose_nothing():
     again.kill()
 
 
-def test_a_file_asks_for_a_turn():
+def test_a_file_requests_a_compaction():
     folder = fresh()
     server = serving(folder)
     expect(server.ask("POST", "/state/a", S1), (200, b""))
@@ -92,7 +92,7 @@ def test_a_file_asks_for_a_turn():
     expect(serials_of(folder), ({"a": [1]}, 3))
 
 
-def test_a_term_that_ends_answers_what_has_begun_and_waits_for_nobody():
+def test_a_run_that_ends_answers_what_has_begun_and_waits_for_nobody():
     folder, text = fresh(), request_text("GET", "/state/a")
     # Of four workers one has a request that comes in two parts, one a client that is silent, and
     # two no client.
@@ -184,7 +184,7 @@ def failed(tfstatectl):
     made[1].process.kill()
 
 
-def test_a_turn_that_fails_goes_on_with_the_old_journal():
+def test_a_failed_compaction_continues_the_old_journal():
     folder, server, pusher, _ = failed_compaction()
     time.sleep(1.5)
     pusher.push()
@@ -195,7 +195,7 @@ def test_a_turn_that_fails_goes_on_with_the_old_journal():
     again.kill()
 
 
-def test_a_journal_that_fails_in_a_later_term_ends_the_server():
+def test_a_journal_that_fails_in_a_later_run_ends_the_server():
     folder = fresh()
     server = serving(folder, "--compact-entries", "2", preexec_fn=limit_files(2_000))
     pusher = Pusher(server, "a", b"x" * 400)
@@ -318,7 +318,7 @@ def test_terraform_sees_no_error():
     expect_all(folder, pushers, "beside Terraform")
 
 
-def test_a_turn_that_failed_is_tried_again_after_a_minute(failed):
+def test_a_failed_compaction_is_retried_after_a_minute(failed):
     folder, server, pusher, began = failed
     STARTED.append(server.process)
     has_come(lambda: newest(folder) == 2, "another try", 75)

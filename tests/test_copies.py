@@ -117,7 +117,7 @@ def copies_of(source, target, wanted, moves):
     return ends
 
 
-def test_copies_beside_compactions_all_end_well():
+def test_copies_during_compactions_all_succeed():
     source = fresh(n1=EMPTY)
     server = Serving(source, "--compact-entries", "4").listens()
     pushers, targets = [Pusher(server, f"n{number}", b"y" * 2000) for number in range(2)], [fresh() for _ in range(4)]
@@ -155,7 +155,7 @@ def chain_line(file, base, position):
     return f"{file}.tfj: base {base}, position {position}, 1 names, whole"
 
 
-def test_a_new_chain_begins_where_the_source_has_lost_what_copies_need():
+def test_a_new_chain_begins_if_the_source_has_lost_what_copies_need():
     source, target = owned(n2=NEWEST), fresh()
     expect(copy(source, target), (0, {2: NEWEST}, ""))
     (source / f"{named(2)}.tfj").unlink()
@@ -304,7 +304,7 @@ def test_a_standby_takes_over_from_a_copy():
         again.join()
 
 
-def test_a_copy_that_is_underway_when_the_server_is_killed_is_good_or_not_kept():
+def test_a_copy_during_which_the_server_is_killed_is_good_or_not_kept():
     """The server is killed while its file is copied, at many moments."""
     source, target, acknowledged, before = fresh(n1=EMPTY), fresh(), {}, {}
     for turn in range(4):

@@ -56,7 +56,7 @@ def relation(pairs):
 
 @pytest.mark.usefixtures("tfs_bench")
 @pytest.mark.parametrize("targets, most", [(1, 1.1), (4, 1.1), (64, 1.2)])
-def test_an_order_of_rows_costs_little_beside_their_closure(targets, most):
+def test_an_order_of_rows_costs_little_compared_to_their_closure(targets, most):
     chance = random.Random(7)
     ordered = [(row, chance.randrange(row)) for row in range(1, SIZE) for _ in range(targets)]
     numbers = chance.sample(range(SIZE), SIZE)

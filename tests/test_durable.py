@@ -95,7 +95,7 @@ def fail_at(turn):
     return bool(server.line)
 
 
-def test_after_a_sync_that_fails_nothing_is_told():
+def test_after_a_failed_sync_nothing_is_acknowledged():
     began = [fail_at(turn) for turn in range(1, 25)]
     expect((began[0], began[-1], sum(began) > 10), (False, True, True), began)
 

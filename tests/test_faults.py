@@ -95,7 +95,7 @@ def test_many_faults_wait_at_a_start():
 
 
 @pytest.mark.parametrize("faults", WAITING, ids=lambda faults: "-".join(name for name, *_ in faults))
-def test_of_faults_at_a_start_the_first_is_told_and_nothing_is_done_after_it(faults):
+def test_a_start_reports_the_first_fault_and_does_nothing_after_it(faults):
     expect_first(faults)
 
 

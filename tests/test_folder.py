@@ -127,7 +127,7 @@ def test_a_folder_begins_with_a_file_that_can_be_read():
     refused(fresh(), "CannotRead", "no file", "--first", fresh() / "none")
 
 
-def test_each_start_goes_on_in_a_shorter_journal():
+def test_each_start_continues_in_a_shorter_journal():
     folder = fresh(n1=EMPTY)
     for serial in range(1, 6):
         server, text = Serving(folder, "--keep", "2").listens(), S1.replace(b"1 ", b"%d " % serial)
@@ -162,7 +162,7 @@ def large_pushes(first, last):
 
 
 @pytest.mark.parametrize("is_left", [False, True])
-def test_journals_beside_one_another_are_started_from_in_little_memory(is_left):
+def test_a_start_from_several_journals_takes_little_memory(is_left):
     """Two journals of 40 MB with 100 KB of current state, and perhaps one that a failed start left
     after them."""
     base, next_base = (b"TFJ2\n" + base_text(last, [(b"a", b"", large_state(last))]) for last in (400, 800))
@@ -316,7 +316,7 @@ def test_random_folders_are_served_as_the_model_says():
     expect(met, {"NoJournal", "Damaged", "Unlawful", "TornBase", "Diverged", "TooFar", "left", "replaced", "served"}, "each end is met")
 
 
-def test_check_tells_of_each_journal():
+def test_check_reports_each_journal():
     folder = fresh(n3=NEWEST, n4=REBASED[:40])
     wanted = (f"{named(3)}.tfj: base 1, position 3, 1 names, whole\n{named(4)}.tfj: the journal ends inside its base\n"
               f"{named(4)}.tfj was left by a start that failed\na start continues {named(3)}.tfj at position 3\n")

@@ -71,7 +71,7 @@ def test_a_start_with_a_small_stack_is_refused():
     server.kill()
 
 
-def test_a_server_whose_listener_is_shut_tells_the_error():
+def test_a_server_whose_listener_is_shut_reports_the_error():
     folder = fresh(n1=NEWEST)
     server = Serving(folder).listens()
     Server.shut(server)

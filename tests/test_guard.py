@@ -140,7 +140,7 @@ def test_each_of_three_locks_keeps_a_second_server_off():
         expect(served(other)[0], (200, S2))
 
 
-def test_a_server_goes_on_beside_changes_of_other_files():
+def test_a_server_continues_when_other_files_change():
     """Files of other names, copies, a folder below, and a request for a compaction."""
     server, copies = Serving(fresh(n1=EMPTY)).listens(), fresh()
     expect(server.ask("POST", "/state/a", S1), (200, b""))

@@ -208,7 +208,7 @@ def test_long_answers_are_whole_wherever_their_pieces_end(more):
     expect_answers(pushed, [(ask("any", "t.a"), answer(*(f"{shown}.t.b[{key}]" for key in keys)))])
 
 
-def test_addresses_are_told_as_json_texts():
+def test_addresses_are_printed_as_json_texts():
     keys = state(resource("n", {"index_key": "\u00e9\"\n"}, {"index_key": 7, "deposed": "ab"}, module="module.m[\"p.q]\"]"),
                  resource("z", depending("module.m.t.n"), {"dependencies": ["module.m[8].t.n"], "deposed": ""}, mode="data"),
                  resource("y", {"index_key": "\u00e9\"\n", "dependencies": ["data.t.z"]}))

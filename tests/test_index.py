@@ -21,12 +21,12 @@ PROGRAM = [TFS_PROBE, "index"]
 @pytest.mark.parametrize("addresses, words", [
     (b"", b"the query has no address"), (b"t.r5\n" * 65, b"the query has more than 64 addresses"),
     (b"t.r5\n" * 7 + b"t.x\n", b"address 7 of the query names nothing")])
-def test_faults_of_queries_are_told_in_words(addresses, words):
+def test_faults_of_queries_are_reported_in_words(addresses, words):
     state = groups(16) + b"\n"
     expect(run_refused(PROGRAM, 0, 0, state + addresses)[:3], (b"read\nbuilt\n", 1, b"Error: " + words + b"\n"))
 
 
-def test_each_request_is_refused_in_turn():
+def test_each_allocation_is_refused_once():
     seen = {fault_of(PROGRAM, AMPLE, request, request, ASKED) for request in range(1, count_of(PROGRAM, AMPLE, ASKED) + 1)}
     expect([fault for _, fault in seen if fault and b"memory" not in fault], [], "memory runs out")
     expect(b"Error: no memory to answer the query\n" in {fault for _, fault in seen}, True, "a query tells that")

@@ -246,7 +246,7 @@ def test_journals_at_random_are_read(texts):
     expect_read(texts)
 
 
-def test_an_append_is_told_once_its_bytes_are_in_the_file():
+def test_an_append_is_reported_once_its_bytes_are_in_the_file():
     path = path_of("told")
     with subprocess.Popen([PROGRAM, "append", "new", str(path)], stdin=subprocess.PIPE, stdout=subprocess.PIPE, bufsize=0) as process:
         there = b""
@@ -334,7 +334,7 @@ def test_a_pipe_that_nobody_reads_is_a_fault():
     expect((output, process.returncode), (b"fault\n", 0), "nobody reads")
 
 
-def test_each_request_for_memory_is_refused_in_turn():
+def test_each_request_for_memory_is_refused_once():
     data = "".join(text.hex() + "\n" for text in TEXTS).encode()
     ample = "".join(line + "\n" for text in TEXTS for line in lines_of(text)).encode()
     requests = range(1, count_of([PROGRAM, "journal"], ample, data) + 1)

@@ -321,7 +321,7 @@ def send_slowly(connection):
 
 
 @slow
-def test_what_is_underway_has_five_seconds_where_its_term_ends():
+def test_a_request_in_progress_has_five_seconds_when_its_run_ends():
     for work in (send_slowly, read_slowly):
         server = Serving(fresh(), "--first").listens()
         server.address, second = f"{LOOPBACK}:{server.port}", server.folder / f"{named(2)}.tfj"

@@ -129,7 +129,7 @@ def test_lock_information_at_its_limits_is_taken():
 
 
 @pytest.mark.parametrize("target", ["/state/a?ID=" + "i" * 257, "/state/a?I%44=" + "%C3%A9" * 129, "/state/a?ID=" + "%ff" * 86])
-def test_an_identifier_that_is_too_long_is_refused_where_it_is_used(target):
+def test_an_identifier_that_is_too_long_is_refused_when_it_is_used(target):
     expect_talk([
         ("POST", target, b"abc", BAD_LOCK_INFO),
         ("DELETE", target, b"", BAD_LOCK_INFO),

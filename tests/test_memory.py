@@ -75,7 +75,7 @@ def expect_allowed(ran, request, for_arguments, refused_once):
         expect(output in before, True, f"request {request}, {output}")
 
 
-def test_each_request_of_the_stored_run_is_refused_in_turn():
+def test_each_allocation_of_the_stored_run_is_refused_once():
     requests, for_arguments = ample_counts()
     expect(0 < for_arguments < requests, True, "there are requests of both sorts")
     seen = set()
@@ -103,11 +103,11 @@ def expect_long_push_is_refused_in_turn(data, harmless=frozenset()):
     expect(run_refused(requests + 1, FOREVER, data=data)[:3], (DONE + LONG_STATE, 0, b""), "there is no further request")
 
 
-def test_each_request_of_a_push_that_comes_in_pieces_is_refused_in_turn():
+def test_each_allocation_of_a_push_in_pieces_is_refused_once():
     expect_long_push_is_refused_in_turn(PUSH_AND_GET_LONG)
 
 
-def test_each_request_of_a_push_in_chunks_is_refused_in_turn():
+def test_each_allocation_of_a_push_in_chunks_is_refused_once():
     # A body that was joined is shrunk; if that is refused, it keeps its room.
     expect_long_push_is_refused_in_turn(PUSH_IN_CHUNKS_AND_GET, {(DONE + LONG_STATE, 0, b"")})
 
@@ -139,7 +139,7 @@ def broken_runs(refused):
     return {(b"".join(replies[:count]), 1, FAULT) for count in range(first, len(LOCKS) + 1)}
 
 
-def test_each_request_of_a_conversation_with_locks_is_refused_in_turn():
+def test_each_allocation_of_a_conversation_with_locks_is_refused_once():
     expect(replies_without([]), LOCKS_REPLIES, "with ample memory")
     requests, for_arguments = ample_counts(LOCKS_TEXT, b"".join(LOCKS_REPLIES))
     out_of_memory = {whole_run([number]) for number in range(len(LOCKS))}

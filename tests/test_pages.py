@@ -121,7 +121,7 @@ def clauses():
     return found
 
 
-def test_each_clause_stands_in_its_contract():
+def test_each_clause_is_in_its_contract():
     known = clauses()
     rows = re.findall(r"`(?:\w+::)?(\w+)` \(((?:`\w+`(?:, )?)+)\)", PAGES[TOP / "docs" / "GUARANTEES.md"])
     expect(len(rows) > 50, True, "calls with clauses")

@@ -188,7 +188,7 @@ def kill_often(rng, kills):
     expect((told.count > kills, len(told.read)), (True, 3), "there was something to lose")
 
 
-def test_kills_lose_nothing_that_was_told():
+def test_kills_lose_nothing_that_was_acknowledged():
     signal.alarm(2 * SECONDS + 3 * KILLS)
     rng = random.Random(SEED)
     for first in range(0, KILLS, 20):
@@ -336,7 +336,7 @@ def fail_in_compaction(variable, is_cut, turn):
 
 @pytest.mark.parametrize("is_cut", [True, False])
 @pytest.mark.parametrize("variable, count", [("FAIL", SYNCS), ("RENAME", RENAMES)])
-def test_a_compaction_of_which_a_sync_or_a_rename_fails_is_not_reported_as_done(variable, count, is_cut):
+def test_a_compaction_with_a_failed_sync_or_rename_is_not_reported_as_done(variable, count, is_cut):
     expect_each(fail_in_compaction, count, variable, is_cut)
 
 
@@ -366,5 +366,5 @@ def fail_in_start(make, variable, is_cut, turn):
 @pytest.mark.parametrize("is_cut", [True, False])
 @pytest.mark.parametrize("variable, count", [("FAIL", SYNCS), ("RENAME", RENAMES)])
 @pytest.mark.parametrize("make", STARTS)
-def test_a_start_of_which_a_sync_or_a_rename_fails_does_not_listen(make, variable, count, is_cut):
+def test_a_start_with_a_failed_sync_or_rename_does_not_listen(make, variable, count, is_cut):
     expect_each(fail_in_start, count, make, variable, is_cut)

@@ -197,7 +197,7 @@ def test_a_state_as_terraform_writes_it_is_read():
     ('{"version":4,"serial":9,"lineage":"' + "\\u00e9\\n" * 1_000 + '"}', "9 " + json_text("\u00e9\n" * 1_000)),
     ('{"version":4,"serial":9,"lineage":"\\u00e9\\u004d\\t\\u00', "NotJson"),
 ])
-def test_a_state_is_read_as_it_is_alone_behind_a_long_one_and_a_refused_one(before, front):
+def test_a_state_after_a_long_one_and_a_refused_one_is_read_as_it_is_alone(before, front):
     # One run reads all of its states with one scratch buffer.
     texts, fronts = zip(*pairs_of(rows.STATES))
     expect_states([text for own in texts for text in (before, own)], [one for own in fronts for one in (front, own)])
@@ -237,7 +237,7 @@ def test_lock_texts_are_utf8():
     expect_locks(*zip(*texts.items()))
 
 
-def test_white_space_stands_between_tokens_and_at_both_ends():
+def test_white_space_may_be_between_tokens_and_at_both_ends():
     texts = {b' \t\r\n{ "L"\n:\r1\t} \r\n\t': "NoId", b' \t\r\n{ "ID"\n:\r"1"\t} \r\n\t': '"1"', b"": "NotJson"}
     texts |= {text: "NotJson" for text in (b'"L\n1"', b"\x0b{}", b"\xef\xbb\xbf{}", b'\x0b{"ID":"1"}', b'\xef\xbb\xbf{"ID":"1"}')}
     expect_locks(*zip(*texts.items()))

@@ -72,7 +72,7 @@ def test_a_rebased_journal_is_served():
     expect(Path(again).read_bytes(), SECOND + base_text(3, [(b"a", B, S2)]), "rebased once more")
 
 
-def test_the_first_change_behind_a_base_of_2_is_number_3():
+def test_the_first_change_after_a_base_of_2_is_number_3():
     server = Server(old=rebase(OLD, "2 1"))
     expect(server.ask("GET", "/impact/a/any?of=t.a"), refused(404, "UnknownAddress"), "S1 has no instances")
     expect(server.ask("POST", "/state/a?ID=B", state(2, ("a",))), DONE)
@@ -123,7 +123,7 @@ def test_names_of_a_base_count():
     expect_number(server, "n0", 2 * MAX_NAMES + 3)
 
 
-def test_a_full_journal_goes_on_behind_its_base():
+def test_a_full_journal_continues_after_its_base():
     full = FIRST + LOCK * MAX_ENTRIES
     server = Server(old=fresh(full))
     expect(server.ask("UNLOCK", "/state/a", B), refused(507, "JournalFull"), "before it is rebased")

@@ -65,7 +65,7 @@ def test_a_conversation_ends_after_a_request_that_asks_to_close(more, behind):
 
 
 @pytest.mark.parametrize("more", STAYING)
-def test_a_conversation_goes_on_after_a_request_that_does_not_ask_to_close(more):
+def test_a_conversation_continues_after_a_request_that_does_not_ask_to_close(more):
     expect(run(request(b"GET", more) + GET), (NO_STATE * 2, CLEAN, b""))
 
 
@@ -89,7 +89,7 @@ ANSWERS = [(b"GET", NO_STATE), (b"POST", BAD_STATE), (b"DELETE", DONE), (b"LOCK"
 
 @pytest.mark.parametrize("more", GOOD_DIGESTS)
 @pytest.mark.parametrize("method, answer", [*ANSWERS, (b"UNLOCK", BAD_LOCK_INFO)])
-def test_a_body_has_the_digest_that_is_told(method, answer, more):
+def test_a_body_has_the_digest_that_its_head_states(method, answer, more):
     expect(run(request(method, more, b"abc") + GET), (answer + NO_STATE, CLEAN, b""))
 
 

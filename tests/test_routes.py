@@ -102,7 +102,7 @@ def test_the_head_of_a_query_has_no_body_and_its_digest_is_looked_at():
     expect(run(request(b"GET", digest(b"?"), target=b"/impact/a/all?of=t.a")), (refusal_text("BadDigest"), CLEAN, b""))
 
 
-def test_a_read_tells_the_state_of_its_name():
+def test_a_read_returns_the_state_of_its_name():
     pushes = request(b"POST", b"", S1, b"/state/prod-eu_1.A") + request(b"POST", b"", S2, b"/state/state")
     reads = request(b"GET", target=b"/state/prod-eu_1.A?ID=x/y?z") + request(b"GET", target=b"/state/state?")
     expect(run(pushes + reads + GET), (DONE + DONE + reply_text(200, S1) + reply_text(200, S2) + NO_STATE, CLEAN, b""))

@@ -121,7 +121,7 @@ def expect_left(text, least, most):
 
 
 @pytest.mark.parametrize("text", [b"", request_text("GET", "/state/b")])
-def test_an_idle_connection_is_closed_after_half_a_second_where_another_waits(text):
+def test_an_idle_connection_is_closed_after_half_a_second_if_another_waits(text):
     expect_left(text, 0.4, 1.8)
 
 

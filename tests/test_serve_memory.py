@@ -52,7 +52,7 @@ def refused_starts(requests, words, new):
                 yield first > requests, (status, errors, Path(new).read_bytes() if Path(new).exists() else None)
 
 
-def test_a_start_that_is_refused_memory_tells_it():
+def test_a_start_that_is_refused_memory_reports_it():
     # The server would run without end. A full standard output makes it end by itself.
     new = fresh()
     words = [PROGRAM, "serve", f"{LOOPBACK}:{free_port()}", "2", new, fresh(WHOLE)]
@@ -215,7 +215,7 @@ def ask_small(server, serial):
     return statuses, longest
 
 
-def test_small_clients_are_answered_beside_fifteen_hostile_bodies():
+def test_small_clients_are_answered_during_fifteen_hostile_bodies():
     server, large, body = Server(workers=16, preexec_fn=limited(6 * 10**9)), [], hostile(16 << 20)
     expect(server.ask("POST", "/state/a", state(1, ("a",), ("b", "t.a"))), (200, b""))
     threads = [threading.Thread(target=push_large, args=(server, body, large)) for _ in range(15)]

@@ -110,7 +110,7 @@ def push_or_ask(pushed):
     return talk
 
 
-def test_queries_go_on_beside_changes():
+def test_queries_continue_during_changes():
     server = Server()
     expect(server.ask("POST", "/state/a", pair(1)), (200, b""))
     own, others = at_once(server, 2, push_or_ask(threading.Event()))

@@ -25,7 +25,7 @@ def ample(count):
     return b"%d instances\n" % count
 
 
-def test_each_request_is_refused_in_turn():
+def test_each_allocation_is_refused_once():
     faults = []
     for state, count in STATES:
         requests = range(1, count_of(PROGRAM, ample(count), state) + 1)

@@ -66,7 +66,7 @@ def test_the_kinds_and_units():
     expect((LOCK_AGE in kinds, COPY_AGE in kinds, "tfstated_journal_bytes" in kinds), (True, False, True), kinds)
 
 
-def test_the_age_of_the_oldest_lock_that_tells_it():
+def test_the_age_of_the_oldest_lock_that_states_it():
     old = time.time() - 1_770_091_506
     expect(is_age(numbers(some_past())["oldest_lock_age_seconds"], old - SECONDS), True, "2026-02-03T04:05:06Z")
     expect("oldest_lock_age_seconds" in numbers(fresh(n1=b"TFJ1\n" + lock(b"a", "yesterday"))), False, "nobody tells it")
@@ -101,7 +101,7 @@ def test_there_is_no_age_before_the_first_copy():
         expect((found["changes_total"], "newest_copy_age_seconds" in found), (3, False), found)
 
 
-def test_faults_of_copies_are_told_behind_the_numbers():
+def test_faults_of_copies_are_reported_after_the_numbers():
     folder, copies = some_past(), fresh() / "file"
     copies.write_bytes(NEWEST)
     status, output, errors = run("stats", folder, "--copies", copies)
@@ -129,13 +129,13 @@ def test_nothing_is_counted_without_a_base():
         expect((status, output, bool(errors)), (STATUSES["Arguments"], "", True), words)
 
 
-def test_closed_output_is_told():
+def test_closed_output_is_reported():
     with open("/dev/full", "wb") as full:
         ran = subprocess.run([FOLDER_PROGRAM, "stats", some_past()], stdout=full, stderr=subprocess.PIPE, timeout=SECONDS, check=False)
     expect((ran.returncode, b": Write" in ran.stderr), (STATUSES["Write"], True), ran.stderr)
 
 
-def test_numbers_beside_a_server_that_writes_and_starts_anew():
+def test_numbers_during_writes_and_restarts_of_a_server():
     folder, done, faults = fresh(n1=b"TFJ1\n" + record_text(1, b"b", json.dumps(WHO).encode())), threading.Event(), []
     acknowledged = [1]
 

@@ -97,7 +97,7 @@ def test_a_message_is_answered_before_the_next_byte_is_there():
     expect(talk.end(), (b"", CLEAN, b""))
 
 
-def test_a_name_with_no_state_is_told():
+def test_a_name_with_no_state_is_reported():
     expect(len(NO_STATE), 97)
     expect(run(GET), (NO_STATE, CLEAN, b""))
 

@@ -238,7 +238,7 @@ def test_the_page_goes_back_with_terraform():
     expect('"first" -> "second"' in printed["terraform plan"], True, printed["terraform plan"])
 
 
-def test_closed_output_is_told():
+def test_closed_output_is_reported():
     folder = some_past()
     for words in (("list", folder), ("history", folder, "a"), ("show", folder, "a")):
         with open("/dev/full", "wb") as full:
@@ -327,7 +327,7 @@ def expect_as_the_model(case):
     return met
 
 
-def test_random_folders_are_told_as_the_model_says():
+def test_random_folders_are_reported_as_the_model_says():
     met = set()
 
     @settings(max_examples=TURNS // 3)
@@ -339,7 +339,7 @@ def test_random_folders_are_told_as_the_model_says():
     expect(met >= {"told", "NoJournal", "Damaged", "Unlawful", "TornBase", "NoName", "NoState", "BeforeOldest", "BehindNewest"}, True, met)
 
 
-def test_reading_beside_a_server_that_writes_and_starts_anew():
+def test_reading_during_writes_and_restarts_of_a_server():
     folder, done = fresh(n1=b"TFJ1\n"), threading.Event()
     acknowledged, faults = [0], []
 

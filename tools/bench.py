@@ -37,7 +37,7 @@ def where():
 
 
 def run_all(wanted, output, variables):
-    """Runs benchmarks. Returns the names of those that failed."""
+    """Runs benchmarks. Returns the names of the failed ones."""
     failed = []
     for name in wanted:
         print(f"== {name}", file=output, flush=True)

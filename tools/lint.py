@@ -1,6 +1,6 @@
-"""Checks all Python and shell files of the repository, without running them, and where the
-library's code makes faults of memory and of sinks and requests room. The last line is `N passed, M
-failed`, out of four: Python, shell, those places, and those requests."""
+"""Checks all Python and shell files of the repository without running them, and the library's code:
+its faults of memory and of sinks, and its requests for room. The last line is `N passed, M failed`,
+out of four: Python, shell, these faults, and these requests."""
 import os
 import shutil
 import subprocess
