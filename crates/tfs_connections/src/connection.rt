@@ -63,7 +63,7 @@ fn read_in_time<R: Clock, S: Read>(
     for _look in 0..MAX_LOOKS {
         match stream.read(buf) {
             Ok(count) => {
-                timing.has_read(count);
+                timing.note_read(count);
                 return Ok(count);
             }
             Err(error) => {
@@ -112,7 +112,7 @@ impl<'t, 'r, 'e, R: Clock, S: Write> Outlet for Outgoing<'t, 'r, 'e, R, S> {
     ghost failed = { λ o. o.has_failed };
 
     fn write(&mut self, text: &[u8]) -> Result<usize, LentFault> {
-        self.timing.has_written(0);
+        self.timing.note_written(0);
         if self.has_failed || self.timing.ends_writing(text.len()) {
             self.has_failed = true;
             return Err(LentFault);
@@ -139,7 +139,7 @@ fn write_in_time<R: Clock, S: Write>(
         match stream.write(text) {
             Ok(0) => return Err(LentFault),
             Ok(count) => {
-                timing.has_written(count);
+                timing.note_written(count);
                 return Ok(count);
             }
             Err(error) => {

@@ -119,7 +119,7 @@ impl<'r, 'e, R: Clock> Timing<'r, 'e, R> {
     }
 
     /// Records that `count` bytes of a request have come.
-    pub(crate) fn has_read(&self, count: usize) {
+    pub(crate) fn note_read(&self, count: usize) {
         let (began, read) = match self.stage.get() {
             Stage::Request(began, read) => (began, read),
             Stage::Fresh | Stage::Replies(_, _) => (self.now(), 0),
@@ -129,7 +129,7 @@ impl<'r, 'e, R: Clock> Timing<'r, 'e, R> {
     }
 
     /// Records that `count` bytes of a reply were written; 0 when a reply starts.
-    pub(crate) fn has_written(&self, count: usize) {
+    pub(crate) fn note_written(&self, count: usize) {
         let (began, written) = match self.stage.get() {
             Stage::Replies(began, written) => (began, written),
             Stage::Fresh | Stage::Request(_, _) => {
