@@ -55,7 +55,7 @@ fn probe<R: AllocGlobal + Print>(rt: &R, words: &[&str], text: &str) -> Result<(
         ["table", "apply"] => push(rt, true, text.as_bytes()),
         ["table", word] => making::print_made(rt, word, text.trim_end()),
         _ => bail!(
-            "the words are addresses, texts, state, index, journal, append or table, and what README.md says behind them"
+            "the words are addresses, texts, state, index, journal, append or table, and the arguments in README.md"
         ),
     }
 }

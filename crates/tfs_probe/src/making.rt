@@ -33,9 +33,9 @@ pub(crate) fn print_made(rt: &(impl AllocGlobal + Print), word: &str, digits: &s
     let bytes = AtomicU64::new(0);
     let sink = Counting { bytes: &bytes };
     let made = match word {
-        "new" => created(rt.alloc(), sink),
-        "open" => opened(rt.alloc(), journal.as_slice(), sink),
-        "rebase" => rebased(rt.alloc(), journal.as_slice(), sink),
+        "new" => create(rt.alloc(), sink),
+        "open" => open(rt.alloc(), journal.as_slice(), sink),
+        "rebase" => rebase(rt.alloc(), journal.as_slice(), sink),
         _ => bail!("the word is none of read, apply, new, open and rebase"),
     };
     let given = bytes.load(Ordering::SeqCst);
@@ -46,19 +46,19 @@ pub(crate) fn print_made(rt: &(impl AllocGlobal + Print), word: &str, digits: &s
     Ok(())
 }
 
-/// Returns the position of a new table.
-fn created(alloc: Global, sink: Counting) -> Result<u64, OpenFault> {
+/// Makes a new table. Returns its position.
+fn create(alloc: Global, sink: Counting) -> Result<u64, OpenFault> {
     Ok(Table::new(alloc, sink)?.position())
 }
 
-/// Returns the position of the table opened from a journal.
-fn opened(alloc: Global, journal: &[u8], sink: Counting) -> Result<u64, OpenFault> {
+/// Opens a table from a journal. Returns its position.
+fn open(alloc: Global, journal: &[u8], sink: Counting) -> Result<u64, OpenFault> {
     let (table, _end) = Table::open(alloc, journal, sink)?;
     Ok(table.position())
 }
 
-/// Opens a table from a journal, rebases it, and returns the new table's position.
-fn rebased(alloc: Global, journal: &[u8], sink: Counting) -> Result<u64, OpenFault> {
+/// Opens a table from a journal and rebases it. Returns the new table's position.
+fn rebase(alloc: Global, journal: &[u8], sink: Counting) -> Result<u64, OpenFault> {
     let (table, _end) = Table::open(alloc, journal, Discard)?;
     Ok(table.rebase(sink)?.position())
 }

@@ -28,13 +28,13 @@ pub(crate) fn print_impacts(
     state: &str,
     addresses: &str,
 ) -> Result<()> {
-    let version = told_version(rt, state)?;
+    let version = build_version(rt, state)?;
     print_chosen(rt, &version, addresses)
 }
 
-/// Returns the index of a state. Prints a line when the state is read, and one when the index is
+/// Builds the index of a state. Prints a line when the state is read, and one when the index is
 /// built.
-fn told_version(rt: &(impl AllocGlobal + Print), state: &str) -> Result<Version> {
+fn build_version(rt: &(impl AllocGlobal + Print), state: &str) -> Result<Version> {
     let doc = doc_of(rt.alloc(), state)?;
     println!(rt; "read")?;
     let version = version_of(rt.alloc(), doc)?;
