@@ -5,7 +5,7 @@ ghost use Rattle.std.specs.Prelude.{◌<◌, ◌≤◌, length};
 
 use crate::input::{doc_of, lines_of, split_state};
 use crate::measure::Measured;
-use crate::planes::{counted, relate};
+use crate::planes::{measure_pairs, relate};
 use anyhow::{Result, bail};
 use std::alloc::{AllocError, Global};
 use std::sync::Arc;
@@ -47,12 +47,12 @@ impl<'a> Impacts<'a> {
             "any_listed" => list(
                 rt,
                 self.version.doc(),
-                self.chosen(rt.alloc(), true)?.as_slice(),
+                self.choose(rt.alloc(), true)?.as_slice(),
             ),
             "all_listed" => list(
                 rt,
                 self.version.doc(),
-                self.chosen(rt.alloc(), false)?.as_slice(),
+                self.choose(rt.alloc(), false)?.as_slice(),
             ),
             _ => bail!("the calls are build, plane, any, all, any_listed and all_listed"),
         }
@@ -69,11 +69,11 @@ impl<'a> Impacts<'a> {
     fn plane(&self, rt: &(impl AllocGlobal + Clock)) -> Result<Measured> {
         let start = Instant::now(rt)?;
         let plane = closed_plane(rt.alloc(), self.version.doc().len(), self.pairs.as_slice())?;
-        counted(rt, start, &plane)
+        measure_pairs(rt, start, &plane)
     }
 
-    /// Returns the instances that answer a query.
-    fn chosen(&self, alloc: Global, is_any: bool) -> Result<Vec<usize>, ImpactFault> {
+    /// Chooses the instances that answer a query.
+    fn choose(&self, alloc: Global, is_any: bool) -> Result<Vec<usize>, ImpactFault> {
         if is_any {
             return self.version.any(alloc, self.texts.as_slice());
         }
@@ -83,7 +83,7 @@ impl<'a> Impacts<'a> {
     /// Answers a query. Counts the chosen instances.
     fn ask(&self, rt: &(impl AllocGlobal + Clock), is_any: bool) -> Result<Measured> {
         let start = Instant::now(rt)?;
-        let chosen = self.chosen(rt.alloc(), is_any)?;
+        let chosen = self.choose(rt.alloc(), is_any)?;
         Measured::since(rt, start, chosen.len())
     }
 }

@@ -63,9 +63,9 @@ impl<'a> Journal<'a> {
     /// Prints a line with the number of bytes before the journal is decoded, and one with the
     /// number of entries while the result is in memory.
     fn keep(&self, rt: &(impl AllocGlobal + Print)) -> Result<Measured> {
-        Measured::told(rt, "journal", self.bytes.len())?;
+        Measured::print_count(rt, "journal", self.bytes.len())?;
         let read = decode(rt.alloc(), self.bytes)?;
-        Measured::told(rt, "journal", read.entries.as_slice().len())
+        Measured::print_count(rt, "journal", read.entries.as_slice().len())
     }
 
     /// Reads a copy of each state, and computes one MD5 of the journal's bytes. Counts the states.

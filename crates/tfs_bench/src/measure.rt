@@ -25,7 +25,7 @@ impl Measured {
     }
 
     /// Prints a count; no time is measured.
-    pub(crate) fn told(rt: &impl Print, what: &str, count: usize) -> Result<Measured> {
+    pub(crate) fn print_count(rt: &impl Print, what: &str, count: usize) -> Result<Measured> {
         println!(rt; "{what} {count}")?;
         Ok(Measured::new(Duration::ZERO, count))
     }

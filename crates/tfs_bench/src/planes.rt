@@ -26,7 +26,7 @@ impl Relation<'_> {
         self.fill(&mut plane);
         let start = Instant::now(rt)?;
         plane.close();
-        counted(rt, start, &plane)
+        measure_pairs(rt, start, &plane)
     }
 
     /// Returns the number at a place; 0 after the last one.
@@ -60,8 +60,8 @@ pub(crate) fn relate(plane: &mut Plane, i: usize, j: usize)
     }
 }
 
-/// Returns a measurement from a start until now, with the number of a plane's pairs.
-pub(crate) fn counted(
+/// Measures from a start until now, and counts a plane's pairs.
+pub(crate) fn measure_pairs(
     rt: &(impl AllocGlobal + Clock),
     start: Instant,
     plane: &Plane,

@@ -57,8 +57,8 @@ impl StateText<'_> {
     /// Prints a line with the number of bytes before a document is read, and one with the number of
     /// instances while it is in memory.
     fn keep(&self, rt: &(impl AllocGlobal + Print)) -> Result<Measured> {
-        Measured::told(rt, "state", self.text.len())?;
+        Measured::print_count(rt, "state", self.text.len())?;
         let doc = doc_of(rt.alloc(), self.text.as_bytes())?;
-        Measured::told(rt, "state", doc.len())
+        Measured::print_count(rt, "state", doc.len())
     }
 }
