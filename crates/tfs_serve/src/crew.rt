@@ -8,7 +8,7 @@ ghost use Rattle.tfs_serve.specs.Serving.{IsRun, served_view};
 ghost use Rattle.tfs_serve.specs.Working.{HasReplied, end_of_work};
 
 use crate::gate::Gate;
-use crate::leaving::{gathered, split_members};
+use crate::leaving::{gather_table, split_members};
 use crate::member::{Member, work_until};
 use crate::run::{Run, Served};
 use crate::runtime::Runtime;
@@ -93,7 +93,7 @@ pub(crate) fn attend<
     let members = make_members(members, gates, sessions, stopped);
     let members = run_members(runtime, &LentListener::of(&listener), members, &shared);
     let (sessions, served) = split_members(members, room, served);
-    match gathered(runtime.rt, shared, sessions) {
+    match gather_table(runtime.rt, shared, sessions) {
         Ok(table) => Ok(Run {
             table,
             served,

@@ -35,7 +35,7 @@ pub(crate) fn take_back<J: Naming, K: Sink, R: Wait>(
 
 /// Takes the table back from sessions that have worked: its journal begins with all that they have
 /// seen. If a session had seen more than the table's journal, returns the table alone, as an error.
-pub(crate) fn gathered<J: Naming, K: Sink, R: Wait>(
+pub(crate) fn gather_table<J: Naming, K: Sink, R: Wait>(
     rt: &R,
     shared: Shared<J, K>,
     sessions: Vec<Session<J>>,
