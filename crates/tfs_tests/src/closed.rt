@@ -39,7 +39,7 @@ impl Sink for Closed {
 }
 
 #[test]
-fn a_sink_that_takes_no_bytes_is_given_none_where_a_table_begins(rt: HostRuntime) {
+fn a_sink_that_takes_no_bytes_is_given_none_when_a_table_begins(rt: HostRuntime) {
     let made = Table::new(rt.alloc(), Closed::new());
     assert!(rt; made.is_ok());
     let opened = Table::open(rt.alloc(), b"TFJ1\n", Closed::new());

@@ -184,7 +184,7 @@ fn leaves(rt: &(impl Alloc<A = Global> + Abort), (count, most): (usize, usize), 
 }
 
 #[test]
-fn a_reader_that_fails_behind_a_message_leaves_its_reply(rt: HostRuntime) {
+fn a_reader_that_fails_after_a_message_leaves_its_reply(rt: HostRuntime) {
     leaves(&rt, (96, 96), 38);
     for count in 0..131 {
         let written = if count < 96 {

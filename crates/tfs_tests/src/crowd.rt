@@ -3,7 +3,7 @@
 
 use crate::drafts::{name_of, push_of, push_of_text};
 use crate::sessions::{ask, read};
-use crate::shared::{Scene, new_table, played, table_of};
+use crate::shared::{Scene, new_table, play_scene, table_of};
 use std::alloc::Global;
 use std::process::Abort;
 use std::sync::Wait;
@@ -150,14 +150,14 @@ pub(crate) fn follow_one<
 }
 
 #[test]
-fn four_sessions_make_400_entries_of_which_each_has_100(rt: HostRuntime) -> Result<(), Fail> {
-    assert_eq!(rt; played(&rt, new_table(&rt), 4, Scene::Unlocks), 400);
+fn four_sessions_make_100_entries_each(rt: HostRuntime) -> Result<(), Fail> {
+    assert_eq!(rt; play_scene(&rt, new_table(&rt), 4, Scene::Unlocks), 400);
     Ok(())
 }
 
 #[test]
 fn the_numbers_of_each_of_four_sessions_rise(rt: HostRuntime) -> Result<(), Fail> {
-    let entries = played(&rt, new_table(&rt), 4, Scene::Pushes);
+    let entries = play_scene(&rt, new_table(&rt), 4, Scene::Pushes);
     assert!(rt; 100 <= entries && entries <= 400, "{entries}");
     Ok(())
 }
@@ -165,7 +165,7 @@ fn the_numbers_of_each_of_four_sessions_rise(rt: HostRuntime) -> Result<(), Fail
 #[test]
 fn no_session_lacks_its_copy_for_ever(rt: HostRuntime) -> Result<(), Fail> {
     assert_eq!(rt;
-        played(&rt, table_of(&rt, Discard, 1), 2, Scene::Follows),
+        play_scene(&rt, table_of(&rt, Discard, 1), 2, Scene::Follows),
         100
     );
     Ok(())

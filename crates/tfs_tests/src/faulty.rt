@@ -33,7 +33,7 @@ fn word_of(answer: Result<u64, Refusal>) -> &'static str {
 }
 
 /// Pushes a state to `a`, and returns the answer as one word.
-fn pushed(
+fn push_state(
     rt: &(impl Alloc<A = Global> + Abort),
     table: &mut Table<MemorySink>,
     text: &str,
@@ -60,7 +60,7 @@ fn serial_in(
 
 /// Opens a table from bytes, and returns its number of entries, how the bytes end, and the length
 /// of its own journal; or the fault.
-fn opened(alloc: Global, bytes: &[u8]) -> Result<String, AllocError> {
+fn open_and_describe(alloc: Global, bytes: &[u8]) -> Result<String, AllocError> {
     match Table::open(alloc, bytes, sink_of(alloc, 100)) {
         Ok((table, end)) => {
             let (entries, length) = (table.len(), table.sink().bytes().len());
@@ -76,11 +76,11 @@ fn answers_of(
     rt: &(impl Alloc<A = Global> + Abort),
     table: &mut Table<MemorySink>,
 ) -> Result<String, AllocError> {
-    let first = pushed(rt, table, S1);
-    let second = pushed(rt, table, S2);
+    let first = push_state(rt, table, S1);
+    let second = push_state(rt, table, S2);
     let serial = serial_in(rt, table)?;
     let bytes = table.sink().bytes();
-    let opened = opened(rt.alloc(), bytes)?;
+    let opened = open_and_describe(rt.alloc(), bytes)?;
     let length = bytes.len();
     format!(in rt.alloc(); "{first} {second} {serial} {length} {opened}")
 }
@@ -123,7 +123,7 @@ impl Judge for Fronts {
     fn judge(rt: &(impl Alloc<A = Global> + Abort), given: &str, wanted: &str) {
         let (length, count) = split(given);
         let bytes = front_of(rt, length, count);
-        expect_words(rt, opened(rt.alloc(), bytes.as_slice()), wanted);
+        expect_words(rt, open_and_describe(rt.alloc(), bytes.as_slice()), wanted);
     }
 }
 
@@ -140,12 +140,12 @@ changed 104 = Damaged(5)
 137 137 = Unlawful(2)";
 
 #[test]
-fn a_table_tells_how_the_bytes_end_that_it_opens(rt: HostRuntime) {
+fn a_table_reports_how_the_bytes_end_that_it_opens(rt: HostRuntime) {
     expect_lines::<Fronts>(&rt, FRONTS);
 }
 
-/// Returns the answers of a stopped table to a lock, a read and a query, and its position.
-fn stopped_answers(
+/// Asks a stopped table for a lock, a read and a query. Returns the answers and its position.
+fn ask_stopped(
     rt: &(impl Alloc<A = Global> + Abort),
     table: &mut Table<MemorySink>,
 ) -> Result<String, AllocError> {
@@ -165,6 +165,6 @@ fn a_stopped_table_answers_what_changes_nothing(rt: HostRuntime) {
     let mut table = made.ok().expect(&rt, "a table");
     let pushes = answers_of(&rt, &mut table);
     expect_words(&rt, pushes, "Done JournalFault 1 147 1 Torn(97) 97");
-    let answers = stopped_answers(&rt, &mut table);
+    let answers = ask_stopped(&rt, &mut table);
     expect_words(&rt, answers, "JournalStopped 1 UnknownAddress 1");
 }

@@ -43,7 +43,7 @@ fn expect_first_push(rt: &(impl Alloc<A = Global> + Abort), text: &str, len: usi
 }
 
 #[test]
-fn a_message_is_taken_where_it_is_whole(rt: HostRuntime) {
+fn a_message_is_taken_once_it_is_whole(rt: HostRuntime) {
     expect_first_push(&rt, PUSH_AND_READ, 96);
     expect_first_push(&rt, PUSH_IN_CHUNKS, 115);
 }
@@ -92,7 +92,7 @@ fn expect_wanted(
 }
 
 #[test]
-fn what_a_head_tells_of_is_wanted_at_once(rt: HostRuntime) {
+fn what_a_head_states_is_wanted_at_once(rt: HostRuntime) {
     for row in [(0, 65_536), (1, 65_536), (54, 65_536), (55, 41), (95, 1)] {
         expect_wanted(&rt, PUSH_AND_READ, 96, row);
     }

@@ -34,7 +34,7 @@ fn expect_text(rt: &(impl Alloc<A = Global> + Abort), reply: &Reply, close: bool
 }
 
 #[test]
-fn a_fault_of_the_journal_is_told(rt: HostRuntime) {
+fn a_fault_of_the_journal_is_reported(rt: HostRuntime) {
     let fault = Reply::Refused(Refusal::JournalFault);
     let text =
         "HTTP/1.1 500 Internal Server Error\r\nContent-Type: application/json\r\nContent-Length: 24\r\n\r\n{\"error\":\"JournalFault\"}";

@@ -3,8 +3,8 @@
 use crate::connections::listener_of;
 use crate::drafts::name_of;
 use crate::runs::Shut;
-use crate::shared::{Scene, new_table, played};
-use crate::workers::rested;
+use crate::shared::{Scene, new_table, play_scene};
+use crate::workers::take_sessions;
 use std::alloc::Global;
 use std::net::TcpListener;
 use std::process::Abort;
@@ -22,11 +22,11 @@ use tfs_shared::{Naming, Session, Shared};
 fn sessions_whose_gates_admit_nobody_end_their_work(rt: HostRuntime) {
     let listener = listener_of(&rt);
     let scene = Scene::Works(&listener);
-    assert!(rt; played(&rt, new_table(&rt), 1, scene) == 0);
+    assert!(rt; play_scene(&rt, new_table(&rt), 1, scene) == 0);
 }
 
-/// Returns the reply to a read through a gated desk.
-fn asked<J: Naming, K: Sink, R: Wait + Abort + Alloc<A = Global>>(
+/// Reads a state through a gated desk. Returns the reply.
+fn read_gated<J: Naming, K: Sink, R: Wait + Abort + Alloc<A = Global>>(
     rt: &R,
     service: &Service<'_, J, K, R>,
     session: &mut Session<J>,
@@ -63,12 +63,12 @@ fn works<J: Naming, K: Sink, R: Wait + Clock + Abort + Alloc<A = Global>>(
         muted: &never,
         load: &load,
     };
-    is_no_state(rt, asked(rt, &service, session));
+    is_no_state(rt, read_gated(rt, &service, session));
     assert!(rt; work(&service, listener, &mut Shut, session) == Ok(()));
 }
 
-/// Returns sessions that have worked, alone and as workers, with gates that admit nobody.
-pub(crate) fn worked<
+/// Runs sessions, alone and as workers, with gates that admit nobody. Returns the sessions.
+pub(crate) fn work_shut<
     J: Naming + Send + Sync,
     K: Sink + Send,
     R: Threads + Wait + Clock + Abort + Alloc<A = Global> + Sync,
@@ -89,5 +89,5 @@ pub(crate) fn worked<
         assert!(rt; workers.push(worker).is_ok());
     }
     work_all(rt, rt.alloc(), listener, workers.as_mut_slice(), shared);
-    rested(rt, workers)
+    take_sessions(rt, workers)
 }

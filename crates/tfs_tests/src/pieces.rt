@@ -101,21 +101,21 @@ fn sink(alloc: Global) -> MemorySink
 }
 
 /// Opens a table from bytes and rebases it. Returns the rebased table, and how the bytes end.
-fn opened_and_rebased(alloc: Global, bytes: &[u8]) -> Result<(Table<MemorySink>, End), OpenFault> {
+fn open_and_rebase(alloc: Global, bytes: &[u8]) -> Result<(Table<MemorySink>, End), OpenFault> {
     let (table, end) = Table::open(alloc, bytes, sink(alloc))?;
     Ok((table.rebase(sink(alloc))?, end))
 }
 
 /// Returns the same in words, or the fault.
-fn rebased_whole(alloc: Global, bytes: &[u8]) -> Result<String, AllocError> {
-    match opened_and_rebased(alloc, bytes) {
+fn rebase_whole(alloc: Global, bytes: &[u8]) -> Result<String, AllocError> {
+    match open_and_rebase(alloc, bytes) {
         Ok((table, end)) => words_of(alloc, &table, end),
         Err(fault) => format!(in alloc; "Opening({fault:?})"),
     }
 }
 
 /// Returns the same for bytes in pieces.
-fn rebased_pieces(
+fn rebase_pieces(
     alloc: Global,
     bytes: &[u8],
     most: usize,
@@ -131,8 +131,8 @@ fn rebased_pieces(
 /// Checks bytes, whole and in pieces of at most `most` bytes.
 fn is_same(rt: &(impl Alloc<A = Global> + Abort), bytes: &[u8], most: usize) {
     is_read_alike(rt, bytes, most);
-    let wanted = rebased_whole(rt.alloc(), bytes).expect(rt, "memory");
-    let found = rebased_pieces(rt.alloc(), bytes, most, false);
+    let wanted = rebase_whole(rt.alloc(), bytes).expect(rt, "memory");
+    let found = rebase_pieces(rt.alloc(), bytes, most, false);
     expect_words(rt, found, wanted.as_str());
 }
 
@@ -170,12 +170,12 @@ fn damaged_bytes_in_pieces_are_what_they_are_whole(rt: HostRuntime) {
 }
 
 #[test]
-fn a_source_that_fails_is_told(rt: HostRuntime) {
+fn a_source_that_fails_is_reported(rt: HostRuntime) {
     let text = journal_bytes(&rt, "192");
     let bytes = text.as_slice();
     for i in 0..65 {
         let front = &bytes[..(i * 3).min(bytes.len())];
-        expect_words(&rt, rebased_pieces(rt.alloc(), front, 50, true), "Source");
+        expect_words(&rt, rebase_pieces(rt.alloc(), front, 50, true), "Source");
     }
 }
 

@@ -5,7 +5,7 @@ ghost use Rattle.std.specs.Prelude.{◌≡◌, ◌≤◌, [], IfSome};
 
 use crate::crowd::{follow_one, push_all, unlock_all};
 use crate::drafts::{name_of, push_of};
-use crate::idle::worked;
+use crate::idle::work_shut;
 use crate::sessions::{accepted_by, refuses, turns};
 use crate::waiting::ask_meanwhile;
 use crate::workers::meet;
@@ -46,9 +46,8 @@ pub(crate) enum Scene<'f> {
     Meets(&'f TcpListener),
 }
 
-/// Plays a scene with this number of sessions. Returns the number of entries of the table that is
-/// gathered then.
-pub(crate) fn played<
+/// Plays a scene with this number of sessions and gathers the table. Returns its number of entries.
+pub(crate) fn play_scene<
     K: Sink + Send + Drop,
     R: Threads + Wait + Clock + Abort + Alloc<A = Global> + Sync,
 >(rt: &R, table: Table<K>, number: usize, scene: Scene<'_>) -> usize
@@ -78,7 +77,7 @@ fn play<
         opened,
     );
     let (shared, sessions) = made.ok().expect(rt, "a shared table");
-    let sessions = acted(rt, &shared, sessions, scene);
+    let sessions = run_scene(rt, &shared, sessions, scene);
     let accepted = accepted_by(sessions.as_slice());
     let before: u64 = shared.opened();
     let position = before.saturating_add(accepted);
@@ -141,8 +140,8 @@ fn entries_of<J: Naming, K: Sink + Drop, R: Wait + Abort>(
     }
 }
 
-/// Returns the sessions after they have played a scene.
-fn acted<
+/// Runs a scene with sessions. Returns the sessions.
+fn run_scene<
     J: Naming + Send + Sync,
     K: Sink + Send,
     R: Threads + Wait + Clock + Abort + Alloc<A = Global> + Sync,
@@ -153,7 +152,7 @@ fn acted<
     scene: Scene<'_>,
 ) -> Vec<Session<J>> {
     match scene {
-        Scene::Works(listener) => worked(rt, shared, listener, sessions),
+        Scene::Works(listener) => work_shut(rt, shared, listener, sessions),
         Scene::Meets(listener) => meet(rt, shared, listener, sessions),
         _ => {
             act(rt, shared, sessions.as_mut_slice(), scene);
@@ -206,11 +205,11 @@ fn later_table(rt: &(impl Alloc<A = Global> + Abort)) -> Table<Discard> {
 fn all_sessions_gather(rt: HostRuntime) -> Result<(), Fail> {
     for number in 1..17 {
         assert!(rt;
-            played(&rt, table_of(&rt, Discard, 1), number, Scene::Turns) == 1 + number,
+            play_scene(&rt, table_of(&rt, Discard, 1), number, Scene::Turns) == 1 + number,
             "{number}"
         );
         assert!(rt;
-            played(&rt, later_table(&rt), number, Scene::Turns) == number,
+            play_scene(&rt, later_table(&rt), number, Scene::Turns) == number,
             "{number}"
         );
     }
@@ -224,6 +223,6 @@ pub(crate) fn new_table(rt: &(impl Alloc<A = Global> + Abort)) -> Table<Discard>
 
 #[test]
 fn an_older_state_is_refused_and_not_seen(rt: HostRuntime) -> Result<(), Fail> {
-    assert_eq!(rt; played(&rt, new_table(&rt), 2, Scene::Refuses), 1);
+    assert_eq!(rt; play_scene(&rt, new_table(&rt), 2, Scene::Refuses), 1);
     Ok(())
 }

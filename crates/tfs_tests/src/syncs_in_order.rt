@@ -79,7 +79,7 @@ impl Stage {
     }
 
     /// Returns the outcome of each thread's steps, and the number of syncs that have begun.
-    fn shown(&self, rt: &(impl Alloc<A = Global> + Abort)) -> String {
+    fn outcomes(&self, rt: &(impl Alloc<A = Global> + Abort)) -> String {
         let (first, second, third) = (self.first.sign(), self.second.sign(), self.third.sign());
         let begun = self.begun.load(Ordering::SeqCst);
         let shown = format!(in rt.alloc(); "{first}{second}{third}{begun}");
@@ -246,13 +246,13 @@ impl<'s> Scene<'s> {
     /// to.
     fn wait_until(&self, rt: &(impl Clock + Abort + Alloc<A = Global>), wanted: &str, line: &str) {
         for _turn in 0..100_000 {
-            if self.stage.shown(rt).as_str() == wanted {
+            if self.stage.outcomes(rt).as_str() == wanted {
                 pause(rt);
                 return;
             }
             pause(rt);
         }
-        let shown = self.stage.shown(rt);
+        let shown = self.stage.outcomes(rt);
         panic!(rt; "{shown}, and {wanted} is wanted in {line}");
     }
 
@@ -276,12 +276,12 @@ impl<'s> Scene<'s> {
 /// that weren't written.
 fn expect_end(rt: &(impl Abort + Alloc<A = Global>), stage: &Stage, line: &str) {
     let (_, wanted) = line.rsplit_once(':').expect(rt, "a step");
-    assert!(rt; stage.shown(rt).as_str() == wanted, "{line}");
+    assert!(rt; stage.outcomes(rt).as_str() == wanted, "{line}");
     assert!(rt; stage.unwritten.load(Ordering::SeqCst) == 0, "{line}");
 }
 
 #[test]
-fn what_is_told_as_durable_is_synced_in_every_order(rt: HostRuntime) {
+fn what_is_reported_as_durable_is_synced_in_every_order(rt: HostRuntime) {
     for line in ORDERS.lines() {
         let stage = Stage::new();
         let scene = scene_of(&rt, &rt, &stage);

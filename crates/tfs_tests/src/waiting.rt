@@ -2,7 +2,7 @@
 
 use crate::drafts::{lock_of, name_of};
 use crate::sessions::{ask, read, read_published};
-use crate::shared::{Scene, played, table_of};
+use crate::shared::{Scene, play_scene, table_of};
 use std::alloc::Global;
 use std::process::Abort;
 use std::sync::Wait;
@@ -72,7 +72,7 @@ fn a_query_is_answered_while_the_sink_waits(rt: HostRuntime) -> Result<(), Fail>
         flag: &flag,
     };
     let table = table_of(&rt, sink, 2);
-    assert_eq!(rt; played(&rt, table, 2, Scene::Waits(&flag)), 2);
+    assert_eq!(rt; play_scene(&rt, table, 2, Scene::Waits(&flag)), 2);
     assert_eq!(rt; flag.load(Ordering::SeqCst), RELEASED);
     Ok(())
 }

@@ -1,7 +1,7 @@
 //! Workers of a shared table, over connections on the loopback interface.
 
 use crate::connections::{asking, is_answered, listener_of};
-use crate::shared::{Scene, played, table_of};
+use crate::shared::{Scene, play_scene, table_of};
 use std::alloc::Global;
 use std::net::TcpListener;
 use std::process::Abort;
@@ -75,7 +75,7 @@ fn two_workers_hold_their_requests_at_once(rt: HostRuntime) -> Result<(), Fail> 
     let one = asking(&rt, &listener, REQUEST);
     let other = asking(&rt, &listener, REQUEST);
     let scene = Scene::Meets(&listener);
-    assert!(rt; played(&rt, table_of(&rt, Discard, 2), 2, scene) == 1);
+    assert!(rt; play_scene(&rt, table_of(&rt, Discard, 2), 2, scene) == 1);
     is_answered(&rt, one, REPLY);
     is_answered(&rt, other, REPLY);
     Ok(())
@@ -98,7 +98,7 @@ pub(crate) fn meet<
     for worker in workers.as_slice() {
         assert!(rt; worker.gate.met);
     }
-    rested(rt, workers)
+    take_sessions(rt, workers)
 }
 
 /// Returns a worker for each session, with a gate.
@@ -119,8 +119,8 @@ fn workers_of<'m, J: Naming, R: Clock + Abort + Alloc<A = Global>>(
     workers
 }
 
-/// Returns the sessions of workers whose listener gave connections.
-pub(crate) fn rested<J: Naming, G: Gate + Drop>(
+/// Takes the sessions out of workers, and checks that no worker has failed.
+pub(crate) fn take_sessions<J: Naming, G: Gate + Drop>(
     rt: &(impl Alloc<A = Global> + Abort),
     workers: Vec<Worker<J, G>>,
 ) -> Vec<Session<J>> {

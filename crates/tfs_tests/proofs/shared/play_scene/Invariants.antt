@@ -1,5 +1,5 @@
 -- The names of the history and the ledger that were just opened, and the journal of the table.
-use Rattle.tfs_tests.proofs.shared.played.Given as goal
+use Rattle.tfs_tests.proofs.shared.play_scene.Given as goal
 
 abbrev pub ghosts-play-J-Naming : goal.ghosts-play-J-Naming
 ghosts-play-J-Naming g a = record { book = a.opened; opening = a.table.journal; sessions = a.number }
