@@ -40,7 +40,7 @@ Lacked folder number = Unit {0}
 pub IsNamed : List ℕ → ℕ → ℕ → Type 0
 IsNamed folder part number = Unit {0}
 
--- The part file was renamed to the journal of its number, of which the folder had none.
+-- The part file was renamed to the journal of its number, which the folder did not have.
 pub IsNew : List ℕ → ℕ → Type 0
 IsNew folder number = Unit {0}
 

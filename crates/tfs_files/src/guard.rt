@@ -119,14 +119,14 @@ pub struct ServedJournal {
 
 impl ServedJournal {
     /// Identifies the folder's journal with this number, which has its name.
-    pub fn named(rt: &HostRuntime, folder: &str, number: u64) -> io::Result<ServedJournal> {
+    pub fn identify(rt: &HostRuntime, folder: &str, number: u64) -> io::Result<ServedJournal> {
         let path = journal_path(rt, folder, number)?;
         let id = FileId::of(&fs::metadata(rt, path.as_str())?);
         Ok(ServedJournal { path, id })
     }
 
     /// Identifies the folder's journal with this number, which is still a part file.
-    pub fn part(rt: &HostRuntime, folder: &str, number: u64) -> io::Result<ServedJournal> {
+    pub fn identify_part(rt: &HostRuntime, folder: &str, number: u64) -> io::Result<ServedJournal> {
         let part = part_path(rt, folder, number)?;
         let id = FileId::of(&fs::metadata(rt, part.as_str())?);
         let path = journal_path(rt, folder, number)?;

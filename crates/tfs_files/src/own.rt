@@ -210,7 +210,7 @@ pub fn mark_copies(
     let Some(known) = known else {
         return Ok(());
     };
-    match copies_marked(rt, to, &known, parts) {
+    match write_marks(rt, to, &known, parts) {
         Ok(()) => Ok(()),
         Err(error) => Err(CommandEnd::by_system(
             FaultPlace::Identity,
@@ -221,7 +221,7 @@ pub fn mark_copies(
 }
 
 /// Does the work of [`mark_copies`] for an identity.
-fn copies_marked(rt: &HostRuntime, to: &str, known: &Identity, parts: &[u64]) -> io::Result<()> {
+fn write_marks(rt: &HostRuntime, to: &str, known: &Identity, parts: &[u64]) -> io::Result<()> {
     let mut identity = known.with_no_marks(rt.alloc())?;
     let here = numbers_in(rt, to)?;
     for number in here.as_slice() {

@@ -146,6 +146,6 @@ fn fault_after(lock: &FolderLock, watch: &Watch<'_>, last: CommandFault) -> Comm
 
 /// Returns the folder's journal of a number, or `None` if it can't be opened or memory is refused.
 fn served_journal(host: &HostRuntime, folder: &str, number: u64) -> Option<Arc<ServedJournal>> {
-    let journal = ServedJournal::named(host, folder, number).ok()?;
+    let journal = ServedJournal::identify(host, folder, number).ok()?;
     Arc::new(host.alloc(), journal).ok()
 }

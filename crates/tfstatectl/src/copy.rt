@@ -139,7 +139,7 @@ fn copies_in(rt: &HostRuntime, asked: &Copying<'_>) -> Result<Copies, CommandEnd
     let lock = lock_folder(rt, asked.to)?;
     let here = unserved_numbers(rt, asked.to)?;
     refuse_other_copies(rt, asked.from, asked.to)?;
-    let least = PositionFile::named(rt, asked.least_file, here.is_empty())?;
+    let least = PositionFile::open_if_given(rt, asked.least_file, here.is_empty())?;
     Ok(Copies { lock, here, least })
 }
 

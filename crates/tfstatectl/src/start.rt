@@ -47,7 +47,7 @@ fn begin<'f>(
     asked: &Serving<'f>,
     begins: bool,
 ) -> Result<(Option<PositionFile>, Made<'f>), CommandEnd> {
-    let least = PositionFile::named(rt, asked.least_file, begins)?;
+    let least = PositionFile::open_if_given(rt, asked.least_file, begins)?;
     let made = start_from(rt, asked, least_position(asked.start.least, &least))?;
     let least = raise_least(rt, least, made.table.position())?;
     Ok((least, made))
