@@ -6,9 +6,9 @@ use crate::fault::{CompactionFault, fault_of, fault_of_opening};
 use crate::gate::Watching;
 use crate::listening::Listening;
 use crate::notice::{Compaction, Notice};
+use crate::pending::Pending;
 use crate::placing::{journal_of, length_of, name_new, remove, sink_of};
 use crate::serve::Plan;
-use crate::underway::Underway;
 use crate::watch::Watch;
 use std::alloc::AllocError;
 use std::cell::Cell;
@@ -189,10 +189,10 @@ fn gates_of<'t, 'w, R: AllocGlobal + Wait>(
 {
     let alloc = folder_runs.rt.alloc();
     let number = folder_runs.plan.workers;
-    let underway = Arc::new(alloc, Underway::new(alloc, number)?)?;
+    let pending = Arc::new(alloc, Pending::new(alloc, number)?)?;
     let mut gates = Vec::with_capacity(alloc, number)?;
     for made in 0..number {
-        gates.push(gate_of(folder_runs, durable.clone()?, &underway, made)?)?;
+        gates.push(gate_of(folder_runs, durable.clone()?, &pending, made)?)?;
     }
     Ok(gates)
 }
@@ -201,7 +201,7 @@ fn gates_of<'t, 'w, R: AllocGlobal + Wait>(
 fn gate_of<'t, 'w, R: AllocGlobal + Wait>(
     folder_runs: &FolderRuns<'t, 'w, R>,
     durable: Arc<Durable<FileDevice>>,
-    underway: &Arc<Underway>,
+    pending: &Arc<Pending>,
     worker: usize,
 ) -> Result<Watching<'t, 'w, R>, AllocError> {
     Ok(Watching {
@@ -211,7 +211,7 @@ fn gate_of<'t, 'w, R: AllocGlobal + Wait>(
         journal: folder_runs.journal.clone()?,
         least: folder_runs.least,
         serves_reads: folder_runs.plan.serves_reads,
-        underway: underway.clone()?,
+        pending: pending.clone()?,
         worker,
         read: None,
     })

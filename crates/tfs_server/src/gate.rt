@@ -2,7 +2,7 @@
 //! the position in the file of the least position, end a run whose journal has grown by its bound,
 //! and end a server that can't write or sync its journal.
 
-use crate::underway::{Underway, number_of};
+use crate::pending::{Pending, number_of};
 use crate::watch::Watch;
 use std::sync::{Arc, Mutex, MutexGuard, Wait};
 use tfs_durable::{Durable, FileDevice};
@@ -30,7 +30,7 @@ pub(crate) struct Watching<'g, 'w, R: AllocGlobal + Wait> {
     pub(crate) journal: Arc<ServedJournal>,
     pub(crate) least: &'g Mutex<Option<PositionFile>>,
     pub(crate) serves_reads: bool,
-    pub(crate) underway: Arc<Underway>,
+    pub(crate) pending: Arc<Pending>,
     pub(crate) worker: usize,
     /// The number of the name that the current call reads, if it reads a state.
     pub(crate) read: Option<u64>,
@@ -50,7 +50,7 @@ impl<'g, 'w, R: AllocGlobal + Wait> Watching<'g, 'w, R> {
     /// read of a name that nobody is changing.
     fn due(&self) -> u64 {
         match self.read {
-            Some(number) if !self.underway.has(number) => 0,
+            Some(number) if !self.pending.has(number) => 0,
             _ => self.durable.written(),
         }
     }
@@ -70,7 +70,7 @@ impl<'g, 'w, R: AllocGlobal + Wait> Gate for Watching<'g, 'w, R> {
         self.read = None;
         match call {
             Call::Read(name) => self.read = Some(number_of(name.text())),
-            Call::Change(name, _) => self.underway.begin(self.worker, number_of(name.text())),
+            Call::Change(name, _) => self.pending.begin(self.worker, number_of(name.text())),
             Call::Impact(_, _) => {}
         }
     }
@@ -81,7 +81,7 @@ impl<'g, 'w, R: AllocGlobal + Wait> Gate for Watching<'g, 'w, R> {
             self.watch.mute();
             return;
         }
-        self.underway.end(self.worker);
+        self.pending.end(self.worker);
         match reply {
             Reply::Done(position) => {
                 if !self.watch.holds_after(&self.journal, count) {

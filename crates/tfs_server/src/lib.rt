@@ -7,9 +7,9 @@ mod gate;
 mod listening;
 mod moments;
 mod notice;
+mod pending;
 mod placing;
 mod serve;
-mod underway;
 mod watch;
 
 pub use serve::{Bounds, Left, Plan, StartedFolder, serve_folder};

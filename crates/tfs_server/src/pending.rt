@@ -9,18 +9,18 @@ const NOBODY: u64 = 0;
 /// The name that each worker is changing, from before it asks for the change until the change is
 /// durable. Names are compared by a hash. Two names with the same hash count as one.
 #[derive(Drop)]
-pub(crate) struct Underway {
+pub(crate) struct Pending {
     names: Vec<AtomicU64>,
 }
 
-impl Underway {
+impl Pending {
     /// Makes a list for this many workers that are changing nothing.
-    pub(crate) fn new(alloc: Global, workers: usize) -> Result<Underway, AllocError> {
+    pub(crate) fn new(alloc: Global, workers: usize) -> Result<Pending, AllocError> {
         let mut names = Vec::with_capacity(alloc, workers)?;
         for _ in 0..workers {
             names.push(AtomicU64::new(NOBODY))?;
         }
-        Ok(Underway { names })
+        Ok(Pending { names })
     }
 
     /// Records that a worker is changing the name of this number.
