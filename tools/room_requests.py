@@ -1,8 +1,8 @@
 """Finds requests for room in src/ that no machine may grant. A contract can't distinguish a refused
 request from one that asks for too much, so a body that gives up for one length would pass. The room
 of a request is one length, one constant or one name, or a sum of these. In its function nothing is
-multiplied or shifted, no length is compared with a number, and no number is over 32 MiB. Its
-constants are at most 32 MiB.
+multiplied or shifted, no length is compared with a number, and no number is over 32 MiB. A constant
+is at most 64 KiB, so that what hasn't arrived yet gets no more.
 
 A function that copies or appends, or makes a fault of tools/fault_places.py, picks no length: it
 compares a length only with 0, and whether it is over or under a constant."""
@@ -11,7 +11,7 @@ import re
 from fault_places import FAULT, code_lines, sources
 from repository import TOP
 
-MOST = 1 << 25
+MOST, MOST_ROOM = 1 << 25, 1 << 16
 REQUEST = re.compile(r"\b(?:with_capacity|try_reserve|try_reserve_exact|reserve|reserve_exact|resize|repeat)\(|\bvec!\[in ")
 TERM = re.compile(r"1|[A-Za-z_]\w*(?:(?:\.|::)\w+)*(?:\(\w*\))?(?:\.len\(\))?")
 GROWS = re.compile(r"\b(?:from_slice|from_str|extend_from_slice|push_str|push|insert)\(")
@@ -101,8 +101,8 @@ def wrong_rooms(body, values):
         if not is_plain(room):
             yield f"room for `{room}`, which is no sum of lengths, constants and names"
         for name in NAMES.findall(room):
-            if values.get(name) is None or values[name] > MOST:
-                yield f"room for `{room}`, which is over 32 MiB or unknown"
+            if values.get(name) is None or values[name] > MOST_ROOM:
+                yield f"room for `{room}`, which is over 64 KiB or unknown"
     if found and PRODUCT.search(body):
         yield f"a product beside a request for room: `{PRODUCT.search(body).group()}`"
     if found:
