@@ -1,7 +1,7 @@
 """Drives `tfstated stdio` through every length of a name, an identifier, a head and a body, each
-with its bytes in two reads, and through every character of a name. A program that gives up at one
-length, for one name, or at one place of a cut, answers differently from the plain model of
-stdio_model.py."""
+with its bytes in two reads, a body also in one read, and through every character of a name. A
+program that gives up at one length, for one name, or at one place of a cut, answers differently
+from the plain model of stdio_model.py."""
 import string
 
 import pytest
@@ -98,12 +98,22 @@ def test_each_length_of_a_head_that_is_cut_before_its_end(before_end):
     expect_as_modelled(pieces, f"{before_end} bytes before the end")
 
 
+def bodies(framed):
+    """Yields a push for each length of a body."""
+    for length in range(301):
+        state = S1.replace(b"1 ", b"%d" % length)
+        yield framed(state.ljust(length)[:length])
+
+
+@pytest.mark.parametrize("framed", [with_length, in_chunks])
+def test_each_length_of_a_body_in_one_read(framed):
+    expect_as_modelled([piece for whole in bodies(framed) for piece in (whole, request_text("GET", "/state/a"))], framed.__name__)
+
+
 @pytest.mark.parametrize("framed", [with_length, in_chunks])
 def test_each_length_of_a_body_in_two_reads(framed):
     pieces = []
-    for length in range(301):
-        state = S1.replace(b"1 ", b"%d" % length)
-        whole = framed(state.ljust(length)[:length])
+    for whole in bodies(framed):
         body = whole.index(b"\r\n\r\n") + 4
         middle = body + (len(whole) - body) // 2
         pieces += [piece for piece in (whole[:middle], whole[middle:]) if piece] + halves(request_text("GET", "/state/a"))

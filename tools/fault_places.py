@@ -2,10 +2,10 @@
 of a copy as a value, and where a file is emptied or made twice over.
 
 A contract can't distinguish a refused request for memory, or a failed read, from one that was never
-made. So tools/fault_places.txt lists each place that makes such a fault with what it passes on, and
-any other place is reported here. tools/room_requests.py checks the requests themselves. `set_len`,
-`File::create(` and `try_clone` occur nowhere in src/, because no contract says what they do to a
-file."""
+made. So tools/fault_places.txt lists each place that makes such a fault, or notes one for later,
+with what it passes on, and any other place is reported here. tools/room_requests.py checks the
+requests themselves. `set_len`, `File::create(` and `try_clone` occur nowhere in src/, because no
+contract says what they do to a file."""
 import re
 
 from repository import TOP
@@ -14,6 +14,7 @@ PLACES = TOP / "tools" / "fault_places.txt"
 BEFORE = r"(?:\(|return |=> |\| |= )"
 FAULT = re.compile(
     r"\b(?!ErrorKind)\w+::(?:Source|OutOfMemory|NoMemory|SinkFault|SyncFault|NoCopy|NoPlace|JournalFault|JournalStopped|AcceptFault|Lost|Unplaced)\b"
+    r"|\blost = true\b|\breason(?: =|:) None\b"
     rf"|{BEFORE}(?:AllocError|SinkFault|SyncFault|AcceptFault|LentFault|OutOfMemory|NoMemory|NoCopy|NoPlace|JournalFault|JournalStopped)\b"
 )
 CALLS = re.compile(r"\bset_len\b|\bFile::create\(|\btry_clone\b")
@@ -52,7 +53,7 @@ def fault_places():
         name = path.relative_to(TOP / "crates").as_posix()
         for function, line in code_lines(path.read_text(encoding="utf-8")):
             for match in FAULT.finditer(line):
-                key = (name, function, re.sub(f"^{BEFORE}", "", match.group(0)))
+                key = (name, function, re.sub(f"^{BEFORE}", "", match.group(0)).replace(" ", ""))
                 found[key] = found.get(key, 0) + 1
     return found
 

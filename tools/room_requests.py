@@ -1,16 +1,20 @@
 """Finds requests for room in src/ that no machine may grant. A contract can't distinguish a refused
 request from one that asks for too much, so a body that gives up for one length would pass. The room
 of a request is one length, one constant or one name, or a sum of these. In its function nothing is
-multiplied or shifted, no length is compared with a number, and no number is over 32 MiB. Its
-constants are at most 32 MiB."""
+multiplied or shifted, no length is compared with a number, and no number is over 32 MiB. A constant
+is at most 64 KiB, so that what hasn't arrived yet gets no more.
+
+A function that copies or appends, or makes a fault of tools/fault_places.py, picks no length: it
+compares a length only with 0, and whether it is over or under a constant."""
 import re
 
-from fault_places import code_lines, sources
+from fault_places import FAULT, code_lines, sources
 from repository import TOP
 
-MOST = 1 << 25
+MOST, MOST_ROOM = 1 << 25, 1 << 16
 REQUEST = re.compile(r"\b(?:with_capacity|try_reserve|try_reserve_exact|reserve|reserve_exact|resize|repeat)\(|\bvec!\[in ")
 TERM = re.compile(r"1|[A-Za-z_]\w*(?:(?:\.|::)\w+)*(?:\(\w*\))?(?:\.len\(\))?")
+GROWS = re.compile(r"\b(?:from_slice|from_str|extend_from_slice|push_str|push|insert)\(")
 CONSTANT = re.compile(r"\bconst ([A-Z][A-Z0-9_]*): \w+ = ([^;{}]+);")
 NAMES = re.compile(r"\b[A-Z][A-Z0-9_]+\b(?!\.len\(\))")
 PRODUCT = re.compile(r"[\w.)\]]+ (?:\*|<<) \S+|\b\w*(?:mul|pow|shl)\w*\(")
@@ -18,6 +22,8 @@ LENGTH = r"(?:\.len\(\)|\b(?:len|length|count|size)\b)"
 NUMBER = r"(?:\d[\d_]*|[A-Z][A-Z0-9_]+)\b"
 HUGE = re.compile(r"\w*::MAX\b|(?<![\w.])(?:0[xob][\da-fA-F_]+|\d[\d_]*)(?:[ui](?:8|16|32|64|128|size))?\b|!0\b|\bwrapping_\w+|\b[ui]\w+::BITS\b")
 COMPARED = re.compile(rf"{LENGTH} (?:==|!=|<=?|>=?|%) {NUMBER}|\b{NUMBER} (?:==|!=|<=?|>=?) [^&|]*{LENGTH}|\bmatch [^{{]*{LENGTH} \{{|\bmatches!\([^,]*{LENGTH},")
+
+PLAIN = re.compile(r"(?:==|!=) 0$|(?:<=?|>=?) [A-Z][A-Z0-9_]+$|^(?:0 (?:==|!=|<)|[A-Z][A-Z0-9_]+ (?:<=?|>=?)) ")
 
 
 def inner(text, start):
@@ -95,14 +101,17 @@ def wrong_rooms(body, values):
         if not is_plain(room):
             yield f"room for `{room}`, which is no sum of lengths, constants and names"
         for name in NAMES.findall(room):
-            if values.get(name) is None or values[name] > MOST:
-                yield f"room for `{room}`, which is over 32 MiB or unknown"
+            if values.get(name) is None or values[name] > MOST_ROOM:
+                yield f"room for `{room}`, which is over 64 KiB or unknown"
     if found and PRODUCT.search(body):
         yield f"a product beside a request for room: `{PRODUCT.search(body).group()}`"
     if found:
         yield from (f"a number over 32 MiB beside a request for room: `{word}`" for word in HUGE.findall(body) if not is_small(word))
     if found and COMPARED.search(body):
         yield f"a length that is compared with a number beside a request for room: `{COMPARED.search(body).group()}`"
+    elif GROWS.search(body) or FAULT.search(body):
+        picked = (compared.group() for compared in COMPARED.finditer(body))
+        yield from (f"a length that is picked beside a copy or a fault: `{each}`" for each in picked if not PLAIN.search(each))
 
 
 def wrong_requests():

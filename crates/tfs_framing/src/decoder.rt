@@ -81,6 +81,7 @@ impl RequestDecoder {
         ensures memory { OnErr result (HasNoRefusal self.old.bytes) }
         ensures over { self.new.over ≡ lasting result }
         ensures again { IfSome self.old.over (λ last. result ≡ last) }
+        ensures kept { IfSome self.new.over (λ last. self.new.bytes ≡ self.old.bytes) }
     {
         let is_empty = self.is_empty();
         self.room = 0;
