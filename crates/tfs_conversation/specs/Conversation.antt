@@ -47,7 +47,7 @@ abbrev pub Runs : {S : Type 0} → Step S → S → List Exchange → S → Type
 Runs step old [] new = new ≡ old
 Runs {S} step old (x ∷ xs) new = (between : S) × AnswersRequest step old x.request x.reply between × Runs step between xs new
 
--- Exchanges, the bytes after their messages, and any refusal of those bytes.
+-- Exchanges, the bytes after them, and any refusal of those.
 pub record Course : Type 0 where
   pub exchanges : List Exchange
   pub rest : List ℕ
@@ -108,7 +108,7 @@ pub record IsBetween (c : Course) (lost : List ℕ) : Type 0 where
   pub lost_is : lost ≡ []
   pub goes_on : one_asks (requests_of c.exchanges) ≡ false
 
--- The text of the last reply: the closing refusal, or the last request's reply.
+-- The text of the closing refusal, or else the last reply.
 abbrev pub IsLastReply : Course → List ℕ → Type 0
 IsLastReply c text =
     ((refusal : Refusal) × (c.refusal ≡ Some refusal) × (text ≡ refusal_text (Some refusal)))
@@ -122,7 +122,7 @@ ComesAt TooManyReads c lost before after = IsBetween c lost × IsUnfinished c.re
 ComesAt Write c lost before after = (part : List ℕ) × IsLastReply c (part ++ lost) × (lost ≢ [])
 ComesAt NoMemory c lost before after = (IsBetween c lost × HasNoRefusal c.rest) ⊎ IsLastReply c lost
 
--- A conversation broken off by an error: bytes read, and text written, a prefix of the replies.
+-- A conversation broken off by an error; its text is a prefix of the replies.
 pub record BreaksOff {S : Type 0} (step : Step S) (old new : S) (bytes text : List ℕ) (fault : ServeFault)
     (before after : ℕ) : Type 0 where
   pub course : Course

@@ -35,7 +35,7 @@ CallMayLackMemory m (Read name) = state_of (acts_of name m.journal) ≢ None
 CallMayLackMemory m (Impact name query) = (state_of (acts_of name m.journal) ≢ None) × (0 < length query.texts) × (length query.texts ≤ 64)
 CallMayLackMemory m (Change name raw) = TakesNoMemory raw → (act_of raw ≢ None) × (m.stopped ≡ false)
 
--- The model's step over a table. It is refused for lack of memory only if the call may be.
+-- The model's step over a table, refused for lack of memory only if the call may be.
 pub record AnswersCall (old : TableValue) (call : Call) (reply : ReplyValue) (new : TableValue) : Type 0 where
   pub answered : Answers (model_of old) call reply (model_of new)
   pub memory : reply ≡ refused out_of_memory → CallMayLackMemory (model_of old) call

@@ -14,7 +14,7 @@ FailsReading Write before after = ⊥
 FailsReading TooManyReads before after = after ≡ 1048576
 FailsReading NoMemory before after = Unit {0}
 
--- A moment of a conversation: desk, bytes to read, bytes written, read count, and unused input.
+-- A moment: desk, bytes to read, bytes written, read count, and unused input.
 pub record Moment (S : Type 0) : Type 0 where
   pub desk : S
   pub reader : Option (List ℕ)

@@ -27,11 +27,11 @@ length_of_text text = if nat_lt 0 (length text) && list_all is_ascii_digit text
     then (if nat_le (digits_value 10 text) 16777216 then Ok (Sized (digits_value 10 text)) else Err BodyTooLarge)
     else Err BadLength
 
--- Only `chunked` is supported, in any case and in version 1.1 (RFC 9112, section 7).
+-- `chunked` alone, in any case, in version 1.1 (RFC 9112, section 7).
 abbrev pub length_of_coding : ℕ → List ℕ → Result BodyLength Refusal
 length_of_coding minor coding = if minor == 1 && bytes_eq (lower coding) (codes "chunked") then Ok Chunked else Err TransferCoding
 
--- Both kinds of fields, or several lengths, are refused as ambiguous (RFC 9112, section 6.3).
+-- Refuses both kinds, or several lengths, as ambiguous (RFC 9112, section 6.3).
 abbrev pub length_told : ℕ → List (List ℕ) → List (List ℕ) → Result BodyLength Refusal
 length_told minor [] [] = Ok Absent
 length_told minor [] (coding ∷ []) = length_of_coding minor coding
@@ -56,7 +56,7 @@ SpellsBody Absent coded body = (coded ≡ []) × (body ≡ [])
 SpellsBody (Sized size) coded body = (coded ≡ body) × (length body ≡ size)
 SpellsBody Chunked coded body = SpellsChunks coded body
 
--- No body can begin `rest`, because of this flaw.
+-- This flaw lets no body begin `rest`.
 abbrev pub HasBadBody : BodyLength → List ℕ → Flaw → Type 0
 HasBadBody Absent rest flaw = ⊥
 HasBadBody (Sized size) rest flaw = ⊥
@@ -67,7 +67,7 @@ abbrev pub refusal_of : Flaw → Refusal
 refusal_of TooLarge = BodyTooLarge
 refusal_of Unreadable = BadChunk
 
--- No body of this length begins `rest`, and it has no flaw yet.
+-- No such body begins `rest`, and no flaw.
 pub record HasNoBody (size : BodyLength) (rest : List ℕ) : Type 0 where
   pub none : (coded body after : List ℕ) → rest ≡ coded ++ after → ¬ (SpellsBody size coded body)
   pub no_flaw : (flaw : Flaw) → ¬ (HasBadBody size rest flaw)

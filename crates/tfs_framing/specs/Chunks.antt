@@ -46,7 +46,7 @@ pub record IsTrailer (trailer : List ℕ) : Type 0 where
   pub is_head : IsMessageHead (line_feed ∷ trailer)
   pub short : length trailer ≤ 16384
 
--- A chunked body: chunks, a chunk line of size 0, and a trailer.
+-- Chunks, a chunk line of size 0, and a trailer.
 pub record SpellsChunks (coded body : List ℕ) : Type 0 where
   pub chunks : List Chunk
   pub are : AreChunks chunks
@@ -84,7 +84,7 @@ IsFlawBehind count total size after TooLarge = 16777216 < total + size
 IsFlawBehind count total size after Unreadable = (total + size ≤ 16777216)
     × (((0 < size) × (count ≡ 65536)) ⊎ (((0 < size) × (count < 65536) × HasBadEnd size after) ⊎ ((size ≡ 0) × HasLongTrailer after)))
 
--- A bad chunk line after `count` chunks with `total` bytes, or a flaw after a valid one.
+-- A bad chunk line after these chunks, or a flaw after a valid one.
 abbrev pub IsFlawAt : ℕ → ℕ → List ℕ → Flaw → Type 0
 IsFlawAt count total left flaw = ((flaw ≡ Unreadable) × HasBadLine left)
     ⊎ ((line : ChunkLine) × (after : List ℕ) × IsShortLine line × (left ≡ print_chunk_line line ++ after)

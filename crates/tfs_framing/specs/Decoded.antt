@@ -18,7 +18,7 @@ pub record HasPassed (rest : List ℕ) (b : ChunkedBody) (left : List ℕ) : Typ
   pub total_is : b.total ≡ length body
   pub kept : b.body.lost ≡ false → b.body.bytes.items ≡ body
 
--- The outcome of decoding. If it needs more bytes, fewer than 17,408 undecoded ones remain.
+-- The outcome of decoding. If unfinished, fewer than 17,408 undecoded bytes remain.
 abbrev pub IsDecoded : List ℕ → List ℕ → Result Decoded Flaw → Type 0
 IsDecoded rest left (Ok (Decoded.Wanted b size)) = (after : List ℕ) × EndsWith left after × (size ≡ length after) × (size < 17408)
     × HasPassed rest b after × HasNoBody Chunked rest

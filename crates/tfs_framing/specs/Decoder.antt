@@ -22,7 +22,7 @@ pub record DecoderValue : Type 0 where
   pub unused : ℕ
   pub over : Option (Result Received AllocError)
 
--- A request with a body of known length, in a vector with capacity for all of it.
+-- A request with a body of known length, and capacity for all of it.
 pub record IsApart (bytes : List ℕ) (s : SizedBody) (unused : List ℕ) : Type 0 where
   pub opens : Opens bytes (Ok s.request) (Sized s.size) s.body.items
   pub none : unused ≡ []
@@ -62,7 +62,7 @@ HasRoomFor room (Progress.Sized s) spare = length s.body.items + room ≤ s.size
 HasRoomFor room (Progress.Chunks c) spare = room ≤ spare
 HasRoomFor room (Progress.Over o) spare = room ≡ 0
 
--- The result of each further call, if the decoder has ended.
+-- The lasting result of an ended decoder.
 abbrev pub over_of : Progress → Option (Result Received AllocError)
 over_of (Progress.Head search) = None
 over_of (Progress.Sized s) = None
@@ -93,7 +93,7 @@ Comes bytes unused spare progress (Received.Message r) = (used : ℕ) × BeginsW
     × (unused ≡ drop used bytes)
 Comes bytes unused spare progress (Received.Refused refusal) = framing_refusal bytes refusal
 
--- The result, if each further call returns it too.
+-- The result, if it lasts.
 abbrev pub lasting : Result Received AllocError → Option (Result Received AllocError)
 lasting (Ok (Received.More room)) = None
 lasting (Ok (Received.Message r)) = None

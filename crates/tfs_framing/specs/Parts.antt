@@ -26,7 +26,7 @@ pub record HasNoFeedIn (seen : ℕ) (left : List ℕ) : Type 0 where
   pub seen_is : seen ≡ length front
   pub none : (before after : List ℕ) → ¬ (front ≡ before ++ line_feed ∷ after)
 
--- A chunk after `count` chunks with `total` bytes: `seen` has arrived, `lacking` bytes are missing.
+-- A chunk after `count` chunks with `total` bytes: `seen` has arrived, `lacking` bytes haven't.
 pub record IsBegun (count total : ℕ) (line : ChunkLine) (seen : List ℕ) (lacking : ℕ) : Type 0 where
   pub is_line : IsShortLine line
   pub size : chunk_size line ≡ length seen + lacking
@@ -34,7 +34,7 @@ pub record IsBegun (count total : ℕ) (line : ChunkLine) (seen : List ℕ) (lac
   pub few : count < 65536
   pub small : total + chunk_size line ≤ 16777216
 
--- The bytes `rest` are chunks, perhaps a partial one, and `left`; `body` has their decoded bytes.
+-- `rest` is chunks, perhaps a partial one, and `left`; `body` is decoded.
 abbrev pub Stands : List ℕ → List Chunk → List ℕ → Ahead → List ℕ → Type 0
 Stands rest chunks body (Ahead.Line seen) left = (rest ≡ print_chunks chunks ++ left) × (body ≡ joined chunks) × HasNoFeedIn seen left
 Stands rest chunks body (Ahead.Bytes lacking) left = (line : ChunkLine) × (seen : List ℕ)
@@ -54,7 +54,7 @@ pub record IsPassed (rest : List ℕ) (count : ℕ) (body : List ℕ) (ahead : A
 abbrev pub EndsWith : List ℕ → List ℕ → Type 0
 EndsWith bytes end = (front : List ℕ) × (bytes ≡ front ++ end)
 
--- The next part. If more bytes are needed, fewer than 17,408 undecoded ones remain.
+-- The next part. If unfinished, fewer than 17,408 undecoded bytes remain.
 abbrev pub IsPart : List ℕ → ℕ → List ℕ → List ℕ → Result Part Flaw → Type 0
 IsPart rest count body left (Ok (Part.Wanted bytes ahead after)) = EndsWith left after.now × IsPassed rest count (body ++ bytes.now) ahead after.now
     × HasNoBody Chunked rest × (length after.now < 17408)
