@@ -4,8 +4,11 @@ pub mod Reader
 pub mod Change
 pub mod Lookup
 pub mod History
+pub mod Mark
 pub mod Place
 pub mod PlaceView
+pub mod Point
 pub mod Published
+pub mod Since
 pub mod Snapshot
 pub mod Token
