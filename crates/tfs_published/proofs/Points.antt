@@ -7,7 +7,7 @@ use Rattle.logbook.specs.Pages.{Book}
 use Rattle.tfs_records.specs.Format.{header_text, base_text, record_text, journal_text}
 use Rattle.tfs_records.specs.Journal.{EntryValue, Journal, with_entry, position_of}
 use Rattle.tfs_table.specs.Lawful.{IsLawful}
-use Rattle.tfs_published.specs.Mark.{mark_of}
+use Rattle.tfs_table.specs.Mark.{mark_of}
 use Rattle.tfs_published.specs.Change.{ChangeValue, journal_after}
 use Rattle.tfs_published.specs.Point.{IsPoint}
 use Rattle.tfs_published.specs.Token.{TokenValue, token_with}

@@ -8,7 +8,7 @@ use Rattle.logbook.specs.Pages.{Book}
 use Rattle.tfs_rules.specs.History.{state_of}
 use Rattle.tfs_records.specs.Journal.{EntryValue, Journal, with_entry, position_of, acts_of, names_of}
 use Rattle.tfs_table.specs.Lawful.{IsLawful}
-use Rattle.tfs_published.specs.Mark.{mark_of}
+use Rattle.tfs_table.specs.Mark.{mark_of}
 use Rattle.tfs_published.specs.Publisher.{IsPublisher, IsQueue}
 use Rattle.tfs_published.specs.Change.{ChangeValue, journal_after}
 use Rattle.tfs_published.specs.PlaceView.{place_with}
@@ -25,13 +25,12 @@ use Rattle.tfs_published.proofs.Points.{no_changes, point_new, point_more}
 use Rattle.tfs_published.proofs.Taken.{takes_change}
 
 -- If its token and its place are those after a change, an update describes the change.
-tells_change : (book : Book) (opening : Journal) (copy : CopyView) (update : UpdateView) (change : ChangeValue)
-    → StandsFor book opening copy → update.token ≡ token_with copy.token change
-    → update.place ≡ place_with change.entry.name change.state
-    → slice_get (names_of (with_entry (journal_after opening copy.token.changes) change.entry)) update.number ≡ Some change.entry.name → update.number < 1024
+tells_change : (book : Book) (opening : Journal) (copy : CopyView) (update : UpdateView) (change : ChangeValue) → StandsFor book opening copy
+    → update.place ≡ place_with change.entry.name change.state → update.number < 1024 → update.token ≡ token_with copy.token change
+    → slice_get (names_of (with_entry (journal_after opening copy.token.changes) change.entry)) update.number ≡ Some change.entry.name
     → change.state ≡ state_of (acts_of change.entry.name (with_entry (journal_after opening copy.token.changes) change.entry))
     → IsLawful (with_entry (journal_after opening copy.token.changes) change.entry) → TellsChange opening copy update change
-tells_change book opening copy update change stands next place number inside state lawful = record {
+tells_change book opening copy update change stands place inside next number state lawful = record {
   point = subst (λ (b : Book). IsPoint b opening update.token) (sym stands.point.same_book)
       (subst (λ (t : TokenValue). IsPoint book opening t) (sym next) (point_more book opening copy.token change stands.point lawful));
   changes = ap (λ (t : TokenValue). t.changes) next;
@@ -82,13 +81,11 @@ publisher_staged book opening newest token shown before after update change publ
     let stands : StandsFor book opening shown = subst (λ (c : CopyView). StandsFor book opening c) same publisher.stands in
     let lawful = entered (publisher_point book opening newest None (Some shown) (Some before) publisher).lawful in
     let tells : TellsChange opening shown update change =
-    subst (λ (t : TokenValue). t ≡ shown.token
-    → update.token ≡ token_with t change
+    subst (λ (t : TokenValue). update.token ≡ token_with t change
     → slice_get (names_of (with_entry (journal_after opening t.changes) change.entry)) update.number ≡ Some change.entry.name
     → change.state ≡ state_of (acts_of change.entry.name (with_entry (journal_after opening t.changes) change.entry))
     → IsLawful (with_entry (journal_after opening t.changes) change.entry) → TellsChange opening shown update change) newest_is
-    (λ here next_is number_is state_is lawful_is. tells_change book opening shown update change stands next_is place number_is inside state_is lawful_is)
-    (sym newest_is) (next ∙ more) number state lawful in
+    (tells_change book opening shown update change stands place inside) (next ∙ more) number state lawful in
     record {
       copy = shown;
       shows = refl;

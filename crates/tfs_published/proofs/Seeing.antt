@@ -39,7 +39,7 @@ later_reaches book opening changes name (Some since) earlier token is point begi
       point = point;
       begins = prefix_itself earlier.changes;
       same = sym (unchanged_between opening since.changes earlier.changes changes name is.1
-      (prefix_shorter since.changes earlier.changes changes is.1.begins begins stays.0) begins);
+          (prefix_shorter since.changes earlier.changes changes is.1.begins begins stays.0) begins);
     })
 later_reaches book opening changes name (Some since) earlier token is point begins (inr goes) =
     let longer : length earlier.changes < length since.changes = goes.0 in

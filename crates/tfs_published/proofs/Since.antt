@@ -70,7 +70,7 @@ unchanged_absent opening changes name none =
     let all : length (acts_of name (journal_after opening changes)) ≡ 0 = ap length none in record {
       begins = (changes, refl);
       same = sym (prefix_whole (acts_of name (journal_after opening [])) (acts_of name (journal_after opening changes))
-      (acts_prefix opening [] changes name (changes, refl)) (omega (arith, all)));
+          (acts_prefix opening [] changes name (changes, refl)) (omega (arith, all)));
     }
 
 -- A change of another name leaves a name unchanged.

@@ -4,7 +4,6 @@ pub mod Reader
 pub mod Change
 pub mod Lookup
 pub mod History
-pub mod Mark
 pub mod Place
 pub mod PlaceView
 pub mod Point

@@ -3,7 +3,7 @@ use Rattle.std.specs.Prelude.{◌≡◌, ◌≤◌}
 use Rattle.logbook.specs.Pages.{Book}
 use Rattle.tfs_records.specs.Journal.{Journal, position_of}
 use Rattle.tfs_table.specs.Lawful.{IsLawful}
-use Rattle.tfs_published.specs.Mark.{mark_of}
+use Rattle.tfs_table.specs.Mark.{mark_of}
 use Rattle.tfs_published.specs.Change.{journal_after}
 use Rattle.tfs_published.specs.Token.{TokenValue}
 

@@ -4,7 +4,7 @@ ghost use Rattle.std.specs.Prelude.{◌≡◌, ◌⊎◌, ◌≤◌, ◌<◌, �
 ghost use mathlib.Core.List.{IsPrefix};
 ghost use Rattle.tfs_records.specs.Journal.{position_of};
 ghost use Rattle.tfs_table.specs.Lawful.{IsLawful};
-ghost use Rattle.tfs_published.specs.Mark.{mark_of};
+ghost use Rattle.tfs_table.specs.Mark.{mark_of};
 ghost use Rattle.tfs_published.specs.Beginning.{BeginsWith};
 ghost use Rattle.tfs_published.specs.Change.{journal_after, makers_of};
 ghost use Rattle.tfs_published.specs.Point.{IsPoint};

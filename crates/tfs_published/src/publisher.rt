@@ -78,7 +78,7 @@ impl<J: Naming> Publisher<J> {
         ensures journal { IfOk result (λ publisher. (publisher.journal ≡ J.opening) × (publisher.makers ≡ [])) }
         ensures idle { IfOk result (λ publisher. publisher.next ≡ None) }
     {
-        let (history, newest) = opened.into_named::<J>(table.position(), u64::MAX);
+        let (history, newest) = opened.into_named::<J>(table.position(), table.mark());
         let first = Published::of(alloc, table, &newest)?;
         let second = match Published::of(alloc, table, &newest) {
             Ok(second) => second,

@@ -4,7 +4,7 @@ ghost use Rattle.std.specs.Prelude.{◌≡◌, ◌⊎◌, ◌≤◌, ◌<◌, �
 ghost use Rattle.tfs_rules.specs.History.{state_of};
 ghost use Rattle.tfs_records.specs.Journal.{position_of, acts_of};
 ghost use Rattle.tfs_table.specs.Lawful.{IsLawful};
-ghost use Rattle.tfs_published.specs.Mark.{mark_of};
+ghost use Rattle.tfs_table.specs.Mark.{mark_of};
 ghost use Rattle.tfs_published.specs.Beginning.{BeginsWith};
 ghost use mathlib.Core.List.{IsPrefix};
 ghost use Rattle.tfs_published.specs.Lookup.{IsLookup};

@@ -97,7 +97,7 @@ impl Token {
         Some(Token {
             count: count + 1,
             position: self.position + 1,
-            mark: self.mark.saturating_add(text_length(ready)),
+            mark: self.mark.saturating_add(ready.record_len() as u64),
             seen,
         })
     }
@@ -126,10 +126,4 @@ pub(crate) fn start(seen: Seen<Change, u64, Law>, position: u64, mark: u64) -> T
         mark,
         seen,
     }
-}
-
-fn text_length(ready: &Ready) -> u64
-    ensures value { result ≡ length (record_text ready.now.entry) }
-{
-    0
 }
