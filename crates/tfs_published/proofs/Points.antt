@@ -1,13 +1,12 @@
 -- Lemmas about the tokens of a table.
-use Rattle.std.proofs.Common.{◌≡◌, ◌+◌, ◌≤◌, ℕ, List, [], ◌∷◌, ◌++◌, length, min, map, sym, ◌∙◌, ap, subst, append_assoc, append-nil, length-append, refl, arith}
-use Rattle.std.specs.List.{flat_map}
+use Rattle.std.proofs.Common.{◌≡◌, ◌+◌, ◌≤◌, ℕ, List, [], ◌∷◌, ◌++◌, length, min, map, sym, ◌∙◌, ap, subst, append_assoc, append-nil, length-append, arith}
 use Rattle.std.proofs.lemmas.List.{map-append}
-use Rattle.std.proofs.lemmas.Grind.{flat_map-append}
 use Rattle.logbook.specs.Pages.{Book}
-use Rattle.tfs_records.specs.Format.{header_text, base_text, record_text, journal_text}
+use Rattle.tfs_records.specs.Format.{record_text, journal_text}
 use Rattle.tfs_records.specs.Journal.{EntryValue, Journal, with_entry, position_of}
 use Rattle.tfs_table.specs.Lawful.{IsLawful}
 use Rattle.tfs_table.specs.Mark.{mark_of}
+use Rattle.tfs_table.proofs.TableLemmas.{text_more}
 use Rattle.tfs_published.specs.Change.{ChangeValue, journal_after}
 use Rattle.tfs_published.specs.Point.{IsPoint}
 use Rattle.tfs_published.specs.Token.{TokenValue, token_with}
@@ -25,28 +24,13 @@ journal_after_more opening changes change =
 pub no_changes : (opening : Journal) → journal_after opening [] ≡ opening
 no_changes opening = ap (λ (es : List EntryValue). record { base = opening.base; entries = es }) (append-nil opening.entries)
 
--- One more entry adds its record's length to the length of the journal's text.
-text_more : (j : Journal) (e : EntryValue) → length (journal_text (with_entry j e)) ≡ length (journal_text j) + length (record_text e)
-text_more j e =
-    let records = flat_map record_text in
-    let more : length (records (j.entries ++ e ∷ [])) ≡ length (records j.entries) + length (record_text e) =
-    ap length (flat_map-append record_text j.entries (e ∷ []))
-    ∙ (length-append (records j.entries) (records (e ∷ []))
-    ∙ ap (λ (bytes : List ℕ). length (records j.entries) + length bytes) (append-nil (record_text e))) in
-    omega (
-      arith,
-      more,
-      length-append (header_text 2) (base_text j.base ++ records (j.entries ++ e ∷ [])),
-      length-append (base_text j.base) (records (j.entries ++ e ∷ [])),
-      length-append (header_text 2) (base_text j.base ++ records j.entries),
-      length-append (base_text j.base) (records j.entries),
-    )
-
 -- A bound of the mark of a journal, with the length of one more record added, is a bound of the
 -- mark of the journal with that record.
 mark_more : (j : Journal) (e : EntryValue) (mark : ℕ) → mark_of j ≤ mark
     → mark_of (with_entry j e) ≤ min (mark + length (record_text e)) 18446744073709551615
-mark_more j e mark least = omega (arith, least, text_more j e)
+mark_more j e mark least =
+    let sizes = ap length (text_more j e) ∙ length-append (journal_text j) (record_text e) in
+    omega (arith, least, sizes)
 
 -- If the journal after one more change is lawful, a token with one more change is one of the table.
 pub point_more : (book : Book) (opening : Journal) (token : TokenValue) (change : ChangeValue) → IsPoint book opening token

@@ -1,6 +1,6 @@
 -- Lemmas: what is read in a copy is read over the journal that it represents, or over a shorter one
 -- that has all changes of the name.
-use Rattle.std.proofs.Common.{◌≡◌, ◌<◌, ◌≤◌, ℕ, List, [], length, Option, Some, None, IfSome, refl, sym, ◌∙◌, ap, subst, arith, inl, inr}
+use Rattle.std.proofs.Common.{◌≡◌, ◌<◌, ℕ, List, [], length, Option, Some, None, IfSome, refl, sym, subst, arith, inl, inr}
 use mathlib.Core.List.{IsPrefix}
 use Rattle.logbook.specs.Pages.{Book}
 use Rattle.tfs_rules.specs.History.{History, state_of}

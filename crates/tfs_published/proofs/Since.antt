@@ -1,29 +1,28 @@
 -- Lemmas: how long names are unchanged.
-use Rattle.std.proofs.Common.{◌≡◌, ◌≢◌, ◌≤◌, ◌<◌, ◌+◌, ℕ, nat_eq, true, false, List, [], ◌∷◌, ◌++◌, length, map, filter, set, get_or, slice_get, Bool}
+use Rattle.std.proofs.Common.{◌≡◌, ◌≢◌, ◌≤◌, ◌+◌, ℕ, nat_eq, true, false, List, [], ◌∷◌, ◌++◌, length, map, filter, set, get_or, slice_get, Bool}
 use Rattle.std.proofs.Common.{Option, Some, None, refl, sym, ◌∙◌, ap, subst, arith, append_assoc, append-nil, length-append}
 use Rattle.std.specs.List.{flat_map}
 use Rattle.std.specs.Str.{bytes_eq}
 use Rattle.std.proofs.lemmas.Bool.{eq-eqb, eqb-true}
 use Rattle.std.proofs.lemmas.Grind.{get_or-set_at}
-use Rattle.std.proofs.lemmas.List.{map-append, length-set, get_or-set_other, length-replicate, get_or-replicate}
+use Rattle.std.proofs.lemmas.List.{map-append, length-set, get_or-set_other}
 use Rattle.std.proofs.lemmas.List.Elements.{filter-append}
 use mathlib.Core.List.{IsPrefix}
 use Rattle.logbook.specs.Pages.{Book}
 use Rattle.tfs_rules.specs.Act.{ActValue}
-use Rattle.tfs_rules.specs.History.{History}
 use Rattle.tfs_records.specs.Journal.{EntryValue, Journal, with_entry, opening_acts, entry_acts, acts_of, names_of}
 use Rattle.tfs_records.proofs.JournalLemmas.{acts_of_other}
 use Rattle.tfs_published.specs.Change.{ChangeValue, journal_after}
 use Rattle.tfs_published.specs.Point.{IsPoint}
 use Rattle.tfs_published.specs.Published.{updated, TellsChange, AreSince}
-use Rattle.tfs_published.specs.Since.{IsUnchanged, IsSince, IsLater}
+use Rattle.tfs_published.specs.Since.{IsUnchanged, IsSince}
 use Rattle.tfs_published.specs.Token.{TokenValue}
 use Rattle.tfs_published.specs.declared.view.CopyView.{CopyView}
 use Rattle.tfs_published.specs.declared.view.UpdateView.{UpdateView}
 use Rattle.tfs_published.proofs.Beginnings.{later_begins}
 use Rattle.tfs_published.proofs.Places.{names_elsewhere, other_name}
 use Rattle.tfs_published.proofs.Points.{journal_after_more}
-use Rattle.tfs_published.proofs.Prefixes.{prefix_shorter, prefix_whole}
+use Rattle.tfs_published.proofs.Prefixes.{prefix_whole}
 
 -- More entries add their acts on a name to its history.
 acts_of_all : (name : List ℕ) (j : Journal) (more : List EntryValue)

@@ -196,7 +196,6 @@ impl<J: Naming> Publisher<J> {
     /// in the previous copy.
     pub fn publish<R: Wait>(&mut self, rt: &R, number: usize)
         requires number { number < 1024 }
-        requires room { position_of self.old.journal < 9223372036854775808 }
         ensures journal { IfSome self.old.next (λ next. self.new.journal ≡ next) }
         ensures makers { IfSome self.old.next_makers (λ next. self.new.makers ≡ next) }
         ensures idle { self.new.next ≡ None }

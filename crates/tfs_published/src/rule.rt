@@ -19,7 +19,8 @@ use std::marker::PhantomData;
 use std::sync::Wait;
 use tfs_rules::Name;
 
-/// The rule: a published copy represents the journal of its token, and knows each name's last change.
+/// The rule: a published copy represents the journal of its token, and has the token of each name's
+/// last change.
 pub struct Follows<J: Naming>(PhantomData<J>);
 
 impl<J: Naming> Protocol<Published, ()> for Follows<J> {

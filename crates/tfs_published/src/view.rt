@@ -16,7 +16,7 @@ pub struct CopyView {
     pub token: Token,
 }
 
-/// The contents of an update: the number of a place and what is put there, and the token afterwards.
+/// The contents of an update: the number of a place, what is put there, and the token afterwards.
 pub struct UpdateView {
     pub number: usize,
     pub place: PlaceView,

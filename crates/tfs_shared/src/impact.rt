@@ -47,8 +47,8 @@ impl<J: Naming> Session<J> {
     }
 
     /// Answers an impact query as `impact` does, if this number of bytes of the journal is synced.
-    /// If the snapshot's mark isn't synced, the answer is over no more than the session had seen and
-    /// the last change of the name, and so it waits for no sync of changes of other names.
+    /// If the snapshot's mark isn't synced, the answer is over a shorter journal, which ends with
+    /// what the session had seen or with the name's last change.
     ///
     /// # Errors
     ///

@@ -32,10 +32,9 @@ impl<J: Naming> Session<J> {
         self.published_state_within(name, u64::MAX)
     }
 
-    /// Returns the state of a name as `published_state` does, if this number of bytes of the journal
-    /// is synced. If the snapshot's mark isn't synced, the answer is over no more than the session
-    /// had seen and the last change of the name, and so it waits for no sync of changes of other
-    /// names.
+    /// Returns the state of a name as `published_state` does, if this number of bytes of the
+    /// journal is synced. If the snapshot's mark isn't synced, the answer is over a shorter
+    /// journal, which ends with what the session had seen or with the name's last change.
     pub fn published_state_within(
         &mut self,
         name: &Name,

@@ -287,8 +287,8 @@ impl<J: Naming> Session<J> {
 
     /// Looks up a name in a snapshot that begins with all that the session has seen, if this number
     /// of bytes is synced. Afterwards the session has seen the journal of the snapshot if its mark
-    /// is synced, and otherwise no more than it had seen and the last change of the name. Never
-    /// waits. Returns `None`, and nothing changes, if no such snapshot is handed out.
+    /// is synced; otherwise no more than it had seen and the last change of the name. Never waits.
+    /// Returns `None`, and nothing changes, if no such snapshot is handed out.
     #[tactic(auto, using(crate::proofs::Signing::signs_none, crate::proofs::Signing::signs_nothing))]
     pub(crate) fn look_within(&mut self, name: &Name, synced: u64) -> Option<Lookup>
         ensures found { IfSome result (λ lookup. IsLookup lookup (state_of (acts_of name.now self.new.journal))) }

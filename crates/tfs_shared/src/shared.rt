@@ -12,8 +12,8 @@ use tfs_published::{Naming, Point};
 use tfs_records::Sink;
 use tfs_table::Table;
 
-/// A table under one lock, the newest point that replies have reported, under a lock of its own, and
-/// the position at which the table was opened. Contracts see the number of its sessions.
+/// A table under one lock, the newest point that replies have reported under another, and the
+/// position at which the table was opened. Contracts see the number of its sessions.
 pub struct Shared<J: Naming, K: Sink> {
     pub(crate) alloc: Global,
     pub(crate) locked_state: Mutex<LockedState<J, K>>,
@@ -93,8 +93,8 @@ impl<J: Naming, K: Sink> Shared<J, K> {
         self.locked_state.lock(rt)
     }
 
-    /// Records that replies have reported a point, unless they have reported a later one. Waits only
-    /// for calls of this function and of `told`.
+    /// Records that replies have reported a point, unless they have reported a later one. Waits
+    /// only for calls of this function and of `told`.
     pub(crate) fn tell<R: Wait>(&self, rt: &R, point: &Point<J>) {
         let mut told = self.told.lock(rt);
         told.advance(point);

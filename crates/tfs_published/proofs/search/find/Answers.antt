@@ -1,5 +1,5 @@
 -- The number is the name's, and the result is the state that the acts of the name leave.
-use Rattle.std.proofs.Common.{sym, subst, ap, ◌∙◌, IfSome}
+use Rattle.std.proofs.Common.{sym, subst, ap, IfSome}
 use Rattle.tfs_rules.specs.History.{state_of}
 use Rattle.tfs_published.specs.Lookup.{IsLookup}
 use Rattle.tfs_published.specs.Place.{place_view}

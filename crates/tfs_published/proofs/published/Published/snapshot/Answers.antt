@@ -1,5 +1,5 @@
 -- The snapshot has the token that is due and the state of the copy.
-use Rattle.std.proofs.Common.{ℕ, List, ap, refl, subst, ◌∙◌}
+use Rattle.std.proofs.Common.{ℕ, List, ap, refl, subst}
 use Rattle.tfs_rules.specs.History.{state_of}
 use Rattle.tfs_records.specs.Journal.{acts_of}
 use Rattle.tfs_published.specs.Lookup.{IsLookup}
