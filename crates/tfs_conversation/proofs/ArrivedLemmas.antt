@@ -4,8 +4,8 @@ use Rattle.std.specs.Io.KnownBytes.{Consumes, Keeps}
 use Rattle.tfs_framing.specs.Request.{RequestValue}
 use Rattle.tfs_framing.specs.Framing.{BeginsWith, IsUnfinished}
 use Rattle.tfs_framing.proofs.MessageLemmas.{frame_is_no_empty_text, rest_behind}
-use Rattle.tfs_conversation.specs.Arrived.{Arrives, ArrivesOrStays, BreaksThere, EndsSo, EndsThere}
-use Rattle.tfs_conversation.specs.Conversation.{ComesInReads, IsReadThrough}
+use Rattle.tfs_conversation.specs.Arrived.{Arrives, ArrivesOrStays, EndsSo, EndsThere}
+use Rattle.tfs_conversation.specs.Conversation.{BreaksThere, ComesInReads, IsReadThrough}
 use Rattle.tfs_conversation.specs.Turns.{work_left}
 use Rattle.tfs_conversation.specs.declared.input.Arrived.{Arrived}
 use Rattle.tfs_conversation.specs.declared.ended.Ended.{Ended}

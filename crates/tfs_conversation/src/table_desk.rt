@@ -9,7 +9,7 @@ ghost use Rattle.tfs_conversation.specs.Conversation.{ComesInReads, Converses, B
 ghost use Rattle.tfs_conversation.specs.Desk.{AnswersCall};
 ghost use Rattle.tfs_http.specs.Lent.{TellsReader, TellsWriter};
 
-use crate::conversation::{Desk, converse};
+use crate::desk::{Desk, converse};
 use crate::ended::Ended;
 use crate::reads::Reads;
 use json::Scratch;

@@ -1,7 +1,7 @@
 -- The list gets one more text: the bytes written to the connection, or no bytes if there was no
 -- connection.
 use Rattle.std.proofs.Common.{List, ℕ, sym, subst}
-use Rattle.tfs_conversation.specs.Conversation.{HasTalked}
+use Rattle.tfs_conversation.specs.Conversation.{HasTalked, Plainly}
 use Rattle.tfs_conversation.proofs.StepLemmas.{talked_nothing}
 use Rattle.tfs_connections.proofs.reception.Reception.converse.Goals as goal
 use Rattle.tfs_connections.proofs.reception.Reception.converse.Goals.{in-Ok, in-Err}
@@ -16,6 +16,6 @@ returns-clause-talked g c = (
     | in-Err w ↦ subst (λ d. HasTalked g.D.Desk.step c.args.desk.now d c.match-next.text.0.bytes) (sym w.desk-is)
         (subst (λ t. HasTalked g.D.Desk.step c.args.desk.now c.args.desk.now t.0.bytes) (sym w.text-is)
         (subst (λ (text : List ℕ). HasTalked g.D.Desk.step c.args.desk.now c.args.desk.now text) (sym w.new.ensures)
-        (talked_nothing g.D.Desk.step c.args.desk.now)))
+        (talked_nothing (Plainly g.D.Desk.step) c.args.desk.now)))
   ],
 )

@@ -1,9 +1,10 @@
 -- The message that a decoder returns is the next input. If it returns none, the bytes read follow
 -- the earlier ones.
-use Rattle.std.proofs.Common.{◌≡◌, ℕ, List, [], ◌++◌, drop, refl, sym, ◌∙◌, ap, subst, inl, inr, arith, append-nil}
+use Rattle.std.proofs.Common.{◌≡◌, ℕ, List, [], ◌++◌, drop, sym, ◌∙◌, ap, subst, arith, append-nil}
 use Rattle.tfs_framing.specs.Decoder.{Gives, HasNoRefusal}
 use Rattle.tfs_framing.specs.Framing.{BeginsWith, IsUnfinished, framing_refusal}
 use Rattle.tfs_conversation.proofs.ArrivedLemmas.{ends_so, kept_nothing, no_reads, nothing_read, one_read, what_comes}
+use Rattle.tfs_conversation.proofs.FaultLemmas.{reading_breaks}
 use Rattle.tfs_conversation.proofs.IoLemmas.{comes_nothing, consumes_nothing}
 use Rattle.tfs_conversation.proofs.input.Input.arrive.Goals as goal
 use Rattle.tfs_conversation.proofs.input.Input.arrive.Goals.{in-Ok-eq0, in-Ok, in-Err-read_on}
@@ -35,7 +36,7 @@ returns-in-Err-clause-bytes g c = (
   consumes_nothing _,
   comes_nothing _,
   tt,
-  inr (refl, subst HasNoRefusal (c.self.view_is ∙ sym (append-nil c.args.self.now)) c.in-Err.ensures.memory),
+  subst HasNoRefusal (c.self.view_is ∙ sym (append-nil c.args.self.now)) c.in-Err.ensures.memory,
 )
 
 pub returns-clause-bytes : goal.returns-clause-bytes
@@ -70,7 +71,7 @@ returns-clause-bytes g c =
           (let same = c.self.view_is ∙ sym (append-nil c.args.self.now) in
           let fault = w.in-Err-read_on.ensures.fault in
           let comes = what_comes (c.args.self.now ++ []) new c.args.reads.now c.read_on.new.reads c.match-read_on.result _ w.result-is
-          (tt, inl (subst IsUnfinished same told.0, fault.1)) in
+          (tt, reading_breaks _ _ _ _ (subst IsUnfinished same told.0) fault.1) in
           ([], kept_nothing _ _ w.in-Err-read_on.ensures.kept.1, no_reads _ _ fault.0, comes.0, comes.1))
     ]
 
