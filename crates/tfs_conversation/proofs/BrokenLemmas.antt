@@ -2,7 +2,6 @@
 use Rattle.std.proofs.Common.{◌≡◌, ◌⊎◌, ℕ, true, List, [], ◌∷◌, ◌++◌, drop, Option, Some, None}
 use Rattle.std.proofs.Common.{refl, sym, ap, ◌∙◌, inl, inr}
 use Rattle.std.proofs.Common.{append-nil}
-use Rattle.std.specs.Io.KnownBytes.{Consumes}
 use Rattle.tfs_calls.specs.declared.refusal.Refusal.{Refusal}
 use Rattle.tfs_calls.specs.Refusal.{refusal_value}
 use Rattle.tfs_calls.specs.Reply.{refused}
@@ -16,12 +15,13 @@ use Rattle.tfs_http.specs.Lent.{WritesPart}
 use Rattle.tfs_http.specs.declared.fault.ServeFault.{ServeFault}
 use Rattle.tfs_http.specs.declared.fault.ServeFault.TheVariants.{Write}
 use Rattle.tfs_conversation.proofs.CourseLemmas.{closing_form, course_of, takes_none, takes_refusal, takes_one}
+use Rattle.tfs_conversation.proofs.IoLemmas.{Known, Returns}
 use Rattle.tfs_conversation.proofs.ConversationLemmas.{moves_reading, moves_writing}
 
 module _ {S : Type 0} (step : Step S) where
   -- An error between messages, while reading or for lack of memory, breaks the conversation off.
-  pub broken_between : (desk : S) (from reader writer : Option (List ℕ)) (before after : ℕ) (input left more : List ℕ) (fault : ServeFault)
-      → Consumes from reader more → ComesInReads more before after → BreaksThere (input ++ more) fault before after
+  pub broken_between : (desk : S) (from reader : Known) (writer : Option (List ℕ)) (before after : ℕ) (input left more : List ℕ) (fault : ServeFault)
+      → Returns from reader more → ComesInReads more before after → BreaksThere (input ++ more) fault before after
       → HasBroken step (moment desk from writer before input) (moment desk reader writer after left) fault
   broken_between desk from reader writer before after input left more fault consumed came breaks =
       moves_reading desk desk from reader writer before after input left more _ consumed came (record {
@@ -35,7 +35,7 @@ module _ {S : Type 0} (step : Step S) where
 
   -- An error while a reply is written breaks the conversation off. So does a withheld reply, of
   -- which nothing is written.
-  pub broken_answering : (old new : S) (reader into writer : Option (List ℕ)) (reads : ℕ) (input left : List ℕ) (r : RequestValue) (used : ℕ)
+  pub broken_answering : (old new : S) (reader : Known) (into writer : Option (List ℕ)) (reads : ℕ) (input left : List ℕ) (r : RequestValue) (used : ℕ)
       (reply : Said) (fault : ServeFault) → BeginsWith input r used → left ≡ drop used input → AnswersRequest step old r reply new
       → (w : WritesPart into writer (said_text reply (form_of r)) fault) → (is_open reply ≡ true) ⊎ ((fault ≡ Write) × (w.part ≡ []))
       → HasBroken step (moment old reader into reads input) (moment new reader writer reads left) fault
@@ -64,7 +64,7 @@ module _ {S : Type 0} (step : Step S) where
       by (inr p) = inr (refl, (p.0, sym (w.split ∙ ap (λ (t : List ℕ). t ++ w.rest) p.1), refl))
 
   -- An error while the closing refusal is written breaks the conversation off.
-  pub broken_refusing : (desk : S) (reader into writer : Option (List ℕ)) (reads : ℕ) (input left : List ℕ) (refusal : Refusal) (fault : ServeFault)
+  pub broken_refusing : (desk : S) (reader : Known) (into writer : Option (List ℕ)) (reads : ℕ) (input left : List ℕ) (refusal : Refusal) (fault : ServeFault)
       → framing_refusal input refusal → WritesPart into writer (reply_text (refused (refusal_value refusal)) closing_form) fault
       → HasBroken step (moment desk reader into reads input) (moment desk reader writer reads left) fault
   broken_refusing desk reader into writer reads input left refusal fault is w =

@@ -2,7 +2,7 @@
 use Rattle.std.proofs.Common.{◌≡◌, ℕ, Bool, true, false, List, [], ◌∷◌, ◌++◌, drop, Option, Some, None, IfSome, if◌then◌else◌}
 use Rattle.std.proofs.Common.{refl, sym, ◌∙◌, ap, subst, inl, inr}
 use Rattle.std.proofs.Common.{append_assoc, append-nil}
-use Rattle.std.specs.Io.KnownBytes.{Appends, Consumes}
+use Rattle.std.specs.Io.KnownBytes.{Appends}
 use Rattle.tfs_calls.specs.declared.refusal.Refusal.{Refusal}
 use Rattle.tfs_calls.specs.Refusal.{refusal_value}
 use Rattle.tfs_calls.specs.Reply.{refused}
@@ -18,7 +18,7 @@ use Rattle.tfs_conversation.specs.Turns.{Moment, moment, Moves, Went, HasEnded, 
 use Rattle.tfs_http.specs.declared.fault.ServeFault.{ServeFault}
 use Rattle.tfs_conversation.specs.declared.ended.Ended.{Ended}
 use Rattle.tfs_conversation.specs.declared.ended.Ended.TheVariants.{Asked, Refused}
-use Rattle.tfs_conversation.proofs.IoLemmas.{consumes_more, consumes_nothing, comes_more, comes_nothing}
+use Rattle.tfs_conversation.proofs.IoLemmas.{Known, Returns, returns_more, returns_nothing, comes_more, comes_nothing}
 use Rattle.tfs_http.proofs.OutputLemmas.{appends_more, appends_nothing}
 use Rattle.tfs_conversation.proofs.CourseLemmas.{closing_form, course_of, replies_text, later, later_text, replies_then, asked_behind, open_then, stop_later, takes_then, takes_none, takes_refusal, takes_one}
 use Rattle.tfs_conversation.proofs.FaultLemmas.{comes_later}
@@ -26,28 +26,31 @@ use Rattle.tfs_conversation.proofs.FaultLemmas.{comes_later}
 -- What was read and written in two steps was read and written in both together.
 pub moves_then : {S : Type 0} (a b c : Moment S) (P Q R : List ℕ → List ℕ → Type 0) (w : Moves a b P) (v : Moves b c Q)
     → R (a.input ++ (w.more ++ v.more)) (w.text ++ v.text) → Moves a c R
-moves_then a b c P Q R w v does = record {
-  more = w.more ++ v.more;
-  text = w.text ++ v.text;
-  consumed = consumes_more a.reader b.reader c.reader w.more v.more w.consumed v.consumed;
-  appended = appends_more a.writer b.writer c.writer w.text v.text w.appended v.appended;
-  came = comes_more w.more v.more a.reads b.reads c.reads w.came v.came;
-  does = does;
-}
+moves_then a b c P Q R w v does =
+    let read = returns_more a.reader b.reader c.reader w.more v.more (w.consumed, w.taken) (v.consumed, v.taken) in
+    record {
+      more = w.more ++ v.more;
+      text = w.text ++ v.text;
+      consumed = read.0;
+      taken = read.1;
+      appended = appends_more a.writer b.writer c.writer w.text v.text w.appended v.appended;
+      came = comes_more w.more v.more a.reads b.reads c.reads w.came v.came;
+      does = does;
+    }
 
 -- Bytes were read, and nothing was written.
-pub moves_reading : {S : Type 0} (desk new : S) (from reader writer : Option (List ℕ)) (before after : ℕ) (input left more : List ℕ)
-    (P : List ℕ → List ℕ → Type 0) → Consumes from reader more → ComesInReads more before after → P (input ++ more) []
+pub moves_reading : {S : Type 0} (desk new : S) (from reader : Known) (writer : Option (List ℕ)) (before after : ℕ) (input left more : List ℕ)
+    (P : List ℕ → List ℕ → Type 0) → Returns from reader more → ComesInReads more before after → P (input ++ more) []
     → Moves (moment desk from writer before input) (moment new reader writer after left) P
 moves_reading desk new from reader writer before after input left more P consumed came does =
-    record { more = more; text = []; consumed = consumed; appended = appends_nothing writer; came = came; does = does }
+    record { more = more; text = []; consumed = consumed.0; taken = consumed.1; appended = appends_nothing writer; came = came; does = does }
 
 -- A text was written, and nothing was read.
-pub moves_writing : {S : Type 0} (desk new : S) (reader into writer : Option (List ℕ)) (reads : ℕ) (input left text : List ℕ)
+pub moves_writing : {S : Type 0} (desk new : S) (reader : Known) (into writer : Option (List ℕ)) (reads : ℕ) (input left text : List ℕ)
     (P : List ℕ → List ℕ → Type 0) → Appends into writer text → P (input ++ []) text
     → Moves (moment desk reader into reads input) (moment new reader writer reads left) P
 moves_writing desk new reader into writer reads input left text P appended does =
-    record { more = []; text = text; consumed = consumes_nothing reader; appended = appended; came = comes_nothing reads; does = does }
+    record { more = []; text = text; consumed = (returns_nothing reader).0; taken = (returns_nothing reader).1; appended = appended; came = comes_nothing reads; does = does }
 
 -- If the conversation continues after a reply, the request didn't ask to close.
 pub not_asked : (asks : Bool) (end : Option Ended) → end ≡ (if asks then Some Asked else None) → end ≡ None → asks ≡ false
@@ -115,8 +118,8 @@ module _ {S : Type 0} (step : Step S) where
   -- ---- the turns
 
   -- If bytes are read, the conversation continues.
-  pub went_reading : (desk : S) (from reader writer : Option (List ℕ)) (before after : ℕ) (input left more : List ℕ) → left ≡ input ++ more
-      → Consumes from reader more → ComesInReads more before after → Went step (moment desk from writer before input) (moment desk reader writer after left)
+  pub went_reading : (desk : S) (from reader : Known) (writer : Option (List ℕ)) (before after : ℕ) (input left more : List ℕ) → left ≡ input ++ more
+      → Returns from reader more → ComesInReads more before after → Went step (moment desk from writer before input) (moment desk reader writer after left)
   went_reading desk from reader writer before after input left more is consumed came =
       moves_reading desk desk from reader writer before after input left more _ consumed came
       (record { exchanges = []; takes = takes_none step desk (input ++ more) left (sym is); goes_on = refl; opened = tt; text_is = refl })
@@ -124,10 +127,10 @@ module _ {S : Type 0} (step : Step S) where
   -- From a moment to itself the conversation continues.
   pub went_nowhere : (a : Moment S) → Went step a a
   went_nowhere a = went_reading a.desk a.reader a.reader a.writer a.reads a.reads a.input a.input [] (sym (append-nil a.input))
-      (consumes_nothing a.reader) (comes_nothing a.reads)
+      (returns_nothing a.reader) (comes_nothing a.reads)
 
   -- After the reply to a message that doesn't ask to close, the conversation continues.
-  pub went_answering : (old new : S) (reader into writer : Option (List ℕ)) (reads : ℕ) (input left : List ℕ) (r : RequestValue) (used : ℕ)
+  pub went_answering : (old new : S) (reader : Known) (into writer : Option (List ℕ)) (reads : ℕ) (input left : List ℕ) (r : RequestValue) (used : ℕ)
       (reply : Said) → BeginsWith input r used → left ≡ drop used input → AnswersRequest step old r reply new → is_open reply ≡ true
       → Appends into writer (said_text reply (form_of r))
       → r.close ≡ false → Went step (moment old reader into reads input) (moment new reader writer reads left)
@@ -141,7 +144,7 @@ module _ {S : Type 0} (step : Step S) where
       })
 
   -- After the reply to a message that asks to close, the conversation ends.
-  pub ended_asked : (old new : S) (reader into writer : Option (List ℕ)) (reads : ℕ) (input left : List ℕ) (r : RequestValue) (used : ℕ)
+  pub ended_asked : (old new : S) (reader : Known) (into writer : Option (List ℕ)) (reads : ℕ) (input left : List ℕ) (r : RequestValue) (used : ℕ)
       (reply : Said) → BeginsWith input r used → left ≡ drop used input → AnswersRequest step old r reply new → is_open reply ≡ true
       → Appends into writer (said_text reply (form_of r))
       → r.close ≡ true → HasEnded step (moment old reader into reads input) (moment new reader writer reads left) Asked
@@ -158,8 +161,8 @@ module _ {S : Type 0} (step : Step S) where
       )
 
   -- The end of the input ends the conversation.
-  pub ended_with_input : (desk : S) (from reader writer : Option (List ℕ)) (before after : ℕ) (input left more : List ℕ) (ended : Ended)
-      → Consumes from reader more → ComesInReads more before after → EndsSo (input ++ more) ended → IsReadThrough ended reader
+  pub ended_with_input : (desk : S) (from reader : Known) (writer : Option (List ℕ)) (before after : ℕ) (input left more : List ℕ) (ended : Ended)
+      → Returns from reader more → ComesInReads more before after → EndsSo (input ++ more) ended → IsReadThrough ended reader.0
       → HasEnded step (moment desk from writer before input) (moment desk reader writer after left) ended
   ended_with_input desk from reader writer before after input left more ended consumed came how at_end =
       moves_reading desk desk from reader writer before after input left more _ consumed came (
@@ -177,7 +180,7 @@ module _ {S : Type 0} (step : Step S) where
       )
 
   -- After the reply to a refused message, the conversation ends.
-  pub ended_refusing : (desk : S) (reader into writer : Option (List ℕ)) (reads : ℕ) (input left : List ℕ) (refusal : Refusal)
+  pub ended_refusing : (desk : S) (reader : Known) (into writer : Option (List ℕ)) (reads : ℕ) (input left : List ℕ) (refusal : Refusal)
       → framing_refusal input refusal → Appends into writer (reply_text (refused (refusal_value refusal)) closing_form)
       → HasEnded step (moment desk reader into reads input) (moment desk reader writer reads left) Refused
   ended_refusing desk reader into writer reads input left refusal is appended =

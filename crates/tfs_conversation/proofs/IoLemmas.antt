@@ -10,7 +10,7 @@ use Rattle.tfs_http.specs.ReplyText.{head_text, impact_body, reply_text}
 use Rattle.tfs_state.specs.Document.{Document}
 use Rattle.tfs_conversation.specs.Conversation.{Said, replied, withheld, said_text, is_open, ComesInReads}
 use Rattle.tfs_http.specs.Lent.{TellsWriter, WritesFront, WritesPart, writing_failed}
-use Rattle.tfs_http.proofs.OutputLemmas.{appends_nothing}
+use Rattle.tfs_http.proofs.OutputLemmas.{appends_more, appends_nothing}
 use Rattle.tfs_http.specs.declared.fault.ServeFault.{ServeFault}
 use Rattle.tfs_http.specs.declared.fault.ServeFault.TheVariants.{Write, NoMemory}
 
@@ -25,6 +25,22 @@ consumes_more (Some xs) (Some ys) (Some zs) x y p q = p ∙ ap (λ t. x ++ t) q 
 pub consumes_nothing : (a : Option (List ℕ)) → Consumes a a []
 consumes_nothing None = tt
 consumes_nothing (Some xs) = refl
+
+-- What is known of a reader's bytes: those that are left, and those that reads returned.
+abbrev pub Known : Type 0
+Known = Option (List ℕ) × Option (List ℕ)
+
+-- The reader returned these bytes.
+abbrev pub Returns : Known → Known → List ℕ → Type 0
+Returns from to bytes = Consumes from.0 to.0 bytes × Appends from.1 to.1 bytes
+
+-- Two reads, one after the other, return the bytes of both.
+pub returns_more : (a b c : Known) (x y : List ℕ) → Returns a b x → Returns b c y → Returns a c (x ++ y)
+returns_more a b c x y p q = (consumes_more a.0 b.0 c.0 x y p.0 q.0, appends_more a.1 b.1 c.1 x y p.1 q.1)
+
+-- A reader that doesn't change has returned no bytes.
+pub returns_nothing : (a : Known) → Returns a a []
+returns_nothing a = (consumes_nothing a.0, appends_nothing a.1)
 
 -- Bytes that came in reads, and more bytes that came in later reads, came in all these reads.
 pub comes_more : (x y : List ℕ) (a b c : ℕ) → ComesInReads x a b → ComesInReads y b c → ComesInReads (x ++ y) a c

@@ -155,8 +155,7 @@ module _ {S : Type 0} (step : Step S) where
     pub comes_at : ComesAt fault course lost before after
 
   -- A conversation, complete or broken off.
-  pub record HasSpoken (old new : S) (text : List ℕ) : Type 0 where
-    pub bytes : List ℕ
+  pub record HasSpoken (old new : S) (bytes text : List ℕ) : Type 0 where
     pub reads : ℕ
     pub came : ComesInReads bytes 0 reads
     pub end : Result Ended ServeFault
@@ -170,5 +169,5 @@ module _ {S : Type 0} (step : S → Call → ReplyValue → S → Type 0) where
   abbrev pub BreaksOff : S → S → List ℕ → List ℕ → ServeFault → ℕ → ℕ → Type 0
   BreaksOff = Breaks (Plainly step)
 
-  abbrev pub HasTalked : S → S → List ℕ → Type 0
+  abbrev pub HasTalked : S → S → List ℕ → List ℕ → Type 0
   HasTalked = HasSpoken (Plainly step)

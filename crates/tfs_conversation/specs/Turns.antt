@@ -6,23 +6,24 @@ use Rattle.tfs_conversation.specs.Messages.{one_asks}
 use Rattle.tfs_conversation.specs.declared.ended.Ended.{Ended}
 use Rattle.tfs_http.specs.declared.fault.ServeFault.{ServeFault}
 
--- Desk, bytes to read, bytes written, read count, and unused input.
+-- Desk, bytes to read and read, bytes written, read count, and unused input.
 pub record Moment (S : Type 0) : Type 0 where
   pub desk : S
-  pub reader : Option (List ℕ)
+  pub reader : Option (List ℕ) × Option (List ℕ)
   pub writer : Option (List ℕ)
   pub reads : ℕ
   pub input : List ℕ
 
 -- The moment with these parts.
-abbrev pub moment : {S : Type 0} → S → Option (List ℕ) → Option (List ℕ) → ℕ → List ℕ → Moment S
+abbrev pub moment : {S : Type 0} → S → Option (List ℕ) × Option (List ℕ) → Option (List ℕ) → ℕ → List ℕ → Moment S
 moment desk reader writer reads input = record { desk = desk; reader = reader; writer = writer; reads = reads; input = input }
 
 -- Bytes were read and text written between two moments; this holds of all input and the text.
 pub record Moves {S : Type 0} (from to : Moment S) (holds : List ℕ → List ℕ → Type 0) : Type 0 where
   pub more : List ℕ
   pub text : List ℕ
-  pub consumed : Consumes from.reader to.reader more
+  pub consumed : Consumes from.reader.0 to.reader.0 more
+  pub taken : Appends from.reader.1 to.reader.1 more
   pub appended : Appends from.writer to.writer text
   pub came : ComesInReads more from.reads to.reads
   pub does : holds (from.input ++ more) text
@@ -41,7 +42,7 @@ module _ {S : Type 0} (step : Step S) where
   Went from to = Moves from to (HasServed from.desk to.desk to.input)
 
   abbrev pub HasEnded : Moment S → Moment S → Ended → Type 0
-  HasEnded from to ended = Moves from to (λ bytes text. Talks step from.desk to.desk bytes text ended × IsReadThrough ended to.reader)
+  HasEnded from to ended = Moves from to (λ bytes text. Talks step from.desk to.desk bytes text ended × IsReadThrough ended to.reader.0)
 
   abbrev pub HasBroken : Moment S → Moment S → ServeFault → Type 0
   HasBroken from to fault = Moves from to (λ bytes text. Breaks step from.desk to.desk bytes text fault from.reads to.reads)

@@ -37,12 +37,14 @@ pub fn converse_owed<R: Source, W: Outlet, D: OwedDesk>(
 ) -> Result<Ended, ServeFault>
     ensures ended { IfOk result (λ ended. (bytes : List ℕ) × (text : List ℕ)
         × Consumes (R.remaining reader.old) (R.remaining reader.new) bytes
+        × Appends (R.taken reader.old) (R.taken reader.new) bytes
         × Appends (W.contents writer.old) (W.contents writer.new) text
         × ComesInReads bytes reads.old reads.new
         × Talks D.step desk.old desk.new bytes text ended) }
     ensures through { IfOk result (λ ended. IsReadThrough ended (R.remaining reader.new)) }
     ensures fault { IfErr result (λ fault. (bytes : List ℕ) × (text : List ℕ)
         × Consumes (R.remaining reader.old) (R.remaining reader.new) bytes
+        × Appends (R.taken reader.old) (R.taken reader.new) bytes
         × Appends (W.contents writer.old) (W.contents writer.new) text
         × ComesInReads bytes reads.old reads.new
         × Breaks D.step desk.old desk.new bytes text fault reads.old reads.new) }
@@ -87,10 +89,10 @@ fn run<R: Source, W: Outlet, D: OwedDesk>(
     desk: &mut D,
     reads: &mut Reads,
 ) -> Result<Ended, ServeFault>
-    ensures ended { IfOk result (HasEnded D.step (moment desk.old (R.remaining reader.old) (W.contents writer.old) reads.old connection.old.input)
-        (moment desk.new (R.remaining reader.new) (W.contents writer.new) reads.new connection.new.input)) }
-    ensures fault { IfErr result (HasBroken D.step (moment desk.old (R.remaining reader.old) (W.contents writer.old) reads.old connection.old.input)
-        (moment desk.new (R.remaining reader.new) (W.contents writer.new) reads.new connection.new.input)) }
+    ensures ended { IfOk result (HasEnded D.step (moment desk.old (R.remaining reader.old, R.taken reader.old) (W.contents writer.old) reads.old connection.old.input)
+        (moment desk.new (R.remaining reader.new, R.taken reader.new) (W.contents writer.new) reads.new connection.new.input)) }
+    ensures fault { IfErr result (HasBroken D.step (moment desk.old (R.remaining reader.old, R.taken reader.old) (W.contents writer.old) reads.old connection.old.input)
+        (moment desk.new (R.remaining reader.new, R.taken reader.new) (W.contents writer.new) reads.new connection.new.input)) }
     ensures reader { TellsReader result (R.failed reader.old) (R.failed reader.new) }
     ensures writer { TellsWriter result (W.failed writer.old) (W.failed writer.new)
         ⊎ ((result ≡ Err WriteFault) × (W.failed writer.new ≡ W.failed writer.old) × Withholds D.step) }
@@ -116,14 +118,14 @@ fn turn<R: Source, W: Outlet, D: OwedDesk>(
     desk: &mut D,
     reads: &mut Reads,
 ) -> Result<Option<Ended>, ServeFault>
-    ensures went { result ≡ Ok None → Went D.step (moment desk.old (R.remaining reader.old) (W.contents writer.old) reads.old connection.old.input)
-        (moment desk.new (R.remaining reader.new) (W.contents writer.new) reads.new connection.new.input) }
+    ensures went { result ≡ Ok None → Went D.step (moment desk.old (R.remaining reader.old, R.taken reader.old) (W.contents writer.old) reads.old connection.old.input)
+        (moment desk.new (R.remaining reader.new, R.taken reader.new) (W.contents writer.new) reads.new connection.new.input) }
     ensures less { result ≡ Ok None → work_left reads.new connection.new.input < work_left reads.old connection.old.input }
     ensures ended { IfOk result (λ end. IfSome end (HasEnded D.step
-        (moment desk.old (R.remaining reader.old) (W.contents writer.old) reads.old connection.old.input)
-        (moment desk.new (R.remaining reader.new) (W.contents writer.new) reads.new connection.new.input))) }
-    ensures fault { IfErr result (HasBroken D.step (moment desk.old (R.remaining reader.old) (W.contents writer.old) reads.old connection.old.input)
-        (moment desk.new (R.remaining reader.new) (W.contents writer.new) reads.new connection.new.input)) }
+        (moment desk.old (R.remaining reader.old, R.taken reader.old) (W.contents writer.old) reads.old connection.old.input)
+        (moment desk.new (R.remaining reader.new, R.taken reader.new) (W.contents writer.new) reads.new connection.new.input))) }
+    ensures fault { IfErr result (HasBroken D.step (moment desk.old (R.remaining reader.old, R.taken reader.old) (W.contents writer.old) reads.old connection.old.input)
+        (moment desk.new (R.remaining reader.new, R.taken reader.new) (W.contents writer.new) reads.new connection.new.input)) }
     ensures reader { TellsReader result (R.failed reader.old) (R.failed reader.new) }
     ensures writer { TellsWriter result (W.failed writer.old) (W.failed writer.new)
         ⊎ ((result ≡ Err WriteFault) × (W.failed writer.new ≡ W.failed writer.old) × Withholds D.step) }

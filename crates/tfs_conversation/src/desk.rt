@@ -41,12 +41,14 @@ pub fn converse<R: Source, W: Outlet, D: Desk>(
 ) -> Result<Ended, ServeFault>
     ensures ended { IfOk result (λ ended. (bytes : List ℕ) × (text : List ℕ)
         × Consumes (R.remaining reader.old) (R.remaining reader.new) bytes
+        × Appends (R.taken reader.old) (R.taken reader.new) bytes
         × Appends (W.contents writer.old) (W.contents writer.new) text
         × ComesInReads bytes reads.old reads.new
         × Converses D.step desk.old desk.new bytes text ended) }
     ensures through { IfOk result (λ ended. IsReadThrough ended (R.remaining reader.new)) }
     ensures fault { IfErr result (λ fault. (bytes : List ℕ) × (text : List ℕ)
         × Consumes (R.remaining reader.old) (R.remaining reader.new) bytes
+        × Appends (R.taken reader.old) (R.taken reader.new) bytes
         × Appends (W.contents writer.old) (W.contents writer.new) text
         × ComesInReads bytes reads.old reads.new
         × BreaksOff D.step desk.old desk.new bytes text fault reads.old reads.new) }
@@ -94,12 +96,14 @@ fn converse_plainly<R: Source, W: Outlet, D: Desk>(
     ensures loan { plain.new.desk.ghost_name ≡ plain.old.desk.ghost_name }
     ensures ended { IfOk result (λ ended. (bytes : List ℕ) × (text : List ℕ)
         × Consumes (R.remaining reader.old) (R.remaining reader.new) bytes
+        × Appends (R.taken reader.old) (R.taken reader.new) bytes
         × Appends (W.contents writer.old) (W.contents writer.new) text
         × ComesInReads bytes reads.old reads.new
         × Converses D.step plain.old.desk.now plain.new.desk.now bytes text ended) }
     ensures through { IfOk result (λ ended. IsReadThrough ended (R.remaining reader.new)) }
     ensures fault { IfErr result (λ fault. (bytes : List ℕ) × (text : List ℕ)
         × Consumes (R.remaining reader.old) (R.remaining reader.new) bytes
+        × Appends (R.taken reader.old) (R.taken reader.new) bytes
         × Appends (W.contents writer.old) (W.contents writer.new) text
         × ComesInReads bytes reads.old reads.new
         × BreaksOff D.step plain.old.desk.now plain.new.desk.now bytes text fault reads.old reads.new) }

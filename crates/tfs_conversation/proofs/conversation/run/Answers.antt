@@ -14,8 +14,8 @@ pub returns-in-Some-clause-ended : goal.returns-in-Some-clause-ended
 returns-in-Some-clause-ended g c =
     went_then_ended g.D.OwedDesk.step _ _ _ c.in-Some.ended c.loop-end.invariant.went
     (subst (λ (e : Option Ended). IfSome e (HasEnded g.D.OwedDesk.step
-    (moment c.loop-end.desk (g.R.Source.remaining c.loop-end.reader) (g.W.Outlet.contents c.loop-end.writer) c.loop-end.reads c.loop-end.connection.input)
-    (moment c.turn.new.desk (g.R.Source.remaining c.turn.new.reader) (g.W.Outlet.contents c.turn.new.writer) c.turn.new.reads c.turn.new.connection.input)))
+    (moment c.loop-end.desk (g.R.Source.remaining c.loop-end.reader, g.R.Source.taken c.loop-end.reader) (g.W.Outlet.contents c.loop-end.writer) c.loop-end.reads c.loop-end.connection.input)
+    (moment c.turn.new.desk (g.R.Source.remaining c.turn.new.reader, g.R.Source.taken c.turn.new.reader) (g.W.Outlet.contents c.turn.new.writer) c.turn.new.reads c.turn.new.connection.input)))
     c.in-Some.is c.in-Ok.ensures.ended)
 
 pub loop-end-preserved : goal.loop-end-preserved
