@@ -8,4 +8,4 @@ written_at r = r.written.texts
 
 -- The bytes read from each of these connections.
 abbrev pub read_at : {L S : Type 0} → Reception L S → List (List ℕ)
-read_at r = r.read.texts
+read_at r = r.written.read

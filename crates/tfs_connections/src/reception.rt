@@ -35,7 +35,6 @@ pub struct Setting<'s, R> {
 #[derive(Drop)]
 pub struct Reception<'l, L: OpenListener> {
     listening: Listening<'l, L>,
-    read: Written,
     written: Written,
 }
 
@@ -47,26 +46,17 @@ impl<'l, L: OpenListener> Reception<'l, L> {
     {
         Reception {
             listening: Listening::new(listener),
-            read: Written::new(),
             written: Written::new(),
         }
     }
 
-    /// Returns what was written to each connection.
+    /// Returns what was read from each connection, and what was written to it.
     pub fn into_written(self) -> Written
+        ensures read { result.read ≡ read_at self.entry }
         ensures texts { result.texts ≡ written_at self.entry }
     {
         let Reception { written, .. } = self;
         written
-    }
-
-    /// Returns what was read from each connection, and what was written to it.
-    pub fn into_texts(self) -> (Written, Written)
-        ensures read { result.0.texts ≡ read_at self.entry }
-        ensures written { result.1.texts ≡ written_at self.entry }
-    {
-        let Reception { read, written, .. } = self;
-        (read, written)
     }
 }
 
@@ -130,8 +120,7 @@ impl<'l, L: OpenListener<Stream = S>, S: Connection + Drop> Reception<'l, L> {
             Ok(stream) => (converse_on(setting, stream, desk), Ok(())),
             Err(fault) => (Texts::new(), Err(fault)),
         };
-        self.read = self.read.with(&texts.read);
-        self.written = self.written.with(&texts.written);
+        self.written = self.written.with(&texts.read, &texts.written);
         result
     }
 }

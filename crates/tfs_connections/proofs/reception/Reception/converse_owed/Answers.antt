@@ -10,8 +10,8 @@ pub returns-clause-talked : goal.returns-clause-talked
 returns-clause-talked g c = (
   c.match-next.texts.0.read.bytes,
   c.match-next.texts.0.written.bytes,
-  c.with-self.ensures,
-  c.with-self-2.ensures,
+  c.with-self.ensures.0,
+  c.with-self.ensures.1,
   elim c.match-next.branch [
     | in-Ok w ↦ subst (λ d. HasSpoken g.D.OwedDesk.step c.args.desk.now d c.match-next.texts.0.read.bytes c.match-next.texts.0.written.bytes)
         (sym w.desk-is)
