@@ -1,4 +1,4 @@
-//! The bytes written to connections, for proofs.
+//! The bytes read from connections and written to them, for proofs.
 
 ghost use Rattle.std.specs.Prelude.{◌≡◌, ◌++◌, ◌∷◌, ℕ, List, []};
 ghost use Rattle.std.specs.Borrow.{ftrue};
@@ -6,7 +6,7 @@ ghost use Rattle.std.specs.Coded.{coded_ℕ, coded_list};
 
 use std::marker::Model;
 
-/// The bytes written to a connection. Clauses read them as `bytes`. Takes no memory, and its
+/// The bytes read from a connection, or written to it. Clauses read them as `bytes`. Takes no memory, and its
 /// methods do nothing at run time.
 #[derive(Drop)]
 pub struct Text {
@@ -33,10 +33,11 @@ impl Text {
     {}
 }
 
-/// The bytes written to each connection of a list. Clauses read them as `texts`. Takes no memory,
-/// and its methods do nothing at run time.
+/// The bytes read from each connection of a list, and those written to it. Clauses read them as
+/// `read` and `texts`. Takes no memory, and its methods do nothing at run time.
 #[derive(Drop)]
 pub struct Written {
+    pub ghost read: { List (List ℕ) } by { coded_list (coded_list coded_ℕ) },
     pub ghost texts: { List (List ℕ) } by { coded_list (coded_list coded_ℕ) },
 }
 
@@ -48,15 +49,16 @@ impl Written {
     /// Creates a list of no connections.
     #[inline(always)]
     pub fn new() -> Written
-        ensures { result.texts ≡ [] }
+        ensures { (result.read ≡ []) × (result.texts ≡ []) }
     {
         Written {}
     }
 
-    /// Returns the list with one more connection, to which this text was written.
+    /// Returns the list with one more connection, from which the first text was read, and to which
+    /// the second was written.
     #[inline(always)]
-    pub(crate) fn with(&self, _text: &Text) -> Written
-        ensures { result.texts ≡ self.now.texts ++ _text.now.bytes ∷ [] }
+    pub(crate) fn with(&self, _read: &Text, _text: &Text) -> Written
+        ensures { (result.read ≡ self.now.read ++ _read.now.bytes ∷ []) × (result.texts ≡ self.now.texts ++ _text.now.bytes ∷ []) }
     {
         Written {}
     }

@@ -14,11 +14,11 @@ pub new_spec : {M : Type 1} → statement M
 new_spec 𝓤 𝓛 𝓜 𝓡 wired =
     let c = F.clauses 𝓛 𝓜.mem 𝓡.returns in let 𝓣 = tables 𝓤 𝓛.H 𝓜 𝓡 𝓡.env in
     proved_at 𝓛 F.ended stayed c 𝓜 𝓡 tt #self code.function (code.unfolded 𝓤 𝓛.H 𝓜 𝓡 wired) (λ y are.
-    let made : (Written.the_row).Denot = record { texts = [] } in
+    let made : (Written.the_row).Denot = record { read = []; texts = [] } in
     qed 𝓛 ((raw (alive 𝓛 F.ended.signature y.0.0 y.0.1) ⊛ ‵ (owns (types_at F.ended.signature.params y.0.0) y.0.3 y.0.4))
     ∷ raw ((c y.0.0 y.0.3).requires y.1) ∷ []) ∵
     keep ! (0 ∷ []) $ split ! $ move ! (1 ∷ []) $ drop ! $
     enter ! 𝓣.C 𝓣.Λ code.function [] ((walk_of 𝓛 F.ended stayed c).post y) $ alloc_all ! (λ l. pass_all ! refl tt $
     sets ! (agg ! (no_more !)) refl (tt, tt) $ nothing ! $ none_made ! $ fjoin ! $
     returns ! (look_at ! 0 refl) $ free_all ! refl $
-    suffices ! _ (ends_at 𝓛 F.ended stayed c y none made tt tt) $ says ! refl $ nothing ! $ move ! (2 ∷ 0 ∷ 1 ∷ []) $ done !))
+    suffices ! _ (ends_at 𝓛 F.ended stayed c y none made tt tt) $ says ! (refl, refl) $ nothing ! $ move ! (2 ∷ 0 ∷ 1 ∷ []) $ done !))
