@@ -23,7 +23,6 @@ pub data Said : Type 0 where
   replied : ReplyValue → Said
   withheld : ReplyValue → Said
 
--- Its text.
 abbrev pub said_text : Said → Form → List ℕ
 said_text (replied reply) = reply_text reply
 said_text (withheld reply) = reply_text reply
@@ -45,12 +44,10 @@ Plainly step old call said new = (reply : ReplyValue) × (said ≡ replied reply
 abbrev pub Withholds : {S : Type 0} → Step S → Type 0
 Withholds {S} step = (old : S) × (call : Call) × (said : Said) × (new : S) × step old call said new × (is_open said ≡ false)
 
--- A request with its reply.
 pub record Exchange : Type 0 where
   pub request : RequestValue
   pub reply : Said
 
--- The requests.
 abbrev pub requests_of : List Exchange → List RequestValue
 requests_of exchanges = map (λ x. x.request) exchanges
 
@@ -60,7 +57,6 @@ pub record Course : Type 0 where
   pub rest : List ℕ
   pub refusal : Option Refusal
 
--- Its messages.
 abbrev pub messages_of : Course → Messages
 messages_of c = record { requests = requests_of c.exchanges; rest = c.rest; refusal = c.refusal }
 
@@ -73,7 +69,6 @@ abbrev pub refusal_text : Option Refusal → List ℕ
 refusal_text None = []
 refusal_text (Some refusal) = reply_text (refused (refusal_value refusal)) (record { close = true; bare = false })
 
--- Its text.
 abbrev pub course_text : Course → List ℕ
 course_text c = flat_map exchange_text c.exchanges ++ refusal_text c.refusal
 

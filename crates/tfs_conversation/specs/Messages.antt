@@ -44,6 +44,5 @@ StopsAt asked rest refusal Cut = (asked ≡ false) × ¬ (rest ≡ []) × IsUnfi
 StopsAt asked rest refusal Asked = (asked ≡ true) × (refusal ≡ None)
 StopsAt asked rest refusal Refused = (r : Refusal) × (refusal ≡ Some r)
 
--- How these messages stop.
 abbrev pub Stop : Messages → Ended → Type 0
 Stop m ended = StopsAt (one_asks m.requests) m.rest m.refusal ended

@@ -14,7 +14,6 @@ pub record Moment (S : Type 0) : Type 0 where
   pub reads : ℕ
   pub input : List ℕ
 
--- The moment with these parts.
 abbrev pub moment : {S : Type 0} → S → Option (List ℕ) × Option (List ℕ) → Option (List ℕ) → ℕ → List ℕ → Moment S
 moment desk reader writer reads input = record { desk = desk; reader = reader; writer = writer; reads = reads; input = input }
 

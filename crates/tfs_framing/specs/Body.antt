@@ -40,17 +40,14 @@ length_told minor (text ∷ []) [] = length_of_text text
 length_told minor (text ∷ other ∷ texts) [] = Err BadLength
 length_told minor (text ∷ texts) (coding ∷ codings) = Err BadLength
 
--- The length by all fields.
 abbrev pub length_of_fields : ℕ → List (List ℕ × List ℕ) → Result BodyLength Refusal
 length_of_fields minor fields = if names_host minor (values_named (codes "host") fields)
     then length_told minor (values_named (codes "content-length") fields) (values_named (codes "transfer-encoding") fields)
     else Err NoHost
 
--- The length of a body.
 abbrev pub body_length : RequestHead → Result BodyLength Refusal
 body_length h = length_of_fields h.minor (fields_of h)
 
--- The coding of a body.
 abbrev pub SpellsBody : BodyLength → List ℕ → List ℕ → Type 0
 SpellsBody Absent coded body = (coded ≡ []) × (body ≡ [])
 SpellsBody (Sized size) coded body = (coded ≡ body) × (length body ≡ size)
@@ -62,7 +59,6 @@ HasBadBody Absent rest flaw = ⊥
 HasBadBody (Sized size) rest flaw = ⊥
 HasBadBody Chunked rest flaw = HasFlaw rest flaw
 
--- The refusal for a flaw.
 abbrev pub refusal_of : Flaw → Refusal
 refusal_of TooLarge = BodyTooLarge
 refusal_of Unreadable = BadChunk

@@ -7,16 +7,13 @@ use Rattle.tfs_framing.specs.Head.{IsMessageHead}
 use Rattle.tfs_framing.specs.declared.chunks.Flaw.{Flaw}
 use Rattle.tfs_framing.specs.declared.chunks.Flaw.TheVariants.{TooLarge, Unreadable}
 
--- A chunk.
 pub record Chunk : Type 0 where
   pub line : ChunkLine
   pub bytes : List ℕ
 
--- The text of a chunk.
 abbrev pub print_chunk : Chunk → List ℕ
 print_chunk c = print_chunk_line c.line ++ (c.bytes ++ print_end crlf)
 
--- The text of chunks.
 abbrev pub print_chunks : List Chunk → List ℕ
 print_chunks chunks = flat_map print_chunk chunks
 

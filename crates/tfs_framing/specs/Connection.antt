@@ -5,7 +5,6 @@ use Rattle.std.specs.Str.{bytes_eq}
 use Rattle.httparse.specs.Grammar.{RequestHead, trim_ows}
 use Rattle.tfs_framing.specs.Fields.{fields_of, values_named, lower}
 
--- The byte `,`.
 abbrev pub comma : ℕ
 comma = 44
 

@@ -11,7 +11,6 @@ use Rattle.tfs_framing.specs.declared.fields.Values.TheVariants.{Absent, One, Se
 abbrev pub fields_of : RequestHead → List (List ℕ × List ℕ)
 fields_of h = map name_and_value h.fields
 
--- The text in lower case.
 abbrev pub lower : List ℕ → List ℕ
 lower text = map to_ascii_lowercase text
 

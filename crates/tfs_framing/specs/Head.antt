@@ -27,7 +27,6 @@ pub record HasHead (bytes : List ℕ) (skipped : List LineEnd) (head rest : List
 abbrev pub HasNoHead : List ℕ → Type 0
 HasNoHead bytes = (skipped : List LineEnd) (head rest : List ℕ) → ¬ (HasHead bytes skipped head rest)
 
--- The number of line feeds.
 abbrev pub line_feeds : List ℕ → ℕ
 line_feeds bytes = count_by (λ byte. byte == line_feed) bytes
 
