@@ -17,6 +17,8 @@ pub(crate) struct Argument {
 enum Takes {
     /// One word, by its position.
     Word,
+    /// One word, by its position, or instead of it this flag.
+    WordUnless(&'static str),
     /// One of these words, by its position.
     OneOf(&'static [&'static str]),
     /// One or more words, by their position.
@@ -91,6 +93,20 @@ pub(crate) const WORKSPACE: Argument = Argument {
     name: "NAME",
     takes: Takes::Word,
     help: "The name of the workspace. After -- it may begin with a hyphen",
+};
+
+/// The name of a workspace, unless all workspaces are requested.
+pub(crate) const WORKSPACE_OR_ALL: Argument = Argument {
+    name: "NAME",
+    takes: Takes::WordUnless("all"),
+    help: "The name of the workspace. After -- it may begin with a hyphen",
+};
+
+/// Whether to list the acts of all workspaces.
+pub(crate) const ALL: Argument = Argument {
+    name: "all",
+    takes: Takes::Nothing,
+    help: "Lists the acts of all workspaces, with their names",
 };
 
 /// Whether to print JSON.
@@ -332,6 +348,9 @@ impl Argument {
         let arg = Arg::new(alloc, self.name).help(self.help);
         match self.takes {
             Takes::Word => Ok(arg.required(true)),
+            Takes::WordUnless(flag) => {
+                arg.required_unless_present(flag)?.conflicts_with(flag)
+            }
             Takes::OneOf(words) => Ok(arg.required(true).value_parser(words)),
             Takes::Words => Ok(arg.required(true).num_args(1..)),
             Takes::Called(called) => Ok(arg.required(true).value_name(called)),

@@ -1,10 +1,11 @@
 //! The program's commands, and their conversion for the command line parser.
 
 use crate::arguments::{
-    ACT, ADDRESSES, ANSWER_ONLY, Argument, COMPACT_BYTES, COMPACT_ENTRIES, COPIES, DOT, FIRST,
+    ACT, ADDRESSES, ALL, ANSWER_ONLY, Argument, COMPACT_BYTES, COMPACT_ENTRIES, COPIES, DOT, FIRST,
     FIRST_POSITION, FROM, HELD, JOURNALS, JSON, KEEP, KEEP_BYTES, KEEP_DAYS, LAST, LEAST,
     LEAST_FILE, LEAST_OF_COPIES, LINES, LISTEN, NEW, PAST, POSITION, QUERY, SECOND_POSITION,
     SERVE_READS, SERVED, SINCE, SOME_POSITION, TO, UNTIL, VALUES, WHO, WORKERS, WORKSPACE,
+    WORKSPACE_OR_ALL,
 };
 use clap::{Arg, Command};
 use std::alloc::{AllocError, Global};
@@ -75,8 +76,8 @@ static COMMANDS: [Form; 12] = [
     },
     Form {
         name: "history",
-        about: "Lists the pushes, locks, unlocks and deletes of a workspace, newest first",
-        arguments: &[SERVED, WORKSPACE, SINCE, UNTIL, LAST, ACT, WHO, LINES],
+        about: "Lists the pushes, locks, unlocks and deletes of a workspace or of all, newest first",
+        arguments: &[SERVED, WORKSPACE_OR_ALL, ALL, SINCE, UNTIL, LAST, ACT, WHO, LINES],
     },
     Form {
         name: "show",

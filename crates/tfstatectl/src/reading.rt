@@ -36,7 +36,7 @@ fn report(
     };
     match command {
         "holder" => print_holder(rt, folder, name),
-        "history" => history(rt, folder, name, &asked_of(given), printing_of(given)),
+        "history" => history(rt, folder, workspace_of(given), &asked_of(given), printing_of(given)),
         "show" => show(rt, folder, name, at),
         "diff" => print_diff(rt, folder, name, comparison_of(given)?),
         "restore" => restore(rt, folder, name, at.unwrap_or(At::Position(0))),
@@ -71,6 +71,15 @@ fn asked_of<'a>(given: &ArgMatches<'a>) -> Asked<'a> {
         who: given.get_str("who"),
         since: given.get_str("since"),
         until: given.get_str("until"),
+    }
+}
+
+/// Returns the workspace whose acts to list; none for all workspaces.
+fn workspace_of<'a>(given: &ArgMatches<'a>) -> Option<&'a str> {
+    if given.get_flag("all") {
+        None
+    } else {
+        given.get_str("NAME")
     }
 }
 
