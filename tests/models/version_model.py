@@ -74,24 +74,26 @@ def kept_from(position):
 
 
 def past(files, name):
-    """Returns the acts of a name, oldest first, and the fault after them with its journal's number,
-    or None. Each act has its position, the position from which on versions are kept, and the lock
-    under which it was made, or None."""
-    acts, is_there, reached, least, held = [], False, 0, 0, None
+    """Returns the acts of a name, or of all names if it is None, oldest first, and the fault after
+    them with its journal's number, or None. Each act has its position, its name, the position from
+    which on versions are kept, and the lock under which it was made, or None."""
+    acts, is_there, reached, least, held = [], name is None, 0, 0, {}
     journals = opened(files)
     if not journals:
         raise Fault("NoJournal", None)
     for number, journal in journals:
         is_there = is_there or journal.has(name)
         if reached < journal.base:
-            least, held = journal.base, None
+            least, held = journal.base, {}
         reached = reached if journal.is_cut else journal.base + len(journal.entries)
         for place, (kind, own, fields) in enumerate(journal.entries, 1):
-            if own != name:
+            if name not in (None, own):
                 continue
-            held = fields[0] if kind == "lock" else held
-            acts.append((journal.base + place, kind, fields, least, None if act_of(kind, fields) == "force-unlock" else held))
-            held = None if kind == "unlock" else held
+            if kind == "lock":
+                held[own] = fields[0]
+            acts.append((journal.base + place, own, kind, fields, least, None if act_of(kind, fields) == "force-unlock" else held.get(own)))
+            if kind == "unlock":
+                held.pop(own, None)
         if journal.fault:
             if not is_there:
                 raise Fault(journal.fault, number)
@@ -118,10 +120,11 @@ def is_made(lock, who, since, until):
 
 
 def history(files, name, act=None, who=None, since=None, until=None, last=None):
-    """Returns the rows of a name, newest first, and the fault after them with its journal's number,
-    or None."""
+    """Returns the rows of a name, or of all names if it is None, newest first, and the fault after
+    them with its journal's number, or None."""
     acts, fault = past(files, name)
-    rows = [{**row_of(position, kind, fields), **kept_from(least)} for position, kind, fields, least, lock in acts
+    rows = [{**row_of(position, kind, fields), **({"name": own} if name is None else {}), **kept_from(least)}
+            for position, own, kind, fields, least, lock in acts
             if act in (None, act_of(kind, fields)) and is_made(lock, who, since, until)]
     return rows[::-1][:last], fault
 
@@ -131,7 +134,7 @@ def position_at(files, name, time):
     acts, fault = past(files, name)
     if fault:
         raise Fault(*fault)
-    found = [position for position, _, _, _, lock in acts if is_made(lock, None, None, time)]
+    found = [position for position, _, _, _, _, lock in acts if is_made(lock, None, None, time)]
     if not found:
         raise Fault("NoTime", None)
     return found[-1]
