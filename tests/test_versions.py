@@ -207,7 +207,8 @@ def test_the_page_goes_back_with_terraform():
     project.apply("first")
     project.apply("second")
     expect((len(commands), commands.pop(3)), (12, "tfstatectl holder /var/lib/tfstated/journal prod"), commands)
-    refused("NotLocked", folder, "holder", "prod")
+    status, output, errors = run("holder", folder, "prod")
+    expect((status, output, ": NotLocked" in errors), (STATUSES["NotLocked"], "", True), errors)
     printed = {line: project.run(line.replace("/var/lib/tfstated/journal", str(folder))) for line in commands}
     expect([row["act"] for row in told(folder, "history", "prod")][-6:], ["unlock", "push", "lock"] * 2)
     expect(printed["tfstatectl diff /var/lib/tfstated/journal prod 2 5"].split()[3:6], ["changed", "terraform_data.a", "input,"])
