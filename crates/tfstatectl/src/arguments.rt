@@ -348,9 +348,7 @@ impl Argument {
         let arg = Arg::new(alloc, self.name).help(self.help);
         match self.takes {
             Takes::Word => Ok(arg.required(true)),
-            Takes::WordUnless(flag) => {
-                arg.required_unless_present(flag)?.conflicts_with(flag)
-            }
+            Takes::WordUnless(flag) => { arg.required_unless_present(flag)?.conflicts_with(flag) }
             Takes::OneOf(words) => Ok(arg.required(true).value_parser(words)),
             Takes::Words => Ok(arg.required(true).num_args(1..)),
             Takes::Called(called) => Ok(arg.required(true).value_name(called)),

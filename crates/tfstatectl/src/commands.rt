@@ -77,7 +77,17 @@ static COMMANDS: [Form; 12] = [
     Form {
         name: "history",
         about: "Lists the pushes, locks, unlocks and deletes of a workspace or of all, newest first",
-        arguments: &[SERVED, WORKSPACE_OR_ALL, ALL, SINCE, UNTIL, LAST, ACT, WHO, LINES],
+        arguments: &[
+            SERVED,
+            WORKSPACE_OR_ALL,
+            ALL,
+            SINCE,
+            UNTIL,
+            LAST,
+            ACT,
+            WHO,
+            LINES,
+        ],
     },
     Form {
         name: "show",

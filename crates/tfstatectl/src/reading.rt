@@ -36,7 +36,13 @@ fn report(
     };
     match command {
         "holder" => print_holder(rt, folder, name),
-        "history" => history(rt, folder, workspace_of(given), &asked_of(given), printing_of(given)),
+        "history" => history(
+            rt,
+            folder,
+            workspace_of(given),
+            &asked_of(given),
+            printing_of(given),
+        ),
         "show" => show(rt, folder, name, at),
         "diff" => print_diff(rt, folder, name, comparison_of(given)?),
         "restore" => restore(rt, folder, name, at.unwrap_or(At::Position(0))),
