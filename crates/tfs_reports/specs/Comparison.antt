@@ -1,5 +1,5 @@
 -- The rows of `diff`, as JSON.
-use Rattle.std.specs.Prelude.{◌≡◌, ◌==◌, ℕ, List, length, map, codes, Option, Some, option_map, option_and_then, if◌then◌else◌}
+use Rattle.std.specs.Prelude.{◌==◌, ℕ, List, length, map, codes, Option, Some, option_map, option_and_then, if◌then◌else◌}
 use Rattle.serde_json.specs.Data.{Data, null, string, array, object, no_members, member}
 use Rattle.serde_json.specs.View.{items_of}
 use Rattle.tfs_json.specs.Json.{json_value}

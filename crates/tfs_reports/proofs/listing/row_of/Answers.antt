@@ -1,5 +1,5 @@
 -- The row has the last change and the age of the lock.
-use Rattle.std.proofs.Common.{◌≡◌, ap, ◌∙◌}
+use Rattle.std.proofs.Common.{ap, ◌∙◌}
 use Rattle.std.proofs.lemmas.Result.{IfOk-weaker}
 use Rattle.serde_json.specs.View.{view}
 use Rattle.tfs_reports.specs.Rows.{IsListed, name_row}
