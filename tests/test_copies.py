@@ -17,6 +17,7 @@ from folder_program import STATUSES, Serving, run, served
 from folders import (LOCK, LOOPBACK, NEWEST, PUSH1, PUSH2, REBASED, SHORT, all_of, ask_over,
                      at_once, fresh, identity_text, journals, named, owned)
 from journal_reader import base_text, read_journal
+from past_program import rows_in, told
 from programs import preloaded
 from pushers import Pusher, serials_of
 
@@ -173,7 +174,8 @@ def test_a_new_chain_begins_if_the_source_has_lost_what_copies_need():
     (source / f"{named(7)}.tfj").write_bytes(LATE + LOCK)
     expect(copy(source, target), (0, {7: LATE + LOCK}, ""), "it only grows")
     status, output, errors = run("history", target, "a", "--json")
-    expect((status, errors, [(row["position"], row["kept_from"]) for row in json.loads(output)]), (0, "", [(2, 1), (3, 1), (10, 9)]))
+    rows = rows_in("history", output)
+    expect((status, errors, [(row["position"], row["kept_from"]) for row in rows]), (0, "", [(10, 9), (3, 1), (2, 1)]))
     expect("versions between positions 3 and 9 are no longer kept" in run("history", target, "a")[2], True)
     expect(served(target)[0], (200, S2))
 
@@ -200,8 +202,8 @@ def test_copies_go_on_over_compactions_of_a_source_that_keeps_little():
         server.kill()
     expect([(status, sorted(found)) for status, found, _ in ends], [(0, [number]) for number in (3, 5, 7, 9)])
     expect([f"between position {at} and {at + 1}: a new chain" in errors for at, (_, _, errors) in zip((2, 4, 6), ends[1:])], [True] * 3, ends)
-    rows = json.loads(run("history", target, "a", "--json")[1])
-    expect([(row["serial"], row["kept_from"]) for row in rows], [(serial, serial - 1) for serial in (2, 4, 6, 8)])
+    rows = told(target, "history", "a")
+    expect([(row["serial"], row["kept_from"]) for row in rows], [(serial, serial - 1) for serial in (8, 6, 4, 2)])
     expect(run("check", target)[1].count("old/"), 3)
 
 

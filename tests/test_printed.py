@@ -11,7 +11,7 @@ from checking import expect
 from folders import fresh
 from impact_model import instances_of
 from journal_reader import push_content, record_text
-from past_program import bytes_of, drawn, told
+from past_program import bytes_of, drawn, rows_in, told
 from sample_states import resource, text_of
 from stdio_model import json_of
 
@@ -62,7 +62,7 @@ def test_each_character_of_lock_information_is_printed_or_escaped(c):
         expect([word for word in words.values() if escaped(word, HIDDEN) not in text], [], f"{ord(c):x}: {text}")
         text = bytes_of(*asked, "--json").decode()
         expect_clean(text, HIDDEN)
-        row = json.loads(text)[0]
+        row = rows_in(asked[0], text)[0]
         expect([row.get("holder", row.get("id")), row["who"], row["operation"], row["created"]], list(words.values()))
 
 

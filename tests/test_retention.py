@@ -37,7 +37,7 @@ def test_fifty_starts_in_a_row_change_nothing():
     expect(served(folder)[0], (200, S2))
     expect(run("copy", folder, copies)[0], 0)
     before, copied = kept(folder), all_of(copies)
-    expect(([row["serial"] for row in before[1]], before[2], sorted(journals(folder / "old"))), ([1, 2], S1, [1, 2, 3]))
+    expect(([row["serial"] for row in before[1]], before[2], sorted(journals(folder / "old"))), ([2, 1], S1, [1, 2, 3]))
     for start in range(STARTS):
         expect(served(folder)[0], (200, S2))
         expect(kept(folder), before, f"start {start + 1}")
@@ -204,7 +204,7 @@ def test_what_is_no_longer_kept_is_reported():
     output, errors = said_of(between, "history", "a")
     expect((len(output.splitlines()), errors.splitlines()[0]), (4, gone.format(1)), errors)
     expect(errors.endswith("versions between positions 3 and 9 are no longer kept"), True, errors)
-    expect([row["kept_from"] for row in told(between, "history", "a")], [1, 1, 9])
+    expect([row["kept_from"] for row in told(between, "history", "a")], [9, 1, 1])
     expect(told(between, "list")[0]["kept_from"], 1)
     refused("NotKept", between, "show", "a", "--position", "5")
 

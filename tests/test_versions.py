@@ -5,7 +5,6 @@ import os
 import shutil
 import subprocess
 import threading
-from resource import RLIMIT_AS, setrlimit
 
 from hypothesis import given, settings, strategies as st
 import pytest
@@ -19,42 +18,20 @@ from impact_model import impact
 from journal_reader import push_content, record_text
 from journal_texts import up_to
 from metrics import read_metrics
-from past_program import bytes_of, drawn, graph, put_away, refused, some_past, state, told
+from past_program import bytes_of, drawn, graph, put_away, refused, rows_in, some_past, state, told
 from repository import TOP
 from version_model import as_json, counts, history, listing, newest_version, restored, version
 
 pytestmark = pytest.mark.usefixtures("tfstatectl")
-MEMORY = 40 << 20
 TURNS = int(os.environ.get("VERSION_TURNS", "100"))
-
-
-def test_a_history_has_each_act_once_in_order():
-    rows = told(some_past(), "history", "a")
-    wanted = [{"position": 1, "act": "push", "serial": 1, "instances": 0, "bytes": 41, "id": None},
-              {"position": 2, "act": "push", "serial": 2, "instances": 0, "bytes": 41, "id": None},
-              {"position": 3, "act": "lock", "id": "x", "who": "ann@build", "operation": "OperationTypeApply", "created": "2026-02-03T04:05:06Z"}]
-    expect(rows, wanted)
-    lines = bytes_of("history", some_past(), "a").decode().splitlines()
-    expect([line.split()[:3] for line in lines], [["position", "act", "serial"], ["1", "push", "1"], ["2", "push", "2"], ["3", "lock", "-"]])
-    expect("ann@build" in lines[3], True, lines)
-
-
-def limit_memory():
-    """Limits the address space of a program before it starts."""
-    setrlimit(RLIMIT_AS, (MEMORY, MEMORY))
-
-
-def test_a_long_history_takes_little_memory():
-    folder = fresh(n1=b"TFJ1\n" + b"".join(record_text(3, b"a", push_content(b"", state(serial) + b" " * 16384)) for serial in range(1, 4097)))
-    ran = subprocess.run([FOLDER_PROGRAM, "history", folder, "a", "--json"], capture_output=True, timeout=SECONDS, check=False, preexec_fn=limit_memory)
-    expect((ran.returncode, ran.stderr), (0, b""), "in less memory than the journal has bytes")
-    expect([row["serial"] for row in json.loads(ran.stdout)], [*range(1, 4097)])
 
 
 def test_a_list_has_each_name_with_its_holder():
     rows = told(some_past(), "list")
-    expect(rows, [{"name": "a", "serial": 2, "instances": 0, "bytes": 41, "holder": "x", "who": "ann@build", "operation": "OperationTypeApply",
-                   "created": "2026-02-03T04:05:06Z"}])
+    held = rows[0].pop("held")
+    expect(rows, [{"name": "a", "serial": 2, "instances": 0, "bytes": 41, "changed": 3, "holder": "x", "who": "ann@build",
+                   "operation": "OperationTypeApply", "created": "2026-02-03T04:05:06Z"}])
+    expect(isinstance(held, int), True, held)
     expect(bytes_of("list", fresh(n1=b"TFJ1\n"), "--json"), b"[]\n")
     expect(len(bytes_of("list", fresh(n1=b"TFJ1\n")).splitlines()), 1, "the names of the columns alone")
 
@@ -112,7 +89,8 @@ def test_a_folder_that_may_not_be_entered():
 def test_what_is_whole_is_shown_before_a_damage(data, fault):
     folder = fresh(n3=data)
     status, output, errors = run("history", folder, "a", "--json")
-    expect((status, [row["serial"] for row in json.loads(output)], f"{named(3)}.tfj: {fault}" in errors), (STATUSES[fault], [2], True), errors)
+    serials = [row["serial"] for row in rows_in("history", output)]
+    expect((status, serials, f"{named(3)}.tfj: {fault}" in errors), (STATUSES[fault], [2], True), errors)
     refused(fault, folder, "list")
     expect(bytes_of("show", folder, "a", "--position", "2"), S2)
 
@@ -161,7 +139,7 @@ def test_a_restored_state_is_taken_by_a_push():
     expect(server.ask("UNLOCK", "/state/a"), (200, b""))
     expect(server.ask("POST", "/state/a", text), (200, b""))
     expect(server.ask("GET", "/state/a"), (200, S1.replace(b"1 ", b"3 ")))
-    expect([row["act"] for row in told(folder, "history", "a")], ["push", "push", "lock", "unlock", "push"], "while it is served")
+    expect([row["act"] for row in told(folder, "history", "a")], ["push", "force-unlock", "lock", "push", "push"], "while it is served")
 
 
 @pytest.fixture(name="folder", scope="module")
@@ -228,9 +206,12 @@ def test_the_page_goes_back_with_terraform():
     project.run("terraform init")
     project.apply("first")
     project.apply("second")
+    expect((len(commands), commands.pop(3)), (12, "tfstatectl holder /var/lib/tfstated/journal prod"), commands)
+    status, output, errors = run("holder", folder, "prod")
+    expect((status, output, ": NotLocked" in errors), (STATUSES["NotLocked"], "", True), errors)
     printed = {line: project.run(line.replace("/var/lib/tfstated/journal", str(folder))) for line in commands}
-    expect(len(printed), 9, commands)
-    expect([row["act"] for row in told(folder, "history", "prod")][:6], ["lock", "push", "unlock", "lock", "push", "unlock"])
+    expect([row["act"] for row in told(folder, "history", "prod")][-6:], ["unlock", "push", "lock"] * 2)
+    expect(printed["tfstatectl diff /var/lib/tfstated/journal prod 2 5"].split()[3:6], ["changed", "terraform_data.a", "input,"])
     expect("terraform_data.b" in printed["tfstatectl impact /var/lib/tfstated/journal prod any terraform_data.a"], True, printed)
     then, newest = (json.loads((project.folder / name).read_text()) for name in ("then.json", "newest.json"))
     current = json.loads(server.ask("GET", "/state/prod")[1])
@@ -256,7 +237,15 @@ def outcome(work):
 
 def read_by(command):
     """Returns the function that reads the output of a command."""
-    return {"show": bytes, "restore": bytes, "stats": counted}.get(command, lambda output: as_json(json.loads(output)))
+    return {"show": bytes, "restore": bytes, "stats": counted, "list": listed}.get(command, lambda output: as_json(rows_in(command, output)))
+
+
+def listed(output):
+    """Returns the rows of `list` without the age of each lock, which depends on the clock."""
+    rows = json.loads(output)
+    for row in rows:
+        expect((row["held"] is None) or row["held"] >= 0, True, row)
+    return as_json([{name: value for name, value in row.items() if name != "held"} for row in rows])
 
 
 def counted(output):
@@ -277,6 +266,7 @@ def compare(about, folder, words, wanted, fault):
 
 
 FOLDERS = folder_files()
+FILTERS = [((), {}), (("--act", "push", "--last", "2"), {"act": "push", "last": 2})]
 ARE_AWAY = st.sampled_from([True] * 3 + [False] * 2)
 POSITIONS = st.lists(st.sampled_from([*range(12), 2**62 - 1, 2**62, 2**64 - 1]), min_size=3, max_size=3, unique=True)
 
@@ -316,9 +306,12 @@ def expect_as_the_model(case):
     met = {compare(about, folder, ("list", "--json"), *outcome(lambda: as_json(listing(here, whole))))}
     found, fault = outcome(lambda: counts(here))
     met.add(compare(about, folder, ("stats",), found[0] if found else None, fault or found[1]))
+    for name in (*asked, None):
+        for words, wanted in FILTERS:
+            rows, fault = outcome(lambda own=name, by=wanted: history(whole, own, **by))
+            printed = as_json(rows[0]) if rows and rows[0] else None
+            met.add(compare(about, folder, ("history", name or "--all", "--json", *words), printed, fault or rows[1]))
     for name, positions in asked.items():
-        rows, fault = outcome(lambda own=name: history(whole, own))
-        met.add(compare(about, folder, ("history", name, "--json"), as_json(rows[0]) if rows else None, fault or rows[1]))
         met.add(compare(about, folder, ("show", name), *outcome(lambda own=name: newest_version(here, own))))
         for position in positions:
             words = (name, "--position", str(position))
@@ -347,7 +340,7 @@ def test_reading_during_writes_and_restarts_of_a_server():
         while not done.is_set():
             least = acknowledged[0]
             rows = told(folder, "history", "a")
-            if [row["serial"] for row in rows] != [*range(1, len(rows) + 1)] or len(rows) < least:
+            if [row["serial"] for row in rows] != [*range(len(rows), 0, -1)] or len(rows) < least:
                 faults.append((least, rows))
 
     server = Serving(folder).listens()

@@ -103,8 +103,13 @@ def look():
     found["holder"] = ask("LOCK", "locked", '{"ID":"other"}')
     # (the standard error that comes with it has a line of its own for what is no longer kept)
     told = box(f"tfstatectl history {FOLDER} network.prod --json 2>/dev/null")
-    found["history"] = [(row["act"], row["position"], row["serial"]) for row in json.loads(told)]
+    found["history"] = sorted((row["position"], row["act"], row["serial"]) for row in rows_in(told))
     return found
+
+
+def rows_in(told):
+    """Returns the rows of a history: 0.1 prints them as a list, later versions each on a line."""
+    return json.loads(told) if told.startswith("[") else list(map(json.loads, told.splitlines()))
 
 
 def compacted(times, name):

@@ -1,6 +1,7 @@
 """A plain model of the past of a folder as `tfstatectl` reports it: rows, versions, and faults. It
 is written from docs/VERSIONS.md and docs/JOURNAL.md, reads each journal whole, and never runs out
 of memory."""
+import calendar
 import json
 import re
 
@@ -12,6 +13,7 @@ from stdio_model import document_of, locked_by, members_of
 
 LIMIT = 2**64 - 1
 SERIAL = re.compile(rb'("serial"\s*:\s*)([0-9]+)')
+TIME = re.compile(r"(\d{4})-(\d\d)-(\d\d)T(\d\d):(\d\d):(\d\d)(?:\.\d+)?Z")
 WORDS = {"who": "Who", "operation": "Operation", "created": "Created"}
 
 
@@ -52,9 +54,14 @@ def numbers_of(state):
     return {"serial": top["serial"], "instances": len(instances_of(top)), "bytes": len(state)}
 
 
+def act_of(kind, fields):
+    """Returns the name of an act: an unlock without an identifier is forced."""
+    return "force-unlock" if kind == "unlock" and not fields[0] else kind
+
+
 def row_of(position, kind, fields):
     """Returns the row of an act."""
-    row = {"position": position, "act": kind}
+    row = {"position": position, "act": act_of(kind, fields)}
     if kind == "lock":
         return {**row, "id": locked_by(fields[0]), **words_of(fields[0])}
     return {**row, **(numbers_of(fields[1]) if kind == "push" else {}), "id": fields[0].decode() or None}
@@ -66,25 +73,71 @@ def kept_from(position):
     return {"kept_from": position} if position else {}
 
 
-def history(files, name):
-    """Returns the rows of a name, and the fault after them with its journal's number, or None."""
-    rows, is_there, reached, least = [], False, 0, 0
+def past(files, name):
+    """Returns the acts of a name, or of all names if it is None, oldest first, and the fault after
+    them with its journal's number, or None. Each act has its position, its name, the position from
+    which on versions are kept, and the lock under which it was made, or None."""
+    acts, is_there, reached, least, held = [], name is None, 0, 0, {}
     journals = opened(files)
     if not journals:
         raise Fault("NoJournal", None)
     for number, journal in journals:
         is_there = is_there or journal.has(name)
-        least = journal.base if reached < journal.base else least
+        if reached < journal.base:
+            least, held = journal.base, {}
         reached = reached if journal.is_cut else journal.base + len(journal.entries)
-        rows += [{**row_of(journal.base + place, kind, fields), **kept_from(least)}
-                 for place, (kind, own, fields) in enumerate(journal.entries, 1) if own == name]
+        for place, (kind, own, fields) in enumerate(journal.entries, 1):
+            if name not in (None, own):
+                continue
+            if kind == "lock":
+                held[own] = fields[0]
+            acts.append((journal.base + place, own, kind, fields, least, None if act_of(kind, fields) == "force-unlock" else held.get(own)))
+            if kind == "unlock":
+                held.pop(own, None)
         if journal.fault:
             if not is_there:
                 raise Fault(journal.fault, number)
-            return rows, (journal.fault, number)
+            return acts, (journal.fault, number)
     if not is_there:
         raise Fault("NoName", None)
-    return rows, None
+    return acts, None
+
+
+def seconds_of(text):
+    """Returns the whole seconds since 1970 of a time in UTC, or None."""
+    found = TIME.fullmatch(text or "")
+    return calendar.timegm(tuple(map(int, found.groups()))) if found else None
+
+
+def is_made(lock, who, since, until):
+    """Returns true if an act under a lock, or None if that is unknown, matches the holder and the
+    limits of time that are given."""
+    words = words_of(lock) if lock else dict.fromkeys(WORDS)
+    time = seconds_of(words["created"])
+    if who is not None and words["who"] != who or time is None and (since, until) != (None, None):
+        return False
+    return (since is None or since <= time) and (until is None or time <= until)
+
+
+def history(files, name, act=None, who=None, since=None, until=None, last=None):
+    """Returns the rows of a name, or of all names if it is None, newest first, and the fault after
+    them with its journal's number, or None."""
+    acts, fault = past(files, name)
+    rows = [{**row_of(position, kind, fields), **({"name": own} if name is None else {}), **kept_from(least)}
+            for position, own, kind, fields, least, lock in acts
+            if act in (None, act_of(kind, fields)) and is_made(lock, who, since, until)]
+    return rows[::-1][:last], fault
+
+
+def position_at(files, name, time):
+    """Returns the position of the last act of a name under a lock of this time or earlier."""
+    acts, fault = past(files, name)
+    if fault:
+        raise Fault(*fault)
+    found = [position for position, _, _, _, _, lock in acts if is_made(lock, None, None, time)]
+    if not found:
+        raise Fault("NoTime", None)
+    return found[-1]
 
 
 def state_at(journal, name, position):
@@ -155,11 +208,12 @@ def listing(here, whole):
     """Returns the rows of the names, over all journals."""
     journal, rows, least = newest(here), [], Opened(whole[min(whole)]).base
     names = dict.fromkeys([row[0] for row in journal.rows] + [entry[1] for entry in journal.entries])
-    for name in names:
+    for name in sorted(names):
         state, holder = journal.table.states.get(name), journal.table.holders.get(name)
         numbers = numbers_of(state[2]) if state else {"serial": None, "instances": None, "bytes": None}
         words = {"holder": holder[0], **words_of(holder[1])} if holder else {"holder": None, **{word: None for word in WORDS}}
-        rows.append({"name": name, **numbers, **words, **kept_from(least)})
+        changed = max((journal.base + place for place, entry in enumerate(journal.entries, 1) if entry[1] == name), default=None)
+        rows.append({"name": name, **numbers, "changed": changed, **words, **kept_from(least)})
     return rows
 
 

@@ -24,7 +24,12 @@ def bytes_of(*words):
 
 def told(folder, *words):
     """Returns the rows that a command prints as JSON."""
-    return json.loads(bytes_of(words[0], folder, *words[1:], "--json"))
+    return rows_in(words[0], bytes_of(words[0], folder, *words[1:], "--json"))
+
+
+def rows_in(command, text):
+    """Returns the rows of a command's JSON: `history` prints one per line, the others a list."""
+    return [json.loads(line) for line in text.splitlines()] if command == "history" else json.loads(text)
 
 
 def refused(fault, folder, *words, output=None):

@@ -1,3 +1,9 @@
+pub mod Acts
+pub mod Clock
+pub mod Comparison
+pub mod Duration
+pub mod Holder
 pub mod Kept
+pub mod Names
 pub mod Rows
 pub mod Status

@@ -22,3 +22,6 @@ status_of fault.Unplaced = 34
 status_of fault.NoAddress = 35
 status_of fault.TooManyAddresses = 35
 status_of (fault.UnknownAddress number) = 35
+status_of fault.NotLocked = 36
+status_of fault.NoTime = 32
+status_of fault.BadTime = 21

@@ -42,6 +42,12 @@ pub enum ReportFault {
     TooManyAddresses,
     #[error("UnknownAddress: the state has no instance of address {0}, counted from 0. `terraform state list` prints them")]
     UnknownAddress(usize),
+    #[error("BadTime: invalid time. Write it as 2026-02-03T04:05:06Z")]
+    BadTime,
+    #[error("NoTime: no act of the workspace has this time or an earlier one. `history` prints when locks were taken")]
+    NoTime,
+    #[error("NotLocked: nobody holds the lock of the workspace")]
+    NotLocked,
 }
 
 /// Returns the exit status of a fault.
@@ -53,11 +59,16 @@ pub fn status_of(fault: ReportFault) -> u8
         ReportFault::Changing => 20,
         ReportFault::NoName => 30,
         ReportFault::NoState => 31,
-        ReportFault::BeforeOldest(_) | ReportFault::BehindNewest(_) | ReportFault::NotKept => 32,
+        ReportFault::BeforeOldest(_)
+        | ReportFault::BehindNewest(_)
+        | ReportFault::NotKept
+        | ReportFault::NoTime => 32,
         ReportFault::LineageDiffers => 33,
         ReportFault::SerialAtLimit | ReportFault::TooLong | ReportFault::Unplaced => 34,
         ReportFault::NoAddress | ReportFault::TooManyAddresses | ReportFault::UnknownAddress(_) =>
             35,
+        ReportFault::NotLocked => 36,
+        ReportFault::BadTime => 21,
     }
 }
 

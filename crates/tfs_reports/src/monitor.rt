@@ -1,5 +1,6 @@
 //! Metrics of a folder, in the text format of Prometheus. (Prometheus, 'Exposition formats'.)
 
+use crate::clock::{age_of, seconds_now};
 use crate::fault::{ReportEnd, ReportFault, ReportPlace};
 use crate::files::TRIES;
 use crate::measures::measures_of;
@@ -51,20 +52,11 @@ pub fn stats(rt: &HostRuntime, folder: &str, copies: Option<&str>) -> Result<(),
 fn tell(rt: &HostRuntime, measures: &Measures, copied: Option<i64>) -> Result<(), ReportEnd> {
     let mut text = String::new(rt.alloc());
     add_numbers(rt.alloc(), &mut text, measures)?;
-    if let Some(now) = seconds_now(rt) {
-        let held_for = age_of(now, measures.oldest_lock);
-        add_age(rt.alloc(), &mut text, LOCK_AGE, held_for)?;
-        add_age(rt.alloc(), &mut text, COPY_AGE, age_of(now, copied))?;
-    }
+    let now = seconds_now(rt);
+    let held_for = age_of(now, measures.oldest_lock);
+    add_age(rt.alloc(), &mut text, LOCK_AGE, held_for)?;
+    add_age(rt.alloc(), &mut text, COPY_AGE, age_of(now, copied))?;
     write(rt, text.as_bytes())
-}
-
-/// Returns the time in seconds since 1970, if there is a clock.
-fn seconds_now(rt: &HostRuntime) -> Option<i64> {
-    match Timestamp::now(rt) {
-        Ok(now) => Some(now.as_second()),
-        Err(_) => None,
-    }
 }
 
 /// Returns when the newest journal of a folder of copies was modified, in seconds since 1970; none
@@ -158,12 +150,6 @@ fn add_age(
         Some(age) => add(alloc, text, metric, "gauge", age),
         None => Ok(()),
     }
-}
-
-/// Returns how many seconds ago a time was, if it is known; 0 for a time in the future.
-fn age_of(now: i64, then: Option<i64>) -> Option<u64> {
-    let ago = now.saturating_sub(then?);
-    Some(u64::try_from(ago).unwrap_or(0))
 }
 
 /// Adds the lines of a metric of a type.

@@ -7,7 +7,7 @@ use crate::acts::name_of;
 use crate::fault::{ReportEnd, ReportFault, ReportPlace};
 use crate::files::newest_journal;
 use crate::output::write;
-use crate::report::Report;
+use crate::report::{Layout, Report};
 use serde_json::{Value, json};
 use std::alloc::{AllocError, Global};
 use tfs_calls::{Impact, Kind, Query, Refusal, Text, Texts};
@@ -115,7 +115,7 @@ fn draw(rt: &HostRuntime, doc: &Doc, among: &[usize], chosen: &[usize]) -> Resul
 
 /// Returns a report with a row for each chosen instance.
 fn report_of(alloc: Global, doc: &Doc, chosen: &[usize], json: bool) -> Result<Report, AllocError> {
-    let mut report = Report::new(alloc, COLUMNS, json)?;
+    let mut report = Report::new(alloc, COLUMNS, Layout::of(json))?;
     for number in chosen {
         if *number < doc.len() {
             report.add(alloc, &row_of(alloc, doc, *number)?)?;

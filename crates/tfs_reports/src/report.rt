@@ -8,14 +8,32 @@ use serde_json::Value;
 use std::alloc::{AllocError, Global};
 use tfs_printed::push_json;
 
-/// A report so far: one line of JSON, or the names of the columns and then the rows as lines of
-/// cells, each cell followed by a tab.
+/// The layout of a printed report.
+#[derive(Clone, Copy, Debug, PartialEq, Eq)]
+pub(crate) enum Layout {
+    /// A table: the names of the columns, then a line of cells for each row.
+    Table,
+    /// One line of JSON: a list of the rows.
+    List,
+    /// One line of JSON for each row.
+    Lines,
+}
+
+impl Layout {
+    /// Returns the layout of a JSON list, or of a table.
+    pub(crate) fn of(is_json: bool) -> Layout {
+        if is_json { Layout::List } else { Layout::Table }
+    }
+}
+
+/// A report so far. Each row is kept as JSON, or as its cells, each followed by a tab.
 #[derive(Drop)]
 pub(crate) struct Report {
     columns: &'static [&'static str],
-    is_json: bool,
+    layout: Layout,
     widths: Vec<usize>,
-    text: String,
+    names: String,
+    rows: Vec<String>,
 }
 
 impl Report {
@@ -23,51 +41,87 @@ impl Report {
     pub(crate) fn new(
         alloc: Global,
         columns: &'static [&'static str],
-        is_json: bool,
+        layout: Layout,
     ) -> Result<Report, AllocError> {
         let mut widths = Vec::with_capacity(alloc, columns.len())?;
-        let mut text = String::new(alloc);
-        if is_json {
-            text.push('[')?;
-        } else {
-            add_names(&mut text, &mut widths, columns)?;
-        }
+        let mut names = String::new(alloc);
+        add_names(&mut names, &mut widths, columns)?;
         Ok(Report {
             columns,
-            is_json,
+            layout,
             widths,
-            text,
+            names,
+            rows: Vec::new(alloc),
         })
+    }
+
+    /// Returns true if the report has no rows.
+    pub(crate) fn is_empty(&self) -> bool {
+        self.rows.is_empty()
     }
 
     /// Adds a row.
     pub(crate) fn add(&mut self, alloc: Global, row: &Value) -> Result<(), AllocError> {
-        if self.is_json {
-            add_json(alloc, &mut self.text, row)
-        } else {
-            let widths = self.widths.as_mut_slice();
-            add_cells(alloc, &mut self.text, widths, self.columns, row)
+        let mut text = String::new(alloc);
+        match self.layout {
+            Layout::List | Layout::Lines => push_json(&mut text, row.to_string(alloc)?.as_str())?,
+            Layout::Table => {
+                let widths = self.widths.as_mut_slice();
+                add_cells(alloc, &mut text, widths, self.columns, row)?;
+            }
         }
+        self.rows.push(text)?;
+        Ok(())
+    }
+
+    /// Reverses the rows, and keeps at most the first `most` of them: the newest, if they were
+    /// added oldest first.
+    pub(crate) fn keep_newest(&mut self, most: usize) {
+        self.rows.reverse();
+        self.rows.truncate(most);
     }
 
     /// Prints the report.
     pub(crate) fn print(self, rt: &HostRuntime) -> Result<(), ReportEnd> {
-        let mut report = self;
-        if report.is_json {
-            report.text.push_str("]\n")?;
-            return write(rt, report.text.as_bytes());
+        let mut text = String::new(rt.alloc());
+        match self.layout {
+            Layout::List => add_list(&mut text, self.rows.as_slice())?,
+            Layout::Lines => add_lines(&mut text, self.rows.as_slice())?,
+            Layout::Table => {
+                push_line(
+                    rt.alloc(),
+                    &mut text,
+                    self.names.as_str(),
+                    self.widths.as_slice(),
+                )?;
+                for row in &self.rows {
+                    push_line(rt.alloc(), &mut text, row.as_str(), self.widths.as_slice())?;
+                }
+            }
         }
-        let table = table_text(rt.alloc(), report.text.as_str(), report.widths.as_slice())?;
-        write(rt, table.as_bytes())
+        write(rt, text.as_bytes())
     }
 }
 
-/// Adds the text of a row, after a comma unless it is the first.
-fn add_json(alloc: Global, text: &mut String, row: &Value) -> Result<(), AllocError> {
-    if text.len() > "[".len() {
-        text.push(',')?;
+/// Adds the rows as a JSON list.
+fn add_list(text: &mut String, rows: &[String]) -> Result<(), AllocError> {
+    text.push('[')?;
+    for (number, row) in rows.iter().enumerate() {
+        if 0 < number {
+            text.push(',')?;
+        }
+        text.push_str(row.as_str())?;
     }
-    push_json(text, row.to_string(alloc)?.as_str())
+    text.push_str("]\n")
+}
+
+/// Adds a line for each row.
+fn add_lines(text: &mut String, rows: &[String]) -> Result<(), AllocError> {
+    for row in rows {
+        text.push_str(row.as_str())?;
+        text.push('\n')?;
+    }
+    Ok(())
 }
 
 /// Adds the line of the column names, which are the first cells.
@@ -81,7 +135,7 @@ fn add_names(
         text.push_str(column)?;
         text.push('\t')?;
     }
-    text.push('\n')
+    Ok(())
 }
 
 /// Adds the line of a row's cells. A cell contains no tab and no line end, because these are
@@ -99,7 +153,7 @@ fn add_cells(
         text.push_str(own.as_str())?;
         text.push('\t')?;
     }
-    text.push('\n')
+    Ok(())
 }
 
 /// Widens a column to at least this width.
@@ -107,15 +161,6 @@ fn widen(widths: &mut [usize], at: usize, width: usize) {
     if let Some(own) = widths.get_mut(at) {
         *own = width.max(*own);
     }
-}
-
-/// Returns the lines of cells, aligned by blanks instead of tabs.
-fn table_text(alloc: Global, text: &str, widths: &[usize]) -> Result<String, AllocError> {
-    let mut table = String::with_capacity(alloc, text.len())?;
-    for line in text.lines() {
-        push_line(alloc, &mut table, line, widths)?;
-    }
-    Ok(table)
 }
 
 /// Adds the line of these cells, without trailing blanks.

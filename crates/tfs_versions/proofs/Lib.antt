@@ -1,4 +1,5 @@
 mod CountLemmas
+mod DiffLemmas
 mod EventLemmas
 mod HoldingLemmas
 mod ToldLemmas

@@ -1,4 +1,6 @@
+pub mod Changed
 pub mod Counts
+pub mod Diff
 pub mod Events
 pub mod Holding
 pub mod Past

@@ -84,8 +84,8 @@ fn lock_time<K: Sink>(
 }
 
 /// Returns the time at which a lock was taken, by the member `Created` of its information.
-fn created_at(alloc: Global, info: &LockInfo) -> Result<Option<i64>, AllocError>
-    ensures { IfOk result (λ time. time ≡ created_at info.now) }
+pub fn created_at(alloc: Global, info: &LockInfo) -> Result<Option<i64>, AllocError>
+    ensures value { IfOk result (λ time. time ≡ created_at info.now) }
 {
     let words = words_of(alloc, info)?;
     match words.get("Created").and_then(Value::as_str) {

@@ -2,10 +2,13 @@
 //! text that restores an older state.
 #![tactic(auto)]
 
+mod changed;
 mod counts;
+mod difference;
 mod dot;
 mod event;
 mod holding;
+mod instances;
 mod laws;
 mod number;
 mod past;
@@ -15,10 +18,12 @@ mod telling;
 mod told;
 mod whole;
 
+pub use changed::last_change;
 pub use counts::{Measures, measure};
+pub use difference::{Change, ChangeKind, Difference, diff};
 pub use dot::picture;
 pub use event::{Deed, Event, Outline};
-pub use holding::words_of;
+pub use holding::{created_at, words_of};
 pub use laws::events_are_the_acts_of_a_name_in_order;
 pub use past::state_at;
 pub use restore::{RestoreFault, restore_text};

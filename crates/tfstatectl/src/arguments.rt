@@ -17,10 +17,14 @@ pub(crate) struct Argument {
 enum Takes {
     /// One word, by its position.
     Word,
+    /// One word, by its position, or instead of it this flag.
+    WordUnless(&'static str),
     /// One of these words, by its position.
     OneOf(&'static [&'static str]),
     /// One or more words, by their position.
     Words,
+    /// One word, by its position, with this name in the help.
+    Called(&'static str),
     /// None: the argument is a flag.
     Nothing,
     /// The value of an option, with this name in the help.
@@ -36,6 +40,8 @@ enum Value {
     Required(ValueParser<'static>),
     /// An optional value with a default.
     Default(ValueParser<'static>, &'static str),
+    /// An optional value that is one of these words.
+    Among(&'static [&'static str]),
     /// An option whose value may be omitted after its name.
     Perhaps,
     /// An optional value that excludes this other option.
@@ -86,7 +92,21 @@ pub(crate) const TO: Argument = Argument {
 pub(crate) const WORKSPACE: Argument = Argument {
     name: "NAME",
     takes: Takes::Word,
-    help: "The name of the workspace",
+    help: "The name of the workspace. After -- it may begin with a hyphen",
+};
+
+/// The name of a workspace, unless all workspaces are requested.
+pub(crate) const WORKSPACE_OR_ALL: Argument = Argument {
+    name: "NAME",
+    takes: Takes::WordUnless("all"),
+    help: "The name of the workspace. After -- it may begin with a hyphen",
+};
+
+/// Whether to list the acts of all workspaces.
+pub(crate) const ALL: Argument = Argument {
+    name: "all",
+    takes: Takes::Nothing,
+    help: "Lists the acts of all workspaces, with their names",
 };
 
 /// Whether to print JSON.
@@ -94,6 +114,58 @@ pub(crate) const JSON: Argument = Argument {
     name: "json",
     takes: Takes::Nothing,
     help: "Prints JSON instead of a table",
+};
+
+/// Whether to list only locked workspaces.
+pub(crate) const HELD: Argument = Argument {
+    name: "held",
+    takes: Takes::Nothing,
+    help: "Lists only locked workspaces",
+};
+
+/// The kind of acts to list.
+pub(crate) const ACT: Argument = Argument {
+    name: "act",
+    takes: Takes::Value(
+        "ACT",
+        Value::Among(&["push", "lock", "unlock", "force-unlock", "delete"]),
+    ),
+    help: "Lists only acts of this kind",
+};
+
+/// The `Who` of the locks whose acts to list.
+pub(crate) const WHO: Argument = Argument {
+    name: "who",
+    takes: Takes::Value("WHO", Value::Optional(ValueParser::String)),
+    help: "Lists only acts under a lock whose `who` is WHO",
+};
+
+/// The earliest time of the acts to list.
+pub(crate) const SINCE: Argument = Argument {
+    name: "since",
+    takes: Takes::Value("TIME", Value::Optional(ValueParser::String)),
+    help: "Lists only acts under a lock taken at this time or later (2026-02-03T04:05:06Z)",
+};
+
+/// The latest time of the acts to list.
+pub(crate) const UNTIL: Argument = Argument {
+    name: "until",
+    takes: Takes::Value("TIME", Value::Optional(ValueParser::String)),
+    help: "Lists only acts under a lock taken at this time or earlier",
+};
+
+/// The number of newest acts to list.
+pub(crate) const LAST: Argument = Argument {
+    name: "last",
+    takes: Takes::Value("NUMBER", Value::Optional(NUMBER)),
+    help: "Lists only this number of the newest acts",
+};
+
+/// Whether to print a line of JSON for each act.
+pub(crate) const LINES: Argument = Argument {
+    name: "json",
+    takes: Takes::Nothing,
+    help: "Prints a line of JSON for each act instead of a table",
 };
 
 /// Whether to print a picture.
@@ -117,18 +189,39 @@ pub(crate) const SERVE_READS: Argument = Argument {
     help: "Continues to answer reads if the journal can't be written, instead of ending",
 };
 
-/// An optional position.
+/// An optional position or time.
 pub(crate) const POSITION: Argument = Argument {
     name: "position",
-    takes: Takes::Value("POSITION", Value::Optional(NUMBER)),
-    help: "A position from `history`",
+    takes: Takes::Value("POSITION", Value::Optional(ValueParser::String)),
+    help: "A position from `history`, or a time such as 2026-02-03T04:05:06Z",
 };
 
-/// A required position.
+/// A required position or time.
 pub(crate) const SOME_POSITION: Argument = Argument {
     name: "position",
-    takes: Takes::Value("POSITION", Value::Required(NUMBER)),
-    help: "A position from `history`",
+    takes: Takes::Value("POSITION", Value::Required(ValueParser::String)),
+    help: "A position from `history`, or a time such as 2026-02-03T04:05:06Z",
+};
+
+/// The position or time of the first version.
+pub(crate) const FIRST_POSITION: Argument = Argument {
+    name: "first-position",
+    takes: Takes::Called("FROM"),
+    help: "The position of the first version, or a time such as 2026-02-03T04:05:06Z",
+};
+
+/// The position or time of the second version.
+pub(crate) const SECOND_POSITION: Argument = Argument {
+    name: "second-position",
+    takes: Takes::Called("TO"),
+    help: "The position of the second version, or a time such as 2026-02-03T04:05:06Z",
+};
+
+/// Whether to print values.
+pub(crate) const VALUES: Argument = Argument {
+    name: "values",
+    takes: Takes::Nothing,
+    help: "Prints a row for each changed attribute with both values, secrets included",
 };
 
 /// The folder of copies.
@@ -255,8 +348,10 @@ impl Argument {
         let arg = Arg::new(alloc, self.name).help(self.help);
         match self.takes {
             Takes::Word => Ok(arg.required(true)),
+            Takes::WordUnless(flag) => { arg.required_unless_present(flag)?.conflicts_with(flag) }
             Takes::OneOf(words) => Ok(arg.required(true).value_parser(words)),
             Takes::Words => Ok(arg.required(true).num_args(1..)),
+            Takes::Called(called) => Ok(arg.required(true).value_name(called)),
             Takes::Nothing => Ok(arg.long(self.name).action(ArgAction::SetTrue)),
             Takes::Value(called, value) => value.with_value(arg.long(self.name).value_name(called)),
         }
@@ -270,6 +365,7 @@ impl Value {
             Value::Optional(parser) => Ok(option.value_parser(parser)),
             Value::Required(parser) => Ok(option.value_parser(parser).required(true)),
             Value::Default(parser, value) => Ok(option.value_parser(parser).default_value(value)),
+            Value::Among(words) => Ok(option.value_parser(words)),
             Value::Perhaps => Ok(option.num_args(0..=1).default_missing_value("")),
             Value::Unless(other) => option.conflicts_with(other),
             Value::UnlessAny(parser, others) => {

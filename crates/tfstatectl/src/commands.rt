@@ -1,9 +1,11 @@
 //! The program's commands, and their conversion for the command line parser.
 
 use crate::arguments::{
-    ADDRESSES, ANSWER_ONLY, Argument, COMPACT_BYTES, COMPACT_ENTRIES, COPIES, DOT, FIRST, FROM,
-    JOURNALS, JSON, KEEP, KEEP_BYTES, KEEP_DAYS, LEAST, LEAST_FILE, LEAST_OF_COPIES, LISTEN, NEW,
-    PAST, POSITION, QUERY, SERVE_READS, SERVED, SOME_POSITION, TO, WORKERS, WORKSPACE,
+    ACT, ADDRESSES, ALL, ANSWER_ONLY, Argument, COMPACT_BYTES, COMPACT_ENTRIES, COPIES, DOT, FIRST,
+    FIRST_POSITION, FROM, HELD, JOURNALS, JSON, KEEP, KEEP_BYTES, KEEP_DAYS, LAST, LEAST,
+    LEAST_FILE, LEAST_OF_COPIES, LINES, LISTEN, NEW, PAST, POSITION, QUERY, SECOND_POSITION,
+    SERVE_READS, SERVED, SINCE, SOME_POSITION, TO, UNTIL, VALUES, WHO, WORKERS, WORKSPACE,
+    WORKSPACE_OR_ALL,
 };
 use clap::{Arg, Command};
 use std::alloc::{AllocError, Global};
@@ -15,7 +17,8 @@ const VERSION: &str = "0.2.0 (rattle-kit-13f logic dac8208d650f15bf)";
 const STATUSES: &str =
     "Status: 0 success; 20 temporary fault: try again; 21 invalid arguments; 22 torn base; 23 damaged; 24 unlawful; 25 no journal, or \
 diverged journals; 26 below the least position; 27 no folder, or permission denied; 28 out of memory; 29 the journal can't be written: try again; \
-30 no such workspace; 31 no state; 32 no such position; 33 another lineage; 34 no next serial; 35 unknown address. 22 to 28 need a person.";
+30 no such workspace; 31 no state; 32 no such position; 33 another lineage; 34 no next serial; 35 unknown address; 36 not locked. 22 to 28 need a \
+person.";
 
 /// A command: its name, what it does, and its arguments.
 #[derive(Clone, Copy)]
@@ -26,7 +29,7 @@ struct Form {
 }
 
 /// The commands, in the order of the help.
-static COMMANDS: [Form; 10] = [
+static COMMANDS: [Form; 12] = [
     Form {
         name: "init",
         about: "Creates a folder with its first, empty journal",
@@ -63,18 +66,45 @@ static COMMANDS: [Form; 10] = [
     },
     Form {
         name: "list",
-        about: "Lists the workspaces: the state of each, and who holds its lock",
-        arguments: &[SERVED, JSON],
+        about: "Lists the workspaces by name: the state of each, and who holds its lock and for how long",
+        arguments: &[SERVED, HELD, JSON],
+    },
+    Form {
+        name: "holder",
+        about: "Prints the lock information of a workspace as JSON",
+        arguments: &[SERVED, WORKSPACE],
     },
     Form {
         name: "history",
-        about: "Lists the pushes, locks, unlocks and deletes of a workspace",
-        arguments: &[SERVED, WORKSPACE, JSON],
+        about: "Lists the pushes, locks, unlocks and deletes of a workspace or of all, newest first",
+        arguments: &[
+            SERVED,
+            WORKSPACE_OR_ALL,
+            ALL,
+            SINCE,
+            UNTIL,
+            LAST,
+            ACT,
+            WHO,
+            LINES,
+        ],
     },
     Form {
         name: "show",
         about: "Prints a state of a workspace as it was pushed: the newest one, or the one at a position",
         arguments: &[SERVED, WORKSPACE, POSITION],
+    },
+    Form {
+        name: "diff",
+        about: "Lists the instances that changed between two versions, with the names of the changed attributes",
+        arguments: &[
+            SERVED,
+            WORKSPACE,
+            FIRST_POSITION,
+            SECOND_POSITION,
+            VALUES,
+            JSON,
+        ],
     },
     Form {
         name: "restore",

@@ -1,6 +1,6 @@
 //! The program `tfstatectl`: creates a folder of journals (`init`), runs the server on it
-//! (`serve`), reports on a folder (`check`, `list`, `history`, `show`, `restore`, `impact`,
-//! `stats`), and copies it (`copy`).
+//! (`serve`), reports on a folder (`check`, `list`, `holder`, `history`, `show`, `diff`, `restore`,
+//! `impact`, `stats`), and copies it (`copy`).
 #![tactic(auto)]
 
 mod arguments;

@@ -5,7 +5,8 @@ use crate::command::folder_of;
 use clap::ArgMatches;
 use std::process::ExitCode;
 use tfs_reports::{
-    Form, ReportEnd, end_by, history, list, print_impact, query_of, restore, show, stats,
+    Asked, At, Comparison, Form, Listing, Printing, ReportEnd, end_by, history, list, print_diff,
+    print_holder, print_impact, query_of, restore, show, stats,
 };
 
 /// Runs a command that reads a folder. Returns the program's exit status.
@@ -29,14 +30,70 @@ fn report(
     name: &str,
     given: &ArgMatches<'_>,
 ) -> Result<(), ReportEnd> {
-    let position = given.get_one::<u64>("position");
+    let at = match given.get_str("position") {
+        Some(text) => Some(At::read(text)?),
+        None => None,
+    };
     match command {
-        "history" => history(rt, folder, name, given.get_flag("json")),
-        "show" => show(rt, folder, name, position),
-        "restore" => restore(rt, folder, name, position.unwrap_or(0)),
+        "holder" => print_holder(rt, folder, name),
+        "history" => history(
+            rt,
+            folder,
+            workspace_of(given),
+            &asked_of(given),
+            printing_of(given),
+        ),
+        "show" => show(rt, folder, name, at),
+        "diff" => print_diff(rt, folder, name, comparison_of(given)?),
+        "restore" => restore(rt, folder, name, at.unwrap_or(At::Position(0))),
         "impact" => report_impact(rt, folder, name, given),
         "stats" => stats(rt, folder, given.get_str("copies")),
-        _ => list(rt, folder, given.get_flag("json")),
+        _ => list(rt, folder, listing_of(given)),
+    }
+}
+
+/// Returns the options of `list`.
+fn listing_of(given: &ArgMatches<'_>) -> Listing {
+    Listing {
+        is_json: given.get_flag("json"),
+        is_held_only: given.get_flag("held"),
+    }
+}
+
+/// Returns the options of `diff`.
+fn comparison_of(given: &ArgMatches<'_>) -> Result<Comparison, ReportEnd> {
+    Ok(Comparison {
+        from: At::read(given.get_str("first-position").unwrap_or("0"))?,
+        to: At::read(given.get_str("second-position").unwrap_or("0"))?,
+        has_values: given.get_flag("values"),
+        is_json: given.get_flag("json"),
+    })
+}
+
+/// Returns the filter options of `history`.
+fn asked_of<'a>(given: &ArgMatches<'a>) -> Asked<'a> {
+    Asked {
+        act: given.get_str("act"),
+        who: given.get_str("who"),
+        since: given.get_str("since"),
+        until: given.get_str("until"),
+    }
+}
+
+/// Returns the workspace whose acts to list; none for all workspaces.
+fn workspace_of<'a>(given: &ArgMatches<'a>) -> Option<&'a str> {
+    if given.get_flag("all") {
+        None
+    } else {
+        given.get_str("NAME")
+    }
+}
+
+/// Returns the output options of `history`.
+fn printing_of(given: &ArgMatches<'_>) -> Printing {
+    Printing {
+        is_json: given.get_flag("json"),
+        most: given.get_one::<usize>("last").unwrap_or(usize::MAX),
     }
 }
 
