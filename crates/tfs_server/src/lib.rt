@@ -4,12 +4,12 @@
 mod fault;
 mod folder_runs;
 mod gate;
+mod hold;
 mod listening;
 mod moments;
 mod notice;
 mod placing;
 mod serve;
-mod underway;
 mod watch;
 
 pub use serve::{Bounds, Left, Plan, StartedFolder, serve_folder};
