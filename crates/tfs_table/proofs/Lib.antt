@@ -7,3 +7,4 @@ pub mod TableLemmas
 pub mod RebaseLemmas
 pub mod OpenLemmas
 pub mod NumberLemmas
+pub mod MarkLemmas

@@ -24,7 +24,7 @@ use Rattle.tfs_table.proofs.LawfulLemmas.{taken, lawful_opened, lawful_more}
 
 -- The text of a journal with one more entry is the text of the journal followed by the entry's
 -- record.
-text_more : (j : Journal) (e : EntryValue) → journal_text (with_entry j e) ≡ journal_text j ++ record_text e
+pub text_more : (j : Journal) (e : EntryValue) → journal_text (with_entry j e) ≡ journal_text j ++ record_text e
 text_more j e =
     let front = header_text 2 in
     let base = base_text j.base in

@@ -4,3 +4,4 @@ pub mod Table
 pub mod Ready
 pub mod Rebase
 pub mod Open
+pub mod Mark

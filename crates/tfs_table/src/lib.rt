@@ -4,6 +4,7 @@
 mod fault;
 mod judge;
 mod laws;
+mod lookups;
 mod making;
 mod open;
 mod prepared;

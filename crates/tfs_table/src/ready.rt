@@ -1,9 +1,10 @@
 //! Changes that a table has accepted and not made yet.
 
-ghost use Rattle.std.specs.Prelude.{◌≡◌, ◌<◌, None, Some, option_map, slice_get};
+ghost use Rattle.std.specs.Prelude.{◌≡◌, ◌<◌, length, None, Some, option_map, slice_get};
 ghost use Rattle.std.specs.Arc.{arc_value};
 ghost use Rattle.tfs_rules.specs.History.{state_of};
 ghost use Rattle.tfs_records.specs.Journal.{acts_of, names_of, with_entry};
+ghost use Rattle.tfs_records.specs.Format.{record_text};
 ghost use Rattle.tfs_calls.specs.Transition.{act_refusal, open_model};
 
 use std::marker::Model;
@@ -54,6 +55,13 @@ impl Ready {
         ensures value { result.now ≡ self.now.entry }
     {
         &self.entry
+    }
+
+    /// Returns the length in bytes of the entry's record.
+    pub fn record_len(&self) -> usize
+        ensures value { result ≡ length (record_text self.now.entry) }
+    {
+        self.text.len()
     }
 
     /// Returns the number that the name has afterwards among the journal's names, from 0, in the
