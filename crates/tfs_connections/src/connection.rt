@@ -1,6 +1,6 @@
 //! The two ends of a connection, with time limits.
 
-ghost use Rattle.std.specs.Prelude.{◌≡◌, ◌<◌, IfOk};
+ghost use Rattle.std.specs.Prelude.{◌≡◌, ◌<◌, [], IfOk};
 ghost use Rattle.std.specs.Io.{ReadsAtMost, WritesAtMost};
 ghost use Rattle.std.specs.Io.KnownBytes.{ReadConsumes, WriteAppends};
 ghost use Rattle.std.specs.IoError.{error_kind};
@@ -8,33 +8,54 @@ ghost use Rattle.tfs_connections.specs.Waiting.{is_passing};
 
 use crate::limits::MAX_LOOKS;
 use crate::timing::Timing;
+use crate::written::Text;
 use std::io;
 use std::io::{ErrorKind, Read, Write};
 use std::time::Clock;
 use tfs_conversation::{LentFault, Outlet, Source};
 
 /// The reading end of a connection. It fails if its stream fails, if the client takes too long, or
-/// if the conversation is to end. After a failure each read fails.
+/// if the conversation is to end. After a failure each read fails. For proofs, it keeps the bytes
+/// that its stream gave.
 #[derive(Drop)]
 pub struct Incoming<'t, 'r, 'e, R: Clock, S: Read> {
     timing: &'t Timing<'r, 'e, R>,
     stream: S,
     has_failed: bool,
+    given: Text,
 }
 
 impl<'t, 'r, 'e, R: Clock, S: Read> Incoming<'t, 'r, 'e, R, S> {
     /// Wraps a stream that hasn't failed.
-    pub fn new(timing: &'t Timing<'r, 'e, R>, stream: S) -> Incoming<'t, 'r, 'e, R, S> {
+    pub fn new(timing: &'t Timing<'r, 'e, R>, stream: S) -> Incoming<'t, 'r, 'e, R, S>
+        ensures given { result.given.bytes ≡ [] }
+    {
         Incoming {
             timing,
             stream,
             has_failed: false,
+            given: Text::new(),
         }
     }
 }
 
+impl<'t, 'r, 'e, R: Clock, S: Read + Drop> Incoming<'t, 'r, 'e, R, S> {
+    /// Returns the bytes that were read.
+    pub(crate) fn into_given(self) -> Text
+        ensures given { result ≡ self.entry.given }
+    {
+        let Incoming { given, .. } = self;
+        given
+    }
+}
+
 impl<'t, 'r, 'e, R: Clock, S: Read> Source for Incoming<'t, 'r, 'e, R, S> {
+    ghost use Rattle.std.specs.Prelude.{Some};
+
     ghost remaining = { λ i. S.remaining i.stream };
+
+    // The bytes that the stream gave.
+    ghost taken = { λ i. Some i.given.bytes };
 
     ghost failed = { λ i. i.has_failed };
 
@@ -43,9 +64,17 @@ impl<'t, 'r, 'e, R: Clock, S: Read> Source for Incoming<'t, 'r, 'e, R, S> {
             self.has_failed = true;
             return Err(LentFault);
         }
-        let result = read_in_time(self.timing, &mut self.stream, buf);
-        self.has_failed = result.is_err();
-        result
+        match read_in_time(self.timing, &mut self.stream, buf) {
+            Ok(count) => {
+                let (front, _) = buf.split_at(count);
+                self.given.note(front);
+                Ok(count)
+            }
+            Err(fault) => {
+                self.has_failed = true;
+                Err(fault)
+            }
+        }
     }
 }
 

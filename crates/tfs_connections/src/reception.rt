@@ -2,8 +2,8 @@
 
 ghost use Rattle.std.specs.Prelude.{◌≡◌, ◌++◌, ◌∷◌, ℕ, List, [], IfErr, OnErr};
 ghost use Rattle.tfs_connections.specs.Accepting.{IsFinal, error_of};
-ghost use Rattle.tfs_connections.specs.Talking.{written_at};
-ghost use Rattle.tfs_conversation.specs.Conversation.{HasTalked};
+ghost use Rattle.tfs_connections.specs.Talking.{read_at, written_at};
+ghost use Rattle.tfs_conversation.specs.Conversation.{HasSpoken, HasTalked};
 
 use crate::accepting::{AcceptFault, Listening, take_connection};
 use crate::connection::{Incoming, Outgoing};
@@ -16,7 +16,7 @@ use std::net::OpenListener;
 use std::sync::Wait;
 use std::sync::atomic::AtomicBool;
 use std::time::Clock;
-use tfs_conversation::{Desk, Reads, converse};
+use tfs_conversation::{Desk, OwedDesk, Plain, Reads, converse_owed};
 
 /// The setting of conversations: the runtime, the allocator, the flag that asks conversations to
 /// end, the flag that forbids all writes, and the load of the workers.
@@ -30,20 +30,24 @@ pub struct Setting<'s, R> {
 }
 
 /// A receiver of connections from a borrowed listener, which holds a conversation on each. Nothing
-/// else uses these connections. For proofs, it keeps what was written to each.
+/// else uses these connections. For proofs, it keeps what was read from each, and what was written
+/// to it.
 #[derive(Drop)]
 pub struct Reception<'l, L: OpenListener> {
     listening: Listening<'l, L>,
+    read: Written,
     written: Written,
 }
 
 impl<'l, L: OpenListener> Reception<'l, L> {
     /// Creates a receiver that has taken no connection.
     pub fn new(listener: &'l L) -> Reception<'l, L>
+        ensures read { read_at result ≡ [] }
         ensures written { written_at result ≡ [] }
     {
         Reception {
             listening: Listening::new(listener),
+            read: Written::new(),
             written: Written::new(),
         }
     }
@@ -55,12 +59,22 @@ impl<'l, L: OpenListener> Reception<'l, L> {
         let Reception { written, .. } = self;
         written
     }
+
+    /// Returns what was read from each connection, and what was written to it.
+    pub fn into_texts(self) -> (Written, Written)
+        ensures read { result.0.texts ≡ read_at self.entry }
+        ensures written { result.1.texts ≡ written_at self.entry }
+    {
+        let Reception { read, written, .. } = self;
+        (read, written)
+    }
 }
 
 impl<'l, L: OpenListener<Stream = S>, S: Connection + Drop> Reception<'l, L> {
-    /// Waits for the next connection, and holds a conversation over a desk on it. Exactly the bytes
-    /// of the conversation are written to the connection. If conversations are to end before a
-    /// connection comes, or it was gone before it was taken, the conversation has no bytes.
+    /// Waits for the next connection, and holds a conversation over a desk on it, of exactly the
+    /// bytes that are read from the connection and written to it. If conversations are to end
+    /// before a connection comes, or it was gone before it was taken, the conversation has no
+    /// bytes.
     ///
     /// # Errors
     ///
@@ -73,52 +87,113 @@ impl<'l, L: OpenListener<Stream = S>, S: Connection + Drop> Reception<'l, L> {
     ) -> Result<(), AcceptFault>
         ensures ends { IfErr result (λ fault. IsFinal (error_of fault)) }
         ensures kept { OnErr result (desk.new ≡ desk.old) }
-        ensures talked { (text : List ℕ) × (written_at self.new ≡ written_at self.old ++ text ∷ []) × HasTalked D.step desk.old desk.new text }
+        ensures talked { (bytes : List ℕ) × (text : List ℕ) × (read_at self.new ≡ read_at self.old ++ bytes ∷ [])
+            × (written_at self.new ≡ written_at self.old ++ text ∷ []) × HasTalked D.step desk.old desk.new bytes text }
+    {
+        let mut plain = Plain { desk };
+        self.converse_plainly(setting, &mut plain)
+    }
+
+    /// Holds a conversation as `converse` does, over the borrowed desk, which stays borrowed.
+    fn converse_plainly<D: Desk, R: Wait + Clock>(
+        &mut self,
+        setting: &Setting<'_, R>,
+        plain: &mut Plain<'_, D>,
+    ) -> Result<(), AcceptFault>
+        ensures loan { plain.new.desk.ghost_name ≡ plain.old.desk.ghost_name }
+        ensures ends { IfErr result (λ fault. IsFinal (error_of fault)) }
+        ensures kept { OnErr result (plain.new ≡ plain.old) }
+        ensures talked { (bytes : List ℕ) × (text : List ℕ) × (read_at self.new ≡ read_at self.old ++ bytes ∷ [])
+            × (written_at self.new ≡ written_at self.old ++ text ∷ []) × HasTalked D.step plain.old.desk.now plain.new.desk.now bytes text }
+    {
+        self.converse_owed(setting, plain)
+    }
+
+    /// Holds a conversation as `converse` does, over a desk whose replies are owed.
+    ///
+    /// # Errors
+    ///
+    /// Returns the fault of the listener if it is final; the desk is unchanged then, and the
+    /// conversation has no bytes.
+    pub fn converse_owed<D: OwedDesk, R: Wait + Clock>(
+        &mut self,
+        setting: &Setting<'_, R>,
+        desk: &mut D,
+    ) -> Result<(), AcceptFault>
+        ensures ends { IfErr result (λ fault. IsFinal (error_of fault)) }
+        ensures kept { OnErr result (desk.new ≡ desk.old) }
+        ensures talked { (bytes : List ℕ) × (text : List ℕ) × (read_at self.new ≡ read_at self.old ++ bytes ∷ [])
+            × (written_at self.new ≡ written_at self.old ++ text ∷ []) × HasSpoken D.step desk.old desk.new bytes text }
     {
         let next = take_connection(setting.rt, &mut self.listening, setting.ended, setting.load);
-        let (text, result) = match next {
+        let (texts, result) = match next {
             Ok(stream) => (converse_on(setting, stream, desk), Ok(())),
-            Err(fault) => (Text::new(), Err(fault)),
+            Err(fault) => (Texts::new(), Err(fault)),
         };
-        self.written = self.written.with(&text);
+        self.read = self.read.with(&texts.read);
+        self.written = self.written.with(&texts.written);
         result
     }
 }
 
-/// Holds a conversation over a desk on a connection, if there is one. Returns what was written.
-fn converse_on<S: Connection + Drop, D: Desk, R: Wait + Clock>(
+/// The bytes read from a connection, and the bytes written to it.
+#[derive(Drop)]
+struct Texts {
+    read: Text,
+    written: Text,
+}
+
+impl Texts {
+    /// Creates two texts of no bytes.
+    fn new() -> Texts
+        ensures read { result.read.bytes ≡ [] }
+        ensures written { result.written.bytes ≡ [] }
+    {
+        Texts {
+            read: Text::new(),
+            written: Text::new(),
+        }
+    }
+}
+
+/// Holds a conversation over a desk on a connection, if there is one. Returns what was read and
+/// written.
+fn converse_on<S: Connection + Drop, D: OwedDesk, R: Wait + Clock>(
     setting: &Setting<'_, R>,
     stream: Option<S>,
     desk: &mut D,
-) -> Text
-    ensures talked { HasTalked D.step desk.old desk.new result.bytes }
+) -> Texts
+    ensures talked { HasSpoken D.step desk.old desk.new result.read.bytes result.written.bytes }
 {
     let Some(stream) = stream else {
-        return Text::new();
+        return Texts::new();
     };
     if stream.limit().is_err() {
-        return Text::new();
+        return Texts::new();
     }
     let timing = Timing::new(setting.rt, setting.ended, setting.muted, setting.load);
-    let text = converse_in_time(setting.alloc, &timing, &stream, desk);
+    let texts = converse_in_time(setting.alloc, &timing, &stream, desk);
     timing.end_slow();
-    text
+    texts
 }
 
-/// Holds a conversation over a desk on a connection within the time limits. Returns what was
-/// written.
-fn converse_in_time<S: Connection, D: Desk, C: Clock>(
+/// Holds a conversation over a desk on a connection within the time limits. Returns what was read
+/// and written.
+fn converse_in_time<S: Connection, D: OwedDesk, C: Clock>(
     alloc: Global,
     timing: &Timing<'_, '_, C>,
     stream: &S,
     desk: &mut D,
-) -> Text
-    ensures talked { HasTalked D.step desk.old desk.new result.bytes }
+) -> Texts
+    ensures talked { HasSpoken D.step desk.old desk.new result.read.bytes result.written.bytes }
 {
     let mut reader = Incoming::new(timing, LentConnection::of(stream));
     let mut writer = Outgoing::new(timing, LentConnection::of(stream));
     let mut reads = Reads::new();
-    let _ = converse(alloc, &mut reader, &mut writer, desk, &mut reads);
+    let _ = converse_owed(alloc, &mut reader, &mut writer, desk, &mut reads);
     let LentConnection { written, .. } = writer.into_stream();
-    written
+    Texts {
+        read: reader.into_given(),
+        written,
+    }
 }

@@ -1,11 +1,11 @@
 -- Lemmas about the next input of a conversation.
-use Rattle.std.proofs.Common.{◌≡◌, ◌≤◌, ◌<◌, ◌+◌, ◌-◌, ◌*◌, ◌⊎◌, ℕ, List, [], ◌∷◌, ◌++◌, length, drop, Option, Some, None, IfSome, Result, IfOk, IfErr, refl, sym, ◌∙◌, ap, subst, arith, inl, inr, length-append}
-use Rattle.std.specs.Io.KnownBytes.{Consumes, Keeps}
+use Rattle.std.proofs.Common.{◌≡◌, ◌≤◌, ◌<◌, ◌+◌, ◌-◌, ◌*◌, ◌⊎◌, ℕ, List, [], ◌∷◌, ◌++◌, length, drop, Option, Some, None, IfSome, Result, IfOk, IfErr, refl, sym, ◌∙◌, ap, subst, arith, inl, inr, length-append, append-nil}
+use Rattle.std.specs.Io.KnownBytes.{Appends, Consumes, Keeps}
 use Rattle.tfs_framing.specs.Request.{RequestValue}
 use Rattle.tfs_framing.specs.Framing.{BeginsWith, IsUnfinished}
 use Rattle.tfs_framing.proofs.MessageLemmas.{frame_is_no_empty_text, rest_behind}
-use Rattle.tfs_conversation.specs.Arrived.{Arrives, ArrivesOrStays, BreaksThere, EndsSo, EndsThere}
-use Rattle.tfs_conversation.specs.Conversation.{ComesInReads, IsReadThrough}
+use Rattle.tfs_conversation.specs.Arrived.{Arrives, ArrivesOrStays, EndsSo, EndsThere}
+use Rattle.tfs_conversation.specs.Conversation.{BreaksThere, ComesInReads, IsReadThrough}
 use Rattle.tfs_conversation.specs.Turns.{work_left}
 use Rattle.tfs_conversation.specs.declared.input.Arrived.{Arrived}
 use Rattle.tfs_conversation.specs.declared.ended.Ended.{Ended}
@@ -65,6 +65,12 @@ pub kept_nothing : (a b : Option (List ℕ)) → Keeps a b → Consumes a b []
 kept_nothing None b k = tt
 kept_nothing (Some xs) None k = absurd k
 kept_nothing (Some xs) (Some ys) k = sym k
+
+-- A reader that keeps the bytes that it returned has returned none.
+pub kept_taken : (a b : Option (List ℕ)) → Keeps a b → Appends a b []
+kept_taken None b k = tt
+kept_taken (Some xs) None k = absurd k
+kept_taken (Some xs) (Some ys) k = k ∙ sym (append-nil xs)
 
 -- The empty list of bytes can come in any number of reads.
 pub no_reads : (a b : ℕ) → a ≤ b → ComesInReads [] a b

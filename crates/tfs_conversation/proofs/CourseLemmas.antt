@@ -1,20 +1,36 @@
 -- Lemmas about courses: a course after exchanges, and a course of at most one exchange.
-use Rattle.std.proofs.Common.{◌≡◌, ◌||◌, ℕ, Bool, true, false, List, [], ◌∷◌, ◌++◌, drop, Some, refl, sym, ◌∙◌, ap, subst}
+use Rattle.std.proofs.Common.{◌≡◌, ◌||◌, ℕ, Bool, true, false, List, [], ◌∷◌, ◌++◌, drop, flat_map, Some, None, refl, sym, ◌∙◌, ap, subst, ◌⊎◌, inl, inr}
 use Rattle.std.proofs.Common.{append_assoc, append-nil}
 use Rattle.std.proofs.lemmas.List.{map-append}
 use Rattle.std.proofs.lemmas.Grind.{flat_map-append}
-use Rattle.tfs_calls.specs.declared.call.Call.{Call}
 use Rattle.tfs_calls.specs.declared.refusal.Refusal.{Refusal}
-use Rattle.tfs_calls.specs.Reply.{ReplyValue}
+use Rattle.tfs_framing.specs.declared.request.Form.{Form}
 use Rattle.tfs_framing.specs.Request.{RequestValue}
 use Rattle.tfs_framing.specs.Framing.{BeginsWith, framing_refusal}
 use Rattle.tfs_framing.proofs.MessageLemmas.{rest_behind}
 use Rattle.tfs_conversation.specs.Messages.{AreMessages, IsRefused, Stop, one_asks}
-use Rattle.tfs_conversation.specs.Conversation.{AnswersRequest, Exchange, requests_of, Runs, Course, messages_of, exchange_text, replies_text, refusal_text}
+use Rattle.tfs_conversation.specs.Conversation.{Said, is_open, Step, AreOpen, AnswersRequest, Exchange, requests_of, Runs, Course, messages_of, exchange_text, refusal_text}
 use Rattle.tfs_conversation.specs.Conversation.{course_text, TakesCourse}
-use Rattle.tfs_conversation.specs.Turns.{course_of}
 use Rattle.tfs_conversation.specs.declared.ended.Ended.{Ended}
 use Rattle.tfs_conversation.specs.declared.ended.Ended.TheVariants.{Clean, Cut, Asked, Refused}
+
+-- ---- words
+
+-- The texts of replies.
+abbrev pub replies_text : List Exchange → List ℕ
+replies_text exchanges = flat_map exchange_text exchanges
+
+-- No reply is withheld.
+abbrev pub AllOpen : List Exchange → Type 0
+AllOpen exchanges = AreOpen (λ x. ⊥) exchanges
+
+-- A course without a refusal.
+abbrev pub course_of : List Exchange → List ℕ → Course
+course_of exchanges rest = record { exchanges = exchanges; rest = rest; refusal = None }
+
+-- The form of the reply to a refused message.
+abbrev pub closing_form : Form
+closing_form = record { close = true; bare = false }
 
 -- ---- messages
 
@@ -63,6 +79,16 @@ pub asked_behind : (xs ys : List Exchange) → one_asks (requests_of xs) ≡ fal
     → one_asks (requests_of (xs ++ ys)) ≡ one_asks (requests_of ys)
 asked_behind xs ys goes_on = ap one_asks (requests_then xs ys) ∙ asks_behind (requests_of xs) (requests_of ys) goes_on
 
+-- If no reply of the first exchanges is withheld, the condition on the last reply of the others is
+-- one on the last of all.
+pub open_then : (last : Exchange → Type 0) (xs ys : List Exchange) → AllOpen xs → AreOpen last ys → AreOpen last (xs ++ ys)
+open_then last [] ys a b = b
+open_then last (x ∷ xs) ys a b = (by a.0, open_then last xs ys a.1 b)
+  where
+    by : (is_open x.reply ≡ true) ⊎ ((xs ≡ []) × ⊥) → (is_open x.reply ≡ true) ⊎ ((xs ++ ys ≡ []) × last x)
+    by (inl o) = inl o
+    by (inr w) = absurd w.1
+
 -- ---- courses
 
 -- The course with exchanges before it.
@@ -82,7 +108,7 @@ stop_later xs c Cut goes_on s = (asked_behind xs c.exchanges goes_on ∙ s.0, s.
 stop_later xs c Asked goes_on s = (asked_behind xs c.exchanges goes_on ∙ s.0, s.1)
 stop_later xs c Refused goes_on s = s
 
-module _ {S : Type 0} (step : S → Call → ReplyValue → S → Type 0) where
+module _ {S : Type 0} (step : Step S) where
   -- Running two lists of exchanges, one after the other, runs the joined lists.
   runs_then : (old between new : S) (xs ys : List Exchange) → Runs step old xs between → Runs step between ys new → Runs step old (xs ++ ys) new
   runs_then old between new [] ys a b = subst (λ (o : S). Runs step o ys new) a b
@@ -113,7 +139,7 @@ module _ {S : Type 0} (step : S → Call → ReplyValue → S → Type 0) where
   takes_refusal desk bytes rest refusal is refused = record { has = record { messages = is; refused = (refl, refused) }; run = refl }
 
   -- One answered message is a course of one exchange.
-  pub takes_one : (old new : S) (input left : List ℕ) (r : RequestValue) (used : ℕ) (reply : ReplyValue) → BeginsWith input r used
+  pub takes_one : (old new : S) (input left : List ℕ) (r : RequestValue) (used : ℕ) (reply : Said) → BeginsWith input r used
       → left ≡ drop used input → AnswersRequest step old r reply new
       → TakesCourse step old new (input ++ []) (course_of (record { request = r; reply = reply } ∷ []) left)
   takes_one old new input left r used reply b is answers = record {

@@ -2,7 +2,7 @@
 use Rattle.std.specs.List.{AllByRecursion}
 use Rattle.std.specs.Io.KnownBytes.{Appends}
 use Rattle.std.specs.Option.{option_map_or}
-use Rattle.std.proofs.Common.{◌≡◌, ◌≢◌, ℕ, List, [], ◌∷◌, ◌++◌, Option, Some, None, Result, Ok, Err, refl, sym, ap, subst, inl, inr}
+use Rattle.std.proofs.Common.{◌≡◌, ◌≢◌, true, ℕ, List, [], ◌∷◌, ◌++◌, Option, Some, None, Result, Ok, Err, refl, sym, ap, subst, inl, inr}
 use Rattle.tfs_state.specs.Document.{Document}
 use Rattle.tfs_rules.specs.Act.{ActValue}
 use Rattle.tfs_rules.specs.History.{state_of}
@@ -17,7 +17,7 @@ use Rattle.tfs_calls.specs.declared.refusal.Refusal.TheVariants.{OutOfMemory, Jo
 use Rattle.tfs_calls.specs.Draft.{act_of, draft_refusal}
 use Rattle.tfs_calls.specs.Impact.{chosen_by, query_refusal}
 use Rattle.tfs_calls.specs.Refusal.{RefusalValue, refusal_value, out_of_memory, journal_fault, no_state}
-use Rattle.tfs_calls.specs.Reply.{ReplyValue, state, impact, refused}
+use Rattle.tfs_calls.specs.Reply.{state, impact, refused}
 use Rattle.tfs_calls.specs.Transition.{TableModel, act_refusal, answer_of}
 use Rattle.tfs_table.specs.Table.{TableValue, model_of, IsSameTable}
 use Rattle.tfs_framing.specs.Request.{RequestValue}
@@ -26,9 +26,10 @@ use Rattle.tfs_framing.specs.declared.framing.Take.{Take}
 use Rattle.tfs_http.specs.Routing.{RoutesTo, routing_refusal}
 use Rattle.tfs_conversation.specs.Desk.{AnswersCall, Leaves}
 use Rattle.tfs_conversation.specs.Messages.{AreMessages, IsRefused, StopsAt, one_asks}
-use Rattle.tfs_conversation.specs.Conversation.{AnswersRequest, Exchange, requests_of, Runs, Course, course_text}
+use Rattle.tfs_conversation.specs.Conversation.{Said, replied, is_open, Plainly, AnswersRequest, Exchange, requests_of, Runs, Course, course_text}
 use Rattle.tfs_conversation.specs.Output.{IsUndisturbed, HasOutput}
 use Rattle.tfs_conversation.specs.declared.ended.Ended.{Ended}
+use Rattle.tfs_conversation.proofs.CourseLemmas.{AllOpen}
 use Rattle.tfs_conversation.proofs.MessagesLemmas.{messages_some}
 
 -- ---- tables
@@ -162,7 +163,8 @@ module _ (told : (m : TableModel) (call : Call) → answer_of m call ≢ refused
 
   -- A refusal by routing is neither `out_of_memory` nor `journal_fault`.
   routing_told : (r : RequestValue) (refusal : Refusal) → routing_refusal r refusal
-      → (refused (refusal_value refusal) ≢ refused out_of_memory) × (refused (refusal_value refusal) ≢ refused journal_fault)
+      → (replied (refused (refusal_value refusal)) ≢ replied (refused out_of_memory))
+      × (replied (refused (refusal_value refusal)) ≢ replied (refused journal_fault))
   routing_told r OutOfMemory is = absurd is
   routing_told r JournalFault is = absurd is
   routing_told r refusal is = (λ e. cc, λ e. cc)
@@ -170,8 +172,8 @@ module _ (told : (m : TableModel) (call : Call) → answer_of m call ≢ refused
   module _ (routed : (r : RequestValue) → (x : Result Call Refusal) × RoutesTo r x) where
     -- The request has a reply that is neither `out_of_memory` nor `journal_fault`.
     abbrev IsAnswered : TableValue → RequestValue → Type 0
-    IsAnswered old r = (reply : ReplyValue) × (new : TableValue) × AnswersRequest AnswersCall old r reply new
-        × (reply ≢ refused out_of_memory) × (reply ≢ refused journal_fault)
+    IsAnswered old r = (reply : Said) × (new : TableValue) × AnswersRequest (Plainly AnswersCall) old r reply new
+        × (reply ≢ replied (refused out_of_memory)) × (reply ≢ replied (refused journal_fault)) × (is_open reply ≡ true)
 
     -- Each request has a reply of this kind.
     request_answered : (old : TableValue) (r : RequestValue) → IsAnswered old r
@@ -179,18 +181,19 @@ module _ (told : (m : TableModel) (call : Call) → answer_of m call ≢ refused
       where
         by : (x : Result Call Refusal) → RoutesTo r x → IsAnswered old r
         by (Err refusal) is = let other = routing_told r refusal is in
-            (refused (refusal_value refusal), old, inl (refusal, is, refl, refl), other.0, other.1)
+            (replied (refused (refusal_value refusal)), old, inl (refusal, is, refl, refl), other.0, other.1, refl)
         by (Ok call) is = let a = call_answered old call in
-            (answer_of (model_of old) call, a.0, inr (inr (call, is, a.1)), had (model_of old) call, told (model_of old) call)
+            let reply = answer_of (model_of old) call in
+            (replied reply, a.0, inr (inr (call, is, (reply, refl, a.1))), (λ e. had (model_of old) call (cc e)), (λ e. told (model_of old) call (cc e)), refl)
 
     -- The requests have replies of this kind, one after the other.
     abbrev AreAnswered : TableValue → List RequestValue → Type 0
-    AreAnswered old requests = (xs : List Exchange) × (new : TableValue) × (requests_of xs ≡ requests) × Runs AnswersCall old xs new
-        × AllByRecursion IsUndisturbed xs
+    AreAnswered old requests = (xs : List Exchange) × (new : TableValue) × (requests_of xs ≡ requests) × Runs (Plainly AnswersCall) old xs new
+        × AllByRecursion IsUndisturbed xs × AllOpen xs
 
     -- Each list of requests has replies of this kind.
     requests_answered : (old : TableValue) (requests : List RequestValue) → AreAnswered old requests
-    requests_answered old [] = ([], old, refl, refl, tt)
+    requests_answered old [] = ([], old, refl, refl, tt, tt)
     requests_answered old (r ∷ rs) =
         let first = request_answered old r in
         let others = requests_answered first.1 rs in (
@@ -199,6 +202,7 @@ module _ (told : (m : TableModel) (call : Call) → answer_of m call ≢ refused
           ap (λ t. r ∷ t) others.2,
           (first.1, first.2, others.3),
           ((first.3, first.4), others.4),
+          (inl first.5, others.5),
         )
 
     -- The replies to the messages of the bytes, one after the other, are their output.
@@ -222,6 +226,7 @@ module _ (told : (m : TableModel) (call : Call) → answer_of m call ≢ refused
                 };
                 run = run.3;
               };
+              opened = run.5;
               stop = subst (λ (rs : List RequestValue). StopsAt (one_asks rs) m.rest m.refusal found.1) (sym run.2) found.3;
               text_is = refl;
             };

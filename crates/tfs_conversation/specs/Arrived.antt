@@ -1,14 +1,10 @@
 -- The next input of a conversation.
 use Rattle.std.specs.Prelude.{◌≡◌, ◌⊎◌, ℕ, Option, Some, None, List, [], drop}
-use Rattle.tfs_framing.specs.Decoder.{HasNoRefusal}
 use Rattle.tfs_framing.specs.Framing.{BeginsWith, IsUnfinished, framing_refusal}
 use Rattle.tfs_conversation.specs.Conversation.{IsReadThrough}
-use Rattle.tfs_conversation.specs.Turns.{FailsReading}
 use Rattle.tfs_conversation.specs.declared.input.Arrived.{Arrived}
 use Rattle.tfs_conversation.specs.declared.ended.Ended.{Ended}
 use Rattle.tfs_conversation.specs.declared.ended.Ended.TheVariants.{Clean, Cut}
-use Rattle.tfs_http.specs.declared.fault.ServeFault.{ServeFault}
-use Rattle.tfs_http.specs.declared.fault.ServeFault.TheVariants.{NoMemory}
 
 -- How input ended: between messages, or inside one.
 abbrev pub EndsSo : List ℕ → Ended → Type 0
@@ -27,10 +23,5 @@ ArrivesOrStays bytes left (Some arrived) = Arrives bytes left arrived
 
 -- If input has ended, the reader is at its end.
 abbrev pub EndsThere : Option (List ℕ) → Arrived → Type 0
-EndsThere reader (Arrived.Message r) = Unit {0}
-EndsThere reader (Arrived.Refused refusal) = Unit {0}
 EndsThere reader (Arrived.Ended ended) = IsReadThrough ended reader
-
--- An error while reading unfinished bytes; or lack of memory, if the bytes aren't refused.
-abbrev pub BreaksThere : List ℕ → ServeFault → ℕ → ℕ → Type 0
-BreaksThere bytes fault before after = (IsUnfinished bytes × FailsReading fault before after) ⊎ ((fault ≡ NoMemory) × HasNoRefusal bytes)
+EndsThere reader _ = Unit {0}

@@ -28,7 +28,7 @@ Leaves (state d) old new = IsSameTable old new
 Leaves (impact d chosen position) old new = IsSameTable old new
 Leaves (refused refusal) old new = (refusal ≢ journal_fault → IsSameTable old new) × (refusal ≡ journal_fault → IsFault old new)
 
--- Calls that may be refused for lack of memory: reads and queries of 1 to 64 texts, if a state
+-- Calls that may lack memory: reads and queries of 1 to 64 texts, if a state
 -- exists; changes, if reading them takes memory, or they give an act and the table isn't stopped.
 abbrev pub CallMayLackMemory : TableModel → Call → Type 0
 CallMayLackMemory m (Read name) = state_of (acts_of name m.journal) ≢ None

@@ -37,7 +37,7 @@ pub record HasMessages (bytes : List ℕ) (m : Messages) : Type 0 where
   pub messages : AreMessages bytes m.requests m.rest
   pub refused : IsRefused (one_asks m.requests) m.rest m.refusal
 
--- How messages stop: at the end, inside a message, after a request to close, or by a refusal.
+-- How messages stop.
 abbrev pub StopsAt : Bool → List ℕ → Option Refusal → Ended → Type 0
 StopsAt asked rest refusal Clean = (asked ≡ false) × (rest ≡ []) × (refusal ≡ None)
 StopsAt asked rest refusal Cut = (asked ≡ false) × ¬ (rest ≡ []) × IsUnfinished rest × (refusal ≡ None)

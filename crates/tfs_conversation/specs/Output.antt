@@ -6,11 +6,11 @@ use Rattle.tfs_calls.specs.Reply.{refused}
 use Rattle.tfs_table.specs.Table.{TableValue}
 use Rattle.tfs_conversation.specs.declared.ended.Ended.{Ended}
 use Rattle.tfs_conversation.specs.Desk.{AnswersCall}
-use Rattle.tfs_conversation.specs.Conversation.{Exchange, Converses}
+use Rattle.tfs_conversation.specs.Conversation.{replied, Exchange, Converses}
 
 -- The reply reports neither lack of memory nor a sink error.
 abbrev pub IsUndisturbed : Exchange → Type 0
-IsUndisturbed x = (x.reply ≢ refused out_of_memory) × (x.reply ≢ refused journal_fault)
+IsUndisturbed x = (x.reply ≢ replied (refused out_of_memory)) × (x.reply ≢ replied (refused journal_fault))
 
 -- The output of bytes over a table, the table after it, and how the conversation ends.
 pub record HasOutput (old new : TableValue) (bytes text : List ℕ) (ended : Ended) : Type 0 where

@@ -9,7 +9,7 @@ ghost use Rattle.tfs_conversation.specs.Conversation.{ComesInReads, Converses, B
 ghost use Rattle.tfs_conversation.specs.Desk.{AnswersCall};
 ghost use Rattle.tfs_http.specs.Lent.{TellsReader, TellsWriter};
 
-use crate::conversation::{Desk, converse};
+use crate::desk::{Desk, converse};
 use crate::ended::Ended;
 use crate::reads::Reads;
 use json::Scratch;
@@ -135,12 +135,14 @@ pub fn converse_over_table<R: Source, W: Outlet, K: Sink>(
 ) -> Result<Ended, ServeFault>
     ensures ended { IfOk result (λ ended. (bytes : List ℕ) × (text : List ℕ)
         × Consumes (R.remaining reader.old) (R.remaining reader.new) bytes
+        × Appends (R.taken reader.old) (R.taken reader.new) bytes
         × Appends (W.contents writer.old) (W.contents writer.new) text
         × ComesInReads bytes reads.old reads.new
         × Converses AnswersCall table.old table.new bytes text ended) }
     ensures through { IfOk result (λ ended. IsReadThrough ended (R.remaining reader.new)) }
     ensures fault { IfErr result (λ fault. (bytes : List ℕ) × (text : List ℕ)
         × Consumes (R.remaining reader.old) (R.remaining reader.new) bytes
+        × Appends (R.taken reader.old) (R.taken reader.new) bytes
         × Appends (W.contents writer.old) (W.contents writer.new) text
         × ComesInReads bytes reads.old reads.new
         × BreaksOff AnswersCall table.old table.new bytes text fault reads.old reads.new) }
@@ -167,12 +169,14 @@ fn converse_over_loan<R: Source, W: Outlet, K: Sink>(
     ensures loan { desk.new.table.ghost_name ≡ desk.old.table.ghost_name }
     ensures ended { IfOk result (λ ended. (bytes : List ℕ) × (text : List ℕ)
         × Consumes (R.remaining reader.old) (R.remaining reader.new) bytes
+        × Appends (R.taken reader.old) (R.taken reader.new) bytes
         × Appends (W.contents writer.old) (W.contents writer.new) text
         × ComesInReads bytes reads.old reads.new
         × Converses AnswersCall desk.old.table.now desk.new.table.now bytes text ended) }
     ensures through { IfOk result (λ ended. IsReadThrough ended (R.remaining reader.new)) }
     ensures fault { IfErr result (λ fault. (bytes : List ℕ) × (text : List ℕ)
         × Consumes (R.remaining reader.old) (R.remaining reader.new) bytes
+        × Appends (R.taken reader.old) (R.taken reader.new) bytes
         × Appends (W.contents writer.old) (W.contents writer.new) text
         × ComesInReads bytes reads.old reads.new
         × BreaksOff AnswersCall desk.old.table.now desk.new.table.now bytes text fault reads.old reads.new) }

@@ -5,9 +5,9 @@ use Rattle.tfs_conversation.proofs.conversation.run.Given as goal
 
 abbrev pub invariant-loop-end : goal.invariant-loop-end
 invariant-loop-end g l = record {
-  went : Went g.D.Desk.step
-      (moment l.fn.desk (g.R.Source.remaining l.fn.reader) (g.W.Outlet.contents l.fn.writer) l.fn.reads l.fn.connection.input)
-      (moment l.desk (g.R.Source.remaining l.reader) (g.W.Outlet.contents l.writer) l.reads l.connection.input);
+  went : Went g.D.OwedDesk.step
+      (moment l.fn.desk (g.R.Source.remaining l.fn.reader, g.R.Source.taken l.fn.reader) (g.W.Outlet.contents l.fn.writer) l.fn.reads l.fn.connection.input)
+      (moment l.desk (g.R.Source.remaining l.reader, g.R.Source.taken l.reader) (g.W.Outlet.contents l.writer) l.reads l.connection.input);
   reader : g.R.Source.failed l.reader ≡ g.R.Source.failed l.fn.reader;
   writer : g.W.Outlet.failed l.writer ≡ g.W.Outlet.failed l.fn.writer;
 }

@@ -18,7 +18,7 @@ use Rattle.tfs_conversation.proofs.conversation.turn.Goals as goal
 pub returns-in-Ok-None-clause-went : goal.returns-in-Ok-None-clause-went
 returns-in-Ok-None-clause-went g c e =
     let read = c.in-Ok-None.ensures.bytes in
-    went_reading g.D.Desk.step c.args.desk.now (g.R.Source.remaining c.args.reader.now) (g.R.Source.remaining c.arrive.new.reader)
+    went_reading g.D.OwedDesk.step c.args.desk.now (g.R.Source.remaining c.args.reader.now, g.R.Source.taken c.args.reader.now) (g.R.Source.remaining c.arrive.new.reader, g.R.Source.taken c.arrive.new.reader)
     (g.W.Outlet.contents c.args.writer.now) c.args.reads.now c.arrive.new.reads c.args.connection.now.input
     c.arrive.new.self read.0
     (none_arrives (c.args.connection.now.input ++ read.0) c.arrive.new.self c.in-Ok-None.field-0 c.in-Ok-None.field-0-is read.3) read.1 read.2
@@ -26,7 +26,7 @@ returns-in-Ok-None-clause-went g c e =
 pub returns-in-Err-clause-fault : goal.returns-in-Err-clause-fault
 returns-in-Err-clause-fault g c =
     let read = c.in-Err.ensures.bytes in
-    broken_between g.D.Desk.step c.args.desk.now (g.R.Source.remaining c.args.reader.now) (g.R.Source.remaining c.arrive.new.reader)
+    broken_between g.D.OwedDesk.step c.args.desk.now (g.R.Source.remaining c.args.reader.now, g.R.Source.taken c.args.reader.now) (g.R.Source.remaining c.arrive.new.reader, g.R.Source.taken c.arrive.new.reader)
     (g.W.Outlet.contents c.args.writer.now) c.args.reads.now c.arrive.new.reads c.args.connection.now.input
     c.arrive.new.self read.0 c.in-Err.fault read.1 read.2 read.4
 
@@ -45,19 +45,19 @@ returns-in-Ok-clause-went g c e =
     let message = some_arrives (c.args.connection.now.input ++ read.0) c.arrive.new.self c.in-Ok-Some.field-0 c.in-Ok-Some.arrived
     (Arrived.Message c.in-Message.request) c.in-Ok-Some.field-0-is c.in-Message.is read.3 in
     let reply = c.in-Ok.ensures.ok in
-    went_then g.D.Desk.step
-    (moment c.args.desk.now (g.R.Source.remaining c.args.reader.now) (g.W.Outlet.contents c.args.writer.now) c.args.reads.now c.args.connection.now.input)
-    (moment c.args.desk.now (g.R.Source.remaining c.arrive.new.reader) (g.W.Outlet.contents c.args.writer.now)
+    went_then g.D.OwedDesk.step
+    (moment c.args.desk.now (g.R.Source.remaining c.args.reader.now, g.R.Source.taken c.args.reader.now) (g.W.Outlet.contents c.args.writer.now) c.args.reads.now c.args.connection.now.input)
+    (moment c.args.desk.now (g.R.Source.remaining c.arrive.new.reader, g.R.Source.taken c.arrive.new.reader) (g.W.Outlet.contents c.args.writer.now)
     c.arrive.new.reads (c.args.connection.now.input ++ read.0))
-    (moment c.reply_to.new.desk (g.R.Source.remaining c.arrive.new.reader) (g.W.Outlet.contents c.reply_to.new.writer)
+    (moment c.reply_to.new.desk (g.R.Source.remaining c.arrive.new.reader, g.R.Source.taken c.arrive.new.reader) (g.W.Outlet.contents c.reply_to.new.writer)
     c.arrive.new.reads c.reply_to.new.connection.input)
-    (went_reading g.D.Desk.step c.args.desk.now (g.R.Source.remaining c.args.reader.now) (g.R.Source.remaining c.arrive.new.reader)
+    (went_reading g.D.OwedDesk.step c.args.desk.now (g.R.Source.remaining c.args.reader.now, g.R.Source.taken c.args.reader.now) (g.R.Source.remaining c.arrive.new.reader, g.R.Source.taken c.arrive.new.reader)
     (g.W.Outlet.contents c.args.writer.now) c.args.reads.now c.arrive.new.reads c.args.connection.now.input
     (c.args.connection.now.input ++ read.0) read.0 refl read.1 read.2)
-    (went_answering g.D.Desk.step c.args.desk.now c.reply_to.new.desk (g.R.Source.remaining c.arrive.new.reader) (g.W.Outlet.contents c.args.writer.now)
+    (went_answering g.D.OwedDesk.step c.args.desk.now c.reply_to.new.desk (g.R.Source.remaining c.arrive.new.reader, g.R.Source.taken c.arrive.new.reader) (g.W.Outlet.contents c.args.writer.now)
     (g.W.Outlet.contents c.reply_to.new.writer) c.arrive.new.reads (c.args.connection.now.input ++ read.0)
     c.reply_to.new.connection.input c.in-Message.request message.0
-    reply.0 message.1 (c.in-Ok.ensures.input ∙ message.2) reply.1 reply.2
+    reply.0 message.1 (c.in-Ok.ensures.input ∙ message.2) reply.1 reply.2 reply.3
     (sym (ap (λ (f : Form). f.close) c.form-form.ensures.value) ∙ not_asked c.form-form.result.close c.end_after.result
     c.end_after.ensures (ap (λ r. unwrap_or (result_ok r) None) e)))
 
@@ -75,24 +75,24 @@ returns-in-Ok-clause-ended g c =
     let message = some_arrives (c.args.connection.now.input ++ read.0) c.arrive.new.self c.in-Ok-Some.field-0 c.in-Ok-Some.arrived
     (Arrived.Message c.in-Message.request) c.in-Ok-Some.field-0-is c.in-Message.is read.3 in
     let reply = c.in-Ok.ensures.ok in
-    asked_ends (HasEnded g.D.Desk.step
-    (moment c.args.desk.now (g.R.Source.remaining c.args.reader.now) (g.W.Outlet.contents c.args.writer.now) c.args.reads.now c.args.connection.now.input)
-    (moment c.reply_to.new.desk (g.R.Source.remaining c.arrive.new.reader) (g.W.Outlet.contents c.reply_to.new.writer)
+    asked_ends (HasEnded g.D.OwedDesk.step
+    (moment c.args.desk.now (g.R.Source.remaining c.args.reader.now, g.R.Source.taken c.args.reader.now) (g.W.Outlet.contents c.args.writer.now) c.args.reads.now c.args.connection.now.input)
+    (moment c.reply_to.new.desk (g.R.Source.remaining c.arrive.new.reader, g.R.Source.taken c.arrive.new.reader) (g.W.Outlet.contents c.reply_to.new.writer)
     c.arrive.new.reads c.reply_to.new.connection.input))
     c.form-form.result.close c.end_after.result c.end_after.ensures
-    (λ asks. went_then_ended g.D.Desk.step
-    (moment c.args.desk.now (g.R.Source.remaining c.args.reader.now) (g.W.Outlet.contents c.args.writer.now) c.args.reads.now c.args.connection.now.input)
-    (moment c.args.desk.now (g.R.Source.remaining c.arrive.new.reader) (g.W.Outlet.contents c.args.writer.now)
+    (λ asks. went_then_ended g.D.OwedDesk.step
+    (moment c.args.desk.now (g.R.Source.remaining c.args.reader.now, g.R.Source.taken c.args.reader.now) (g.W.Outlet.contents c.args.writer.now) c.args.reads.now c.args.connection.now.input)
+    (moment c.args.desk.now (g.R.Source.remaining c.arrive.new.reader, g.R.Source.taken c.arrive.new.reader) (g.W.Outlet.contents c.args.writer.now)
     c.arrive.new.reads (c.args.connection.now.input ++ read.0))
-    (moment c.reply_to.new.desk (g.R.Source.remaining c.arrive.new.reader) (g.W.Outlet.contents c.reply_to.new.writer)
+    (moment c.reply_to.new.desk (g.R.Source.remaining c.arrive.new.reader, g.R.Source.taken c.arrive.new.reader) (g.W.Outlet.contents c.reply_to.new.writer)
     c.arrive.new.reads c.reply_to.new.connection.input)
-    Asked (went_reading g.D.Desk.step c.args.desk.now (g.R.Source.remaining c.args.reader.now) (g.R.Source.remaining c.arrive.new.reader)
+    Asked (went_reading g.D.OwedDesk.step c.args.desk.now (g.R.Source.remaining c.args.reader.now, g.R.Source.taken c.args.reader.now) (g.R.Source.remaining c.arrive.new.reader, g.R.Source.taken c.arrive.new.reader)
     (g.W.Outlet.contents c.args.writer.now) c.args.reads.now c.arrive.new.reads c.args.connection.now.input
     (c.args.connection.now.input ++ read.0) read.0 refl read.1 read.2)
-    (ended_asked g.D.Desk.step c.args.desk.now c.reply_to.new.desk (g.R.Source.remaining c.arrive.new.reader) (g.W.Outlet.contents c.args.writer.now)
+    (ended_asked g.D.OwedDesk.step c.args.desk.now c.reply_to.new.desk (g.R.Source.remaining c.arrive.new.reader, g.R.Source.taken c.arrive.new.reader) (g.W.Outlet.contents c.args.writer.now)
     (g.W.Outlet.contents c.reply_to.new.writer) c.arrive.new.reads (c.args.connection.now.input ++ read.0)
     c.reply_to.new.connection.input c.in-Message.request message.0
-    reply.0 message.1 (c.in-Ok.ensures.input ∙ message.2) reply.1 reply.2
+    reply.0 message.1 (c.in-Ok.ensures.input ∙ message.2) reply.1 reply.2 reply.3
     (sym (ap (λ (f : Form). f.close) c.form-form.ensures.value) ∙ asks)))
 
 pub returns-in-Message-clause-fault : goal.returns-in-Message-clause-fault
@@ -101,20 +101,20 @@ returns-in-Message-clause-fault g c =
     let message = some_arrives (c.args.connection.now.input ++ read.0) c.arrive.new.self c.in-Ok-Some.field-0 c.in-Ok-Some.arrived
     (Arrived.Message c.in-Message.request) c.in-Ok-Some.field-0-is c.in-Message.is read.3 in
     let reply = c.in-Err-reply_to.ensures.err in
-    went_then_broken g.D.Desk.step
-    (moment c.args.desk.now (g.R.Source.remaining c.args.reader.now) (g.W.Outlet.contents c.args.writer.now) c.args.reads.now c.args.connection.now.input)
-    (moment c.args.desk.now (g.R.Source.remaining c.arrive.new.reader) (g.W.Outlet.contents c.args.writer.now)
+    went_then_broken g.D.OwedDesk.step
+    (moment c.args.desk.now (g.R.Source.remaining c.args.reader.now, g.R.Source.taken c.args.reader.now) (g.W.Outlet.contents c.args.writer.now) c.args.reads.now c.args.connection.now.input)
+    (moment c.args.desk.now (g.R.Source.remaining c.arrive.new.reader, g.R.Source.taken c.arrive.new.reader) (g.W.Outlet.contents c.args.writer.now)
     c.arrive.new.reads (c.args.connection.now.input ++ read.0))
-    (moment c.reply_to.new.desk (g.R.Source.remaining c.arrive.new.reader) (g.W.Outlet.contents c.reply_to.new.writer)
+    (moment c.reply_to.new.desk (g.R.Source.remaining c.arrive.new.reader, g.R.Source.taken c.arrive.new.reader) (g.W.Outlet.contents c.reply_to.new.writer)
     c.arrive.new.reads c.reply_to.new.connection.input)
-    c.in-Err-reply_to.fault (went_reading g.D.Desk.step c.args.desk.now (g.R.Source.remaining c.args.reader.now) (g.R.Source.remaining c.arrive.new.reader)
+    c.in-Err-reply_to.fault (went_reading g.D.OwedDesk.step c.args.desk.now (g.R.Source.remaining c.args.reader.now, g.R.Source.taken c.args.reader.now) (g.R.Source.remaining c.arrive.new.reader, g.R.Source.taken c.arrive.new.reader)
     (g.W.Outlet.contents c.args.writer.now) c.args.reads.now c.arrive.new.reads c.args.connection.now.input
     (c.args.connection.now.input ++ read.0) read.0 refl read.1 read.2)
-    (broken_answering g.D.Desk.step c.args.desk.now c.reply_to.new.desk
-    (g.R.Source.remaining c.arrive.new.reader) (g.W.Outlet.contents c.args.writer.now)
+    (broken_answering g.D.OwedDesk.step c.args.desk.now c.reply_to.new.desk
+    (g.R.Source.remaining c.arrive.new.reader, g.R.Source.taken c.arrive.new.reader) (g.W.Outlet.contents c.args.writer.now)
     (g.W.Outlet.contents c.reply_to.new.writer) c.arrive.new.reads (c.args.connection.now.input ++ read.0)
     c.reply_to.new.connection.input c.in-Message.request message.0
-    reply.0 c.in-Err-reply_to.fault message.1 (c.in-Err-reply_to.ensures.input ∙ message.2) reply.1 reply.2)
+    reply.0 c.in-Err-reply_to.fault message.1 (c.in-Err-reply_to.ensures.input ∙ message.2) reply.1 reply.2.0 reply.2.1)
 
 -- ---- a refusal
 
@@ -124,15 +124,15 @@ returns-in-Ok-send-clause-ended g c =
     let is : framing_refusal (c.args.connection.now.input ++ read.0) c.in-Refused.refusal =
     some_arrives (c.args.connection.now.input ++ read.0) c.arrive.new.self c.in-Ok-Some.field-0 c.in-Ok-Some.arrived
     (Arrived.Refused c.in-Refused.refusal) c.in-Ok-Some.field-0-is c.in-Refused.is read.3 in
-    went_then_ended g.D.Desk.step
-    (moment c.args.desk.now (g.R.Source.remaining c.args.reader.now) (g.W.Outlet.contents c.args.writer.now) c.args.reads.now c.args.connection.now.input)
-    (moment c.args.desk.now (g.R.Source.remaining c.arrive.new.reader) (g.W.Outlet.contents c.args.writer.now)
+    went_then_ended g.D.OwedDesk.step
+    (moment c.args.desk.now (g.R.Source.remaining c.args.reader.now, g.R.Source.taken c.args.reader.now) (g.W.Outlet.contents c.args.writer.now) c.args.reads.now c.args.connection.now.input)
+    (moment c.args.desk.now (g.R.Source.remaining c.arrive.new.reader, g.R.Source.taken c.arrive.new.reader) (g.W.Outlet.contents c.args.writer.now)
     c.arrive.new.reads (c.args.connection.now.input ++ read.0))
-    (moment c.args.desk.now (g.R.Source.remaining c.arrive.new.reader) (g.W.Outlet.contents c.send.new.writer) c.arrive.new.reads c.arrive.new.self)
-    Refused (went_reading g.D.Desk.step c.args.desk.now (g.R.Source.remaining c.args.reader.now) (g.R.Source.remaining c.arrive.new.reader)
+    (moment c.args.desk.now (g.R.Source.remaining c.arrive.new.reader, g.R.Source.taken c.arrive.new.reader) (g.W.Outlet.contents c.send.new.writer) c.arrive.new.reads c.arrive.new.self)
+    Refused (went_reading g.D.OwedDesk.step c.args.desk.now (g.R.Source.remaining c.args.reader.now, g.R.Source.taken c.args.reader.now) (g.R.Source.remaining c.arrive.new.reader, g.R.Source.taken c.arrive.new.reader)
     (g.W.Outlet.contents c.args.writer.now) c.args.reads.now c.arrive.new.reads c.args.connection.now.input
     (c.args.connection.now.input ++ read.0) read.0 refl read.1 read.2)
-    (ended_refusing g.D.Desk.step c.args.desk.now (g.R.Source.remaining c.arrive.new.reader) (g.W.Outlet.contents c.args.writer.now)
+    (ended_refusing g.D.OwedDesk.step c.args.desk.now (g.R.Source.remaining c.arrive.new.reader, g.R.Source.taken c.arrive.new.reader) (g.W.Outlet.contents c.args.writer.now)
     (g.W.Outlet.contents c.send.new.writer) c.arrive.new.reads (c.args.connection.now.input ++ read.0) c.arrive.new.self c.in-Refused.refusal
     is c.in-Ok-send.ensures.ok)
 
@@ -142,15 +142,15 @@ returns-in-Refused-clause-fault g c =
     let is : framing_refusal (c.args.connection.now.input ++ read.0) c.in-Refused.refusal =
     some_arrives (c.args.connection.now.input ++ read.0) c.arrive.new.self c.in-Ok-Some.field-0 c.in-Ok-Some.arrived
     (Arrived.Refused c.in-Refused.refusal) c.in-Ok-Some.field-0-is c.in-Refused.is read.3 in
-    went_then_broken g.D.Desk.step
-    (moment c.args.desk.now (g.R.Source.remaining c.args.reader.now) (g.W.Outlet.contents c.args.writer.now) c.args.reads.now c.args.connection.now.input)
-    (moment c.args.desk.now (g.R.Source.remaining c.arrive.new.reader) (g.W.Outlet.contents c.args.writer.now)
+    went_then_broken g.D.OwedDesk.step
+    (moment c.args.desk.now (g.R.Source.remaining c.args.reader.now, g.R.Source.taken c.args.reader.now) (g.W.Outlet.contents c.args.writer.now) c.args.reads.now c.args.connection.now.input)
+    (moment c.args.desk.now (g.R.Source.remaining c.arrive.new.reader, g.R.Source.taken c.arrive.new.reader) (g.W.Outlet.contents c.args.writer.now)
     c.arrive.new.reads (c.args.connection.now.input ++ read.0))
-    (moment c.args.desk.now (g.R.Source.remaining c.arrive.new.reader) (g.W.Outlet.contents c.send.new.writer) c.arrive.new.reads c.arrive.new.self)
-    c.in-Err-send.fault (went_reading g.D.Desk.step c.args.desk.now (g.R.Source.remaining c.args.reader.now) (g.R.Source.remaining c.arrive.new.reader)
+    (moment c.args.desk.now (g.R.Source.remaining c.arrive.new.reader, g.R.Source.taken c.arrive.new.reader) (g.W.Outlet.contents c.send.new.writer) c.arrive.new.reads c.arrive.new.self)
+    c.in-Err-send.fault (went_reading g.D.OwedDesk.step c.args.desk.now (g.R.Source.remaining c.args.reader.now, g.R.Source.taken c.args.reader.now) (g.R.Source.remaining c.arrive.new.reader, g.R.Source.taken c.arrive.new.reader)
     (g.W.Outlet.contents c.args.writer.now) c.args.reads.now c.arrive.new.reads c.args.connection.now.input
     (c.args.connection.now.input ++ read.0) read.0 refl read.1 read.2)
-    (broken_refusing g.D.Desk.step c.args.desk.now (g.R.Source.remaining c.arrive.new.reader) (g.W.Outlet.contents c.args.writer.now)
+    (broken_refusing g.D.OwedDesk.step c.args.desk.now (g.R.Source.remaining c.arrive.new.reader, g.R.Source.taken c.arrive.new.reader) (g.W.Outlet.contents c.args.writer.now)
     (g.W.Outlet.contents c.send.new.writer) c.arrive.new.reads (c.args.connection.now.input ++ read.0) c.arrive.new.self c.in-Refused.refusal
     c.in-Err-send.fault is c.in-Err-send.ensures.err)
 
@@ -159,7 +159,7 @@ returns-in-Refused-clause-fault g c =
 pub returns-clause-ended : goal.returns-clause-ended
 returns-clause-ended g c =
     let read = c.in-Ok-Some.ensures.bytes in
-    ended_with_input g.D.Desk.step c.args.desk.now (g.R.Source.remaining c.args.reader.now) (g.R.Source.remaining c.arrive.new.reader)
+    ended_with_input g.D.OwedDesk.step c.args.desk.now (g.R.Source.remaining c.args.reader.now, g.R.Source.taken c.args.reader.now) (g.R.Source.remaining c.arrive.new.reader, g.R.Source.taken c.arrive.new.reader)
     (g.W.Outlet.contents c.args.writer.now) c.args.reads.now c.arrive.new.reads c.args.connection.now.input
     c.arrive.new.self read.0 c.in-Ended.ended read.1 read.2
     (some_arrives (c.args.connection.now.input ++ read.0) c.arrive.new.self c.in-Ok-Some.field-0 c.in-Ok-Some.arrived

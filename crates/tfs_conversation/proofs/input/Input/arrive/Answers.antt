@@ -1,9 +1,11 @@
 -- The message that a decoder returns is the next input. If it returns none, the bytes read follow
 -- the earlier ones.
-use Rattle.std.proofs.Common.{◌≡◌, ℕ, List, [], ◌++◌, drop, refl, sym, ◌∙◌, ap, subst, inl, inr, arith, append-nil}
+use Rattle.std.proofs.Common.{◌≡◌, ℕ, List, [], ◌++◌, drop, sym, ◌∙◌, ap, subst, arith, append-nil}
 use Rattle.tfs_framing.specs.Decoder.{Gives, HasNoRefusal}
 use Rattle.tfs_framing.specs.Framing.{BeginsWith, IsUnfinished, framing_refusal}
-use Rattle.tfs_conversation.proofs.ArrivedLemmas.{ends_so, kept_nothing, no_reads, nothing_read, one_read, what_comes}
+use Rattle.tfs_conversation.proofs.ArrivedLemmas.{ends_so, kept_nothing, kept_taken, no_reads, nothing_read, one_read, what_comes}
+use Rattle.tfs_conversation.proofs.FaultLemmas.{reading_breaks}
+use Rattle.tfs_http.proofs.OutputLemmas.{appends_nothing}
 use Rattle.tfs_conversation.proofs.IoLemmas.{comes_nothing, consumes_nothing}
 use Rattle.tfs_conversation.proofs.input.Input.arrive.Goals as goal
 use Rattle.tfs_conversation.proofs.input.Input.arrive.Goals.{in-Ok-eq0, in-Ok, in-Err-read_on}
@@ -12,7 +14,7 @@ pub returns-in-Ok-Message-clause-bytes : goal.returns-in-Ok-Message-clause-bytes
 returns-in-Ok-Message-clause-bytes g c =
     let told = subst (Gives c.self.inside.decoder.bytes c.next.new.self) c.in-Ok-Message.field-0-is c.in-Ok-Message.ensures.ok in (
       [],
-      consumes_nothing _,
+      (consumes_nothing _, appends_nothing _),
       comes_nothing _,
       subst (λ (t : List ℕ). (used : ℕ) × BeginsWith t c.in-Ok-Message.request used × (c.next.new.self.bytes ≡ drop used t))
           (c.self.view_is ∙ sym (append-nil c.args.self.now)) told,
@@ -22,7 +24,7 @@ returns-in-Ok-Message-clause-bytes g c =
 pub returns-in-Ok-Refused-clause-bytes : goal.returns-in-Ok-Refused-clause-bytes
 returns-in-Ok-Refused-clause-bytes g c = (
   [],
-  consumes_nothing _,
+  (consumes_nothing _, appends_nothing _),
   comes_nothing _,
   subst (λ (t : List ℕ). framing_refusal t c.in-Ok-Refused.refusal) (c.self.view_is ∙ sym (append-nil c.args.self.now))
       (subst (Gives c.self.inside.decoder.bytes c.next.new.self) c.in-Ok-Refused.field-0-is c.in-Ok-Refused.ensures.ok),
@@ -32,10 +34,10 @@ returns-in-Ok-Refused-clause-bytes g c = (
 pub returns-in-Err-clause-bytes : goal.returns-in-Err-clause-bytes
 returns-in-Err-clause-bytes g c = (
   [],
-  consumes_nothing _,
+  (consumes_nothing _, appends_nothing _),
   comes_nothing _,
   tt,
-  inr (refl, subst HasNoRefusal (c.self.view_is ∙ sym (append-nil c.args.self.now)) c.in-Err.ensures.memory),
+  subst HasNoRefusal (c.self.view_is ∙ sym (append-nil c.args.self.now)) c.in-Err.ensures.memory,
 )
 
 pub returns-clause-bytes : goal.returns-clause-bytes
@@ -70,8 +72,8 @@ returns-clause-bytes g c =
           (let same = c.self.view_is ∙ sym (append-nil c.args.self.now) in
           let fault = w.in-Err-read_on.ensures.fault in
           let comes = what_comes (c.args.self.now ++ []) new c.args.reads.now c.read_on.new.reads c.match-read_on.result _ w.result-is
-          (tt, inl (subst IsUnfinished same told.0, fault.1)) in
-          ([], kept_nothing _ _ w.in-Err-read_on.ensures.kept.1, no_reads _ _ fault.0, comes.0, comes.1))
+          (tt, reading_breaks _ _ _ _ (subst IsUnfinished same told.0) fault.1) in
+          ([], (kept_nothing _ _ w.in-Err-read_on.ensures.kept.1, kept_taken _ _ w.in-Err-read_on.ensures.kept.2), no_reads _ _ fault.0, comes.0, comes.1))
     ]
 
 pub returns-clause-at_once : goal.returns-clause-at_once

@@ -1,0 +1,39 @@
+//! Desks whose replies are owed: a reply may be withheld.
+
+use crate::buffer::ReplyBuffer;
+use tfs_calls::Call;
+use tfs_framing::Form;
+use tfs_http::{Outlet, ServeFault};
+
+/// A service that answers calls one after the other, and writes a reply only once it may be
+/// written.
+pub trait OwedDesk {
+    ghost use Rattle.std.specs.Prelude.{◌≡◌, true, false, IfErr, OnOk};
+    ghost use Rattle.std.specs.Io.KnownBytes.{Appends};
+    ghost use Rattle.tfs_calls.specs.declared.call.Call.{Call};
+    ghost use Rattle.tfs_calls.specs.Draft.{CarriesFittingState};
+    ghost use Rattle.tfs_conversation.specs.Conversation.{Said, said_text, is_open};
+    ghost use Rattle.tfs_http.specs.Lent.{WritesPart, writing_failed};
+    ghost use Rattle.tfs_http.specs.declared.fault.ServeFault.TheVariants.{Write};
+
+    // The steps: from the first value, the call may get what is said and leave the second value.
+    ghost step: { Self → Call → Said → Self → Type 0 };
+
+    /// Answers a call, whose body has at most 16 MiB, and writes the reply in this form. If the
+    /// reply may not be written, writes nothing and returns `Write`.
+    fn reply<W: Outlet>(
+        &mut self,
+        call: Call,
+        form: Form,
+        buffer: &mut ReplyBuffer,
+        writer: &mut W,
+    ) -> Result<(), ServeFault>
+        requires fitting { CarriesFittingState call }
+        ensures ok { OnOk result ((said : Said) × step self.old call said self.new × (is_open said ≡ true)
+            × Appends (W.contents writer.old) (W.contents writer.new) (said_text said form) × (W.failed writer.new ≡ W.failed writer.old)) }
+        ensures err { IfErr result (λ fault. (said : Said) × step self.old call said self.new
+            × (is_open said ≡ true → WritesPart (W.contents writer.old) (W.contents writer.new) (said_text said form) fault
+            × (W.failed writer.new ≡ writing_failed fault (W.failed writer.old)))
+            × (is_open said ≡ false → (fault ≡ Write) × (W.contents writer.new ≡ W.contents writer.old)
+            × (W.failed writer.new ≡ W.failed writer.old))) };
+}
