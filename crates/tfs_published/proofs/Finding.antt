@@ -49,6 +49,23 @@ lookup_given name j k place lookup is named here =
           subst (λ (m : List ℕ). IsLookup lookup (state_of (acts_of m j))) same there
     ] is
 
+-- The place that has the name has the name's number in the journal.
+number_given : (name : List ℕ) (j : Journal) (k : ℕ) (place : Option PlaceView) → place ≡ place_given j k
+    → has_name name place ≡ true → slice_get (names_of j) k ≡ Some name
+number_given name j k place is named =
+    elim (slice_get (names_of j) k) as (λ o. place ≡ option_map (λ (n : List ℕ). place_with n (state_of (acts_of n j))) o → o ≡ Some name) [
+      | None ↦ λ none. let unnamed : has_name name place ≡ false = ap (has_name name) none in absurd (cc (named, unnamed))
+      | Some n ↦ λ some. ap (λ (m : List ℕ). Some m) (bytes_same n name (sym (ap (has_name name) some) ∙ named))
+    ] is
+
+-- The first place that has the name has the name's number in the journal.
+pub number_at : (name : List ℕ) (j : Journal) (places : List Place) (k : ℕ) (d : Place)
+    → position (λ place. has_name name (place_view place)) places ≡ Some k
+    → ArePlacesOf j (map place_view places) → slice_get (names_of j) k ≡ Some name
+number_at name j places k d first are =
+    let some = position-Some (λ (place : Place). has_name name (place_view place)) places k d first in
+    number_given name j k (place_view (get_or places k d)) (seen_given j places k d are some.0) some.1
+
 -- The result for the first place that has the name is the result for the name in the journal.
 pub lookup_at : (name : List ℕ) (j : Journal) (places : List Place) (k : ℕ) (d : Place) (lookup : Lookup)
     → position (λ place. has_name name (place_view place)) places ≡ Some k → IfSome (place_view (get_or places k d)) (λ view. IsLookup lookup view.state)
@@ -106,11 +123,11 @@ has_place name j places there none are =
     let wrong : false ≡ true = sym fails ∙ passes in
     cc
 
--- A name that no place has has no state in the journal.
-pub lookup_nowhere : (name : List ℕ) (j : Journal) (places : List Place) → position (λ place. has_name name (place_view place)) places ≡ None
-    → ArePlacesOf j (map place_view places) → state_of (acts_of name j) ≡ None
-lookup_nowhere name j places none are =
-    elim (list_any (bytes_eq name) (names_of j)) as (λ t. list_any (bytes_eq name) (names_of j) ≡ t → state_of (acts_of name j) ≡ None) [
+-- A name that no place has has no acts in the journal.
+pub acts_nowhere : (name : List ℕ) (j : Journal) (places : List Place) → position (λ place. has_name name (place_view place)) places ≡ None
+    → ArePlacesOf j (map place_view places) → acts_of name j ≡ []
+acts_nowhere name j places none are =
+    elim (list_any (bytes_eq name) (names_of j)) as (λ t. list_any (bytes_eq name) (names_of j) ≡ t → acts_of name j ≡ []) [
       | true ↦ λ there. absurd (has_place name j places there none are)
-      | false ↦ λ absent. ap state_of (acts_of_absent name j absent)
+      | false ↦ λ absent. acts_of_absent name j absent
     ] refl

@@ -3,7 +3,9 @@ pub mod Beginnings
 pub mod Publishers
 pub mod Finding
 pub mod Places
+pub mod Points
 pub mod Prefixes
 pub mod Room
 pub mod Seeing
+pub mod Since
 pub mod Taken

@@ -51,7 +51,7 @@ new_number j e number at absent =
     one_number (with_entry j e) (length (names_of j)) number e.name last at
 
 -- An entry doesn't change the names of other numbers.
-names_elsewhere : (j : Journal) (e : EntryValue) (number i : ℕ) → slice_get (names_of (with_entry j e)) number ≡ Some e.name → i ≢ number
+pub names_elsewhere : (j : Journal) (e : EntryValue) (number i : ℕ) → slice_get (names_of (with_entry j e)) number ≡ Some e.name → i ≢ number
     → slice_get (names_of (with_entry j e)) i ≡ slice_get (names_of j) i
 names_elsewhere j e number i at apart =
     elim (list_any (bytes_eq e.name) (names_of j)) as (λ t. list_any (bytes_eq e.name) (names_of j) ≡ t
@@ -61,6 +61,17 @@ names_elsewhere j e number i at apart =
           let same = new_number j e number at absent in
           ap (λ (names : List (List ℕ)). slice_get names i) (names_added j e absent)
           ∙ get_unless_last (names_of j) e.name i (λ is. apart (is ∙ same))
+    ] refl
+
+-- A name with another number isn't the entry's.
+pub other_name : (j : Journal) (e : EntryValue) (number i : ℕ) (name : List ℕ) → slice_get (names_of (with_entry j e)) number ≡ Some e.name
+    → slice_get (names_of (with_entry j e)) i ≡ Some name → i ≢ number → bytes_eq e.name name ≡ false
+other_name j e number i name at there apart =
+    let own : e.name ≡ name → ⊥ = λ same.
+    apart (one_number (with_entry j e) i number e.name (there ∙ ap (λ (n : List ℕ). Some n) (sym same)) at) in
+    elim (bytes_eq e.name name) as (λ t. bytes_eq e.name name ≡ t → t ≡ false) [
+      | true ↦ λ same. absurd (own (bytes_same e.name name same))
+      | false ↦ λ fails. refl
     ] refl
 
 -- If the number of the entry's name is below 1,024, there are at most 1,024 names after the entry.
@@ -88,13 +99,7 @@ given_elsewhere j e number i at apart =
           let before : place_given j i ≡ None = ap (option_map (λ (name : List ℕ). place_with name (state_of (acts_of name j)))) none in
           after ∙ sym before
       | Some name ↦ λ some.
-          let own : e.name ≡ name → ⊥ = λ same.
-          apart (one_number (with_entry j e) i number e.name (names ∙ some ∙ ap (λ (n : List ℕ). Some n) (sym same)) at) in
-          let other : bytes_eq e.name name ≡ false =
-          elim (bytes_eq e.name name) as (λ t. bytes_eq e.name name ≡ t → t ≡ false) [
-            | true ↦ λ same. absurd (own (bytes_same e.name name same))
-            | false ↦ λ fails. refl
-          ] refl in
+          let other = other_name j e number i name at (names ∙ some) apart in
           let after : place_given (with_entry j e) i ≡ Some (place_with name (state_of (acts_of name (with_entry j e)))) =
           ap (option_map (λ (n : List ℕ). place_with n (state_of (acts_of n (with_entry j e))))) (names ∙ some) in
           let before : place_given j i ≡ Some (place_with name (state_of (acts_of name j))) =
@@ -162,12 +167,13 @@ all_places f places n past is =
 pub as_many_places : (f : ℕ → Option PlaceView) (places : List Place) → map place_view places ≡ map f (range_with_len 0 1024) → length places ≡ 1024
 as_many_places f places is = sym (length-map places place_view) ∙ (ap length is ∙ length-map-range_with_len f 0 1024)
 
--- A copy with these places, position and token.
-abbrev pub copy_with : List (Option PlaceView) → ℕ → TokenValue → CopyView
-copy_with places position token = record { places = places; position = position; token = token }
+-- A copy with these places, tokens and last token.
+abbrev pub copy_with : List (Option PlaceView) → List (Option TokenValue) → TokenValue → CopyView
+copy_with places since token = record { places = places; since = since; token = token }
 
--- Copies with equal places, positions and tokens are equal.
-pub same_copy : (p q : List (Option PlaceView)) (m n : ℕ) (t u : TokenValue) → p ≡ q → m ≡ n → t ≡ u → copy_with p m t ≡ copy_with q n u
-same_copy p q m n t u places position token =
+-- Copies with equal parts are equal.
+pub same_copy : (p q : List (Option PlaceView)) (m n : List (Option TokenValue)) (t u : TokenValue) → p ≡ q → m ≡ n → t ≡ u
+    → copy_with p m t ≡ copy_with q n u
+same_copy p q m n t u places since token =
     ap (λ (x : List (Option PlaceView)). copy_with x m t) places
-    ∙ (ap (λ (x : ℕ). copy_with q x t) position ∙ ap (λ (x : TokenValue). copy_with q n x) token)
+    ∙ (ap (λ (x : List (Option TokenValue)). copy_with q x t) since ∙ ap (λ (x : TokenValue). copy_with q n x) token)

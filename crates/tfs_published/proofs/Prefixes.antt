@@ -1,5 +1,5 @@
 -- Lemmas about prefixes of one list.
-use Rattle.std.proofs.Common.{◌≡◌, ◌≤◌, List, [], ◌∷◌, length, refl, arith}
+use Rattle.std.proofs.Common.{◌≡◌, ◌≤◌, List, [], ◌∷◌, length, refl, append-nil, arith}
 use mathlib.Core.List.{IsPrefix}
 
 -- Of two prefixes of a list, the shorter is a prefix of the longer.
@@ -19,3 +19,7 @@ prefix_whole [] (y ∷ ys) p le = absurd (omega arith)
 prefix_whole (x ∷ xs) [] p le = absurd (cc (p.1))
 prefix_whole (x ∷ xs) (y ∷ ys) p le =
     let rest = prefix_whole xs ys (p.0, cc (p.1)) (omega arith) in cc (p.1, rest)
+
+-- A list is a prefix of itself.
+pub prefix_itself : {A : Type 0} (xs : List A) → IsPrefix xs xs
+prefix_itself xs = ([], append-nil xs)

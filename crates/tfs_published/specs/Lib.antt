@@ -6,6 +6,8 @@ pub mod Lookup
 pub mod History
 pub mod Place
 pub mod PlaceView
+pub mod Point
 pub mod Published
+pub mod Since
 pub mod Snapshot
 pub mod Token

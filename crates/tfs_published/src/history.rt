@@ -115,11 +115,11 @@ impl Opened {
         }
     }
 
-    /// Returns the history under a name, and the token without changes.
-    pub(crate) fn into_named<J: Naming>(self) -> (History<J>, Token)
+    /// Returns the history under a name, and the token without changes, with the position and the
+    /// mark of the opening journal.
+    pub(crate) fn into_named<J: Naming>(self, position: u64, mark: u64) -> (History<J>, Token)
         requires book { self ≡ J.book }
-        ensures book { result.1.book ≡ J.book }
-        ensures changes { result.1.changes ≡ [] }
+        ensures value { result.1 ≡ record { book = J.book; changes = []; position = position; mark = mark } }
     {
         let Opened { head, seen } = self;
         (
@@ -127,7 +127,7 @@ impl Opened {
                 head,
                 of: PhantomData,
             },
-            start(seen),
+            start(seen, position, mark),
         )
     }
 }

@@ -3,6 +3,7 @@
 #![tactic(auto)]
 
 mod change;
+mod due;
 mod history;
 mod laws;
 mod lookup;
@@ -11,6 +12,7 @@ mod naming;
 mod operation;
 mod place;
 mod place_name;
+mod point;
 mod published;
 mod publisher;
 mod reader;
@@ -26,5 +28,6 @@ pub use history::Opened;
 pub use laws::a_view_is_one_journal;
 pub use lookup::Lookup;
 pub use naming::Naming;
+pub use point::Point;
 pub use publisher::Publisher;
 pub use reader::Reader;

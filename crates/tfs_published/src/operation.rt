@@ -18,7 +18,6 @@ pub struct Update {
     pub(crate) number: usize,
     pub(crate) name: PlaceName,
     pub(crate) version: Option<Arc<Version>>,
-    pub(crate) position: u64,
     pub(crate) token: Token,
 }
 
@@ -31,19 +30,18 @@ impl Model for Update {
 
     ghost Value = { UpdateView };
 
-    ghost view = { λ u. record { number = u.number; place = place_with u.name (option_map arc_value u.version); position = u.position; token = u.token } };
+    ghost view = { λ u. record { number = u.number; place = place_with u.name (option_map arc_value u.version); token = u.token } };
 
     ghost invariant = { λ u. (u.number < 1024) × (state_told u.token.changes ≡ option_map arc_value u.version) };
 }
 
 impl Update {
     /// Returns the update for a change at the place of a number: the name, the version that it has
-    /// afterwards, and the position and the token that include the change.
+    /// afterwards, and the token that includes the change.
     pub(crate) fn new(
         number: usize,
         name: &Name,
         version: Option<Arc<Version>>,
-        position: u64,
         token: &Token,
     ) -> Update
         requires number { number < 1024 }
@@ -51,7 +49,6 @@ impl Update {
         ensures value { result ≡ record {
           number = number;
           place = place_with name.now (option_map arc_value version);
-          position = position;
           token = token.now;
         } }
     {
@@ -59,7 +56,6 @@ impl Update {
             number,
             name: PlaceName::of(name),
             version,
-            position,
             token: token.again(),
         }
     }

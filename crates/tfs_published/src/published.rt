@@ -1,12 +1,12 @@
 //! Published copies, and how they apply a change.
 
-ghost use Rattle.std.specs.Prelude.{◌≡◌, ◌<◌, IfSome, IfNone, IfOk, length, map, vec_len};
+ghost use Rattle.std.specs.Prelude.{◌≡◌, ◌<◌, IfSome, IfNone, IfOk, None, length, map, replicate, vec_len};
 ghost use Rattle.std.specs.List.{range_with_len};
-ghost use Rattle.tfs_records.specs.Journal.{position_of};
 ghost use Rattle.tfs_published.specs.Place.{place_view};
 ghost use Rattle.tfs_published.specs.Published.{updated, place_given};
 ghost use Rattle.tfs_published.specs.Snapshot.{IsSnapshot};
 
+use crate::due::due;
 use crate::operation::{Operation, Update};
 use crate::place::{Place, first_place, place_for, version_of};
 use crate::search::find;
@@ -25,12 +25,12 @@ use tfs_table::Table;
 /// The number of places of a copy: the maximum number of names of a table.
 const PLACES: usize = 1_024;
 
-/// The snapshot that readers enter: 1,024 places, the position, and the token of the changes that
-/// the copy has applied.
+/// The snapshot that readers enter: 1,024 places, for each the token of its last change, and the
+/// token of the changes that the copy has applied.
 #[derive(Drop)]
 pub struct Published {
     places: Vec<Place>,
-    position: u64,
+    since: Vec<Option<Token>>,
     token: Token,
 }
 
@@ -41,9 +41,9 @@ impl Model for Published {
 
     ghost Value = { CopyView };
 
-    ghost view = { λ p. record { places = map place_view p.places.items; position = p.position; token = p.token } };
+    ghost view = { λ p. record { places = map place_view p.places.items; since = p.since.items; token = p.token } };
 
-    ghost invariant = { λ p. vec_len p.places ≡ 1024 };
+    ghost invariant = { λ p. (vec_len p.places ≡ 1024) × (vec_len p.since ≡ 1024) };
 }
 
 impl Absorb<Operation> for Published {
@@ -79,13 +79,13 @@ impl Published {
     ) -> Result<Published, AllocError>
         ensures value { IfOk result (λ copy. copy ≡ record {
           places = map (place_given table.now.journal) (range_with_len 0 1024);
-          position = position_of table.now.journal;
+          since = replicate 1024 None;
           token = token.now;
         }) }
     {
         Ok(Published {
             places: places_of(alloc, table)?,
-            position: table.position(),
+            since: no_since(alloc)?,
             token: token.again(),
         })
     }
@@ -95,7 +95,7 @@ impl Published {
         ensures value { self.new ≡ updated self.old update.now }
     {
         self.places[update.number] = place_for(&update.name, &update.version, &update.token);
-        self.position = update.position;
+        self.since[update.number] = Some(update.token.again());
         self.token = update.token.again();
     }
 
@@ -107,21 +107,19 @@ impl Published {
         version_of(&self.places[number])
     }
 
-    /// Returns what a session that has seen the changes of a token reads of a name, or `None` if
-    /// the copy lacks some of these changes.
-    pub(crate) fn snapshot(&self, token: &Token, name: &Name) -> Option<Snapshot>
+    /// Returns what a session that has seen the changes of a token reads of a name if this number
+    /// of bytes is synced, or `None` if the copy lacks some of these changes.
+    pub(crate) fn snapshot(&self, token: &Token, name: &Name, synced: u64) -> Option<Snapshot>
         requires book { token.now.book ≡ self.now.token.book }
-        ensures value { IfSome result (λ snapshot. IsSnapshot self.now token.now name.now snapshot) }
+        ensures value { IfSome result (λ snapshot. IsSnapshot self.now token.now name.now synced snapshot) }
         ensures none { IfNone result (length self.now.token.changes < length token.now.changes) }
     {
         if !self.token.begins_with(token) {
             return None;
         }
-        Some(Snapshot {
-            token: self.token.again(),
-            position: self.position,
-            lookup: find(self.places.as_slice(), name.text()),
-        })
+        let (number, lookup) = find(self.places.as_slice(), name.text());
+        let token = due(&self.token, self.since.as_slice(), number, token, synced);
+        Some(Snapshot { token, lookup })
     }
 }
 
@@ -135,4 +133,16 @@ fn places_of<K: Sink>(alloc: Global, table: &Table<K>) -> Result<Vec<Place>, All
         places.push(first_place(table, number)?)?;
     }
     Ok(places)
+}
+
+/// Returns the tokens of places that haven't changed since the opening journal.
+fn no_since(alloc: Global) -> Result<Vec<Option<Token>>, AllocError>
+    ensures value { IfOk result (λ since. since.items ≡ replicate 1024 None) }
+    ensures wide { IfOk result (λ since. vec_len since ≡ 1024) }
+{
+    let mut since = Vec::with_capacity(alloc, PLACES)?;
+    for _number in 0..PLACES {
+        since.push(None)?;
+    }
+    Ok(since)
 }

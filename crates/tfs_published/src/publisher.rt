@@ -7,7 +7,7 @@ ghost use Rattle.tfs_records.specs.Journal.{acts_of, with_entry, position_of};
 ghost use Rattle.tfs_table.specs.Lawful.{IsLawful};
 ghost use Rattle.tfs_published.specs.Publisher.{Shows};
 ghost use Rattle.tfs_published.specs.declared.operation.Operation.TheVariants.{Take};
-ghost use Rattle.tfs_published.specs.Change.{journal_after, makers_of, state_told};
+ghost use Rattle.tfs_published.specs.Change.{state_told};
 ghost use mathlib.Core.List.{IsPrefix};
 ghost use Rattle.tfs_published.specs.PlaceView.{place_with};
 ghost use Rattle.tfs_published.specs.Beginning.{BeginsWith};
@@ -15,6 +15,7 @@ ghost use Rattle.tfs_published.specs.Beginning.{BeginsWith};
 use crate::history::{History, Opened};
 use crate::naming::Naming;
 use crate::operation::{Operation, Update};
+use crate::point::Point;
 use crate::published::Published;
 use crate::reader::Reader;
 use crate::replaced::Replaced;
@@ -38,13 +39,11 @@ pub struct Publisher<J: Naming> {
     history: History<J>,
     newest: Token,
     next: Option<Token>,
-    position: u64,
     replaced: Replaced,
 }
 
 impl<J: Naming> Model for Publisher<J> {
-    ghost use Rattle.std.specs.Prelude.{◌≡◌, drop, option_map};
-    ghost use Rattle.tfs_records.specs.Journal.{position_of};
+    ghost use Rattle.std.specs.Prelude.{drop, option_map};
     ghost use Rattle.tfs_published.specs.Publisher.{PublisherView, IsPublisher};
     ghost use Rattle.tfs_published.specs.Change.{journal_after, makers_of};
 
@@ -58,15 +57,14 @@ impl<J: Naming> Model for Publisher<J> {
       shown = option_map (λ w. w.desk.shown.value) b.writer;
     } };
 
-    ghost invariant = { λ b. (b.position ≡ position_of (journal_after J.opening b.newest.changes))
-        × IsPublisher J.book J.opening b.newest b.next (option_map (λ w. w.desk.shown.value) b.writer)
+    ghost invariant = { λ b. IsPublisher J.book J.opening b.newest b.next (option_map (λ w. w.desk.shown.value) b.writer)
         (option_map (λ w. drop w.behind w.log.items) b.writer) };
 }
 
 impl<J: Naming> Publisher<J> {
     /// Returns a publisher of the opening journal, with places for this number of readers. Fails if
     /// memory is refused.
-    #[tactic(auto, using(crate::proofs::Publishers::no_changes))]
+    #[tactic(auto, using(crate::proofs::Points::no_changes))]
     pub fn new<K: Sink, R: Wait>(
         rt: &R,
         alloc: Global,
@@ -80,7 +78,7 @@ impl<J: Naming> Publisher<J> {
         ensures journal { IfOk result (λ publisher. (publisher.journal ≡ J.opening) × (publisher.makers ≡ [])) }
         ensures idle { IfOk result (λ publisher. publisher.next ≡ None) }
     {
-        let (history, newest) = opened.into_named::<J>();
+        let (history, newest) = opened.into_named::<J>(table.position(), table.mark());
         let first = Published::of(alloc, table, &newest)?;
         let second = match Published::of(alloc, table, &newest) {
             Ok(second) => second,
@@ -98,7 +96,6 @@ impl<J: Naming> Publisher<J> {
             history,
             newest,
             next: None,
-            position: table.position(),
             replaced: Replaced::none(),
         })
     }
@@ -114,8 +111,7 @@ impl<J: Naming> Publisher<J> {
         let Ok(reader) = writer.factory().reader() else {
             return None;
         };
-        let (token, position) = self.published_position();
-        Some(Reader::new(reader, token, position))
+        Some(Reader::new(reader, self.point()))
     }
 
     /// States that the copy that readers enter represents the published journal, which is lawful
@@ -127,7 +123,7 @@ impl<J: Naming> Publisher<J> {
         ensures counted { length self.now.journal.entries ≡ length J.opening.entries + length self.now.makers }
     {
         // The prover knows the invariant if the publisher is read.
-        let _position = self.position;
+        let _position = self.newest.position();
     }
 
     /// Ends the writer. Waits for readers.
@@ -137,7 +133,6 @@ impl<J: Naming> Publisher<J> {
             history: _history,
             newest: _newest,
             next: _next,
-            position: _,
             replaced: _replaced,
         } = self;
         if let Some(writer) = writer {
@@ -151,25 +146,21 @@ impl<J: Naming> Publisher<J> {
         ensures yes { result ≡ true → BeginsWith self.now.journal reader.now.journal × IsPrefix reader.now.makers self.now.makers }
         ensures no { result ≡ false → position_of self.now.journal < position_of reader.now.journal }
     {
-        self.newest.begins_with(reader.token())
+        self.point().covers(reader.point())
     }
 
     /// Advances a reader to the published journal.
     pub fn show(&self, reader: &mut Reader<J>)
         ensures value { reader.new ≡ record { journal = self.now.journal; makers = self.now.makers } }
     {
-        let (token, position) = self.published_position();
-        reader.see(token, position);
+        reader.see(self.point());
     }
 
-    /// Returns the token of what is published, and its position.
-    fn published_position(&self) -> (Token, u64)
-        ensures book { result.0.book ≡ J.book }
-        ensures journal { (journal_after J.opening result.0.changes ≡ self.now.journal) × (makers_of result.0.changes ≡ self.now.makers) }
-        ensures position { result.1 ≡ position_of self.now.journal }
-        ensures lawful { IsLawful self.now.journal }
+    /// Returns the point that is published.
+    pub fn point(&self) -> Point<J>
+        ensures value { result ≡ record { journal = self.now.journal; makers = self.now.makers } }
     {
-        (self.newest.again(), self.position)
+        Point::new(self.newest.again())
     }
 
     /// Queues the update for a change, which the session with number `maker` makes. Readers don't
@@ -192,15 +183,8 @@ impl<J: Naming> Publisher<J> {
             drop(version);
             return Err(AllocError);
         };
-        let position = self.position + 1;
-        if let Err(error) = queue(
-            writer,
-            ready.number(),
-            ready.name(),
-            version,
-            position,
-            &token,
-        ) {
+        let number = ready.number();
+        if let Err(error) = queue(writer, number, ready.name(), version, &token) {
             drop(token);
             return Err(error);
         }
@@ -212,7 +196,6 @@ impl<J: Naming> Publisher<J> {
     /// in the previous copy.
     pub fn publish<R: Wait>(&mut self, rt: &R, number: usize)
         requires number { number < 1024 }
-        requires room { position_of self.old.journal < 9223372036854775808 }
         ensures journal { IfSome self.old.next (λ next. self.new.journal ≡ next) }
         ensures makers { IfSome self.old.next_makers (λ next. self.new.makers ≡ next) }
         ensures idle { self.new.next ≡ None }
@@ -230,7 +213,6 @@ impl<J: Naming> Publisher<J> {
             writer.take(rt);
         }
         self.newest = token;
-        self.position += 1;
         self.replaced.add(replaced);
     }
 
@@ -261,7 +243,6 @@ fn queue<J: Naming>(
     number: usize,
     name: &Name,
     version: Option<Arc<Version>>,
-    position: u64,
     token: &Token,
 ) -> Result<(), AllocError>
     requires number { number < 1024 }
@@ -269,13 +250,12 @@ fn queue<J: Naming>(
     ensures ok { OnOk result (drop writer.new.behind writer.new.log.items ≡ drop writer.old.behind writer.old.log.items ++ Take (record {
       number = number;
       place = place_with name.now (option_map arc_value version);
-      position = position;
       token = token.now;
     }) ∷ []) }
     ensures err { OnErr result (drop writer.new.behind writer.new.log.items ≡ drop writer.old.behind writer.old.log.items) }
     ensures shown { writer.new.desk.shown.value ≡ writer.old.desk.shown.value }
 {
-    let update = Update::new(number, name, version, position, token);
+    let update = Update::new(number, name, version, token);
     match writer.append(Operation::Take(update)) {
         Ok(()) => Ok(()),
         Err(_) => Err(AllocError),

@@ -2,6 +2,7 @@
 
 ghost use Rattle.std.specs.Prelude.{◌≡◌, [], drop, fold, IfSome, IfOk};
 ghost use Rattle.left_right.specs.Sides.{view};
+ghost use Rattle.tfs_published.specs.Point.{IsPoint};
 ghost use Rattle.tfs_published.specs.Published.{absorbed, updated, Queues};
 ghost use Rattle.tfs_published.specs.Snapshot.{IsSeen};
 
@@ -18,7 +19,8 @@ use std::marker::PhantomData;
 use std::sync::Wait;
 use tfs_rules::Name;
 
-/// The rule: a published copy represents the journal of its token.
+/// The rule: a published copy represents the journal of its token, and has the token of each name's
+/// last change.
 pub struct Follows<J: Naming>(PhantomData<J>);
 
 impl<J: Naming> Protocol<Published, ()> for Follows<J> {
@@ -42,19 +44,21 @@ pub type CopyReader<J> = Reader<Published, (), Follows<J>>;
 
 pub type CopyWriter<J> = Writer<Published, Operation, (), Follows<J>>;
 
-/// Enters a copy and reads a name, for a session that has seen the changes of a token. Returns no
-/// snapshot if it can't enter a copy that has these changes. Never waits.
+/// Enters a copy and reads a name, for a session that has seen the changes of a token, if this
+/// number of bytes is synced. Returns no snapshot if it can't enter a copy that has these changes.
+/// Never waits.
 pub(crate) fn enter<J: Naming>(
     reader: CopyReader<J>,
     token: &Token,
     name: &Name,
+    synced: u64,
 ) -> (CopyReader<J>, Option<Snapshot>)
-    requires book { token.now.book ≡ J.book }
-    ensures value { IfSome result.1 (λ snapshot. IsSeen J.opening token.now name.now snapshot) }
+    requires point { IsPoint J.book J.opening token.now }
+    ensures value { IfSome result.1 (λ snapshot. IsSeen J.book J.opening token.now name.now snapshot) }
 {
     match reader.enter_as::<Sees<J>>() {
         Ok(reading) => {
-            let snapshot = reading.get().snapshot(token, name);
+            let snapshot = reading.get().snapshot(token, name, synced);
             (reading.leave(), snapshot)
         }
         Err(reader) => (reader, None),

@@ -6,17 +6,20 @@ ghost use Rattle.tfs_records.specs.Journal.{Journal, acts_of};
 ghost use Rattle.tfs_published.specs.Lookup.{IsLookup};
 ghost use Rattle.tfs_published.specs.Place.{place_view, has_name};
 ghost use Rattle.tfs_published.specs.Published.{ArePlacesOf};
+ghost use Rattle.tfs_published.specs.Snapshot.{IsNumber};
 
 use crate::lookup::Lookup;
 use crate::place::{Place, is_of};
 
-/// Returns what the places have of a name.
-pub(crate) fn find(places: &[Place], name: &str) -> Lookup
-    ensures value { (j : Journal) → ArePlacesOf j (map place_view places.now) → IsLookup result (state_of (acts_of name.now j)) }
+/// Returns the number of a name among places, if it has one, and what the places have of the name.
+pub(crate) fn find(places: &[Place], name: &str) -> (Option<usize>, Lookup)
+    ensures number { (j : Journal) → ArePlacesOf j (map place_view places.now) → IsNumber j name.now result.0 }
+    ensures lookup { (j : Journal) → ArePlacesOf j (map place_view places.now) → IsLookup result.1 (state_of (acts_of name.now j)) }
+    ensures bound { IfSome result.0 (λ number. number < length places.now) }
 {
     match number_of(places, name) {
-        Some(number) => at(&places[number]),
-        None => Lookup::NoState,
+        Some(number) => (Some(number), at(&places[number])),
+        None => (None, Lookup::NoState),
     }
 }
 

@@ -1,8 +1,10 @@
 //! Tokens: prefixes of a history.
 
-ghost use Rattle.std.specs.Prelude.{◌≡◌, ◌<◌, [], ◌∷◌, ◌++◌, true, false, length, IfSome};
+ghost use Rattle.std.specs.Prelude.{◌≡◌, ◌<◌, [], true, false, length, IfSome};
 ghost use mathlib.Core.List.{IsPrefix};
+ghost use Rattle.tfs_records.specs.Format.{record_text};
 ghost use Rattle.tfs_published.specs.Change.{change_of};
+ghost use Rattle.tfs_published.specs.Token.{token_with};
 
 use crate::change::{Change, Making};
 use crate::history::{Add, History, Law, Nothing};
@@ -11,10 +13,13 @@ use logbook::{Offer, Seen};
 use std::marker::Model;
 use tfs_table::Ready;
 
-/// A prefix of a history that was reached. It can be copied and sent to another thread.
+/// A prefix of a history that was reached, with the position and the mark of the journal after it.
+/// It can be copied and sent to another thread.
 #[derive(Drop)]
 pub struct Token {
     count: u64,
+    position: u64,
+    mark: u64,
     seen: Seen<Change, u64, Law>,
 }
 
@@ -24,7 +29,7 @@ impl Model for Token {
 
     ghost Value = { TokenValue };
 
-    ghost view = { λ t. record { book = t.seen.book; changes = t.seen.log } };
+    ghost view = { λ t. record { book = t.seen.book; changes = t.seen.log; position = t.position; mark = t.mark } };
 
     ghost invariant = { λ t. t.count ≡ length t.seen.log };
 }
@@ -37,12 +42,28 @@ impl Token {
         self.count
     }
 
+    /// Returns the position of the journal after the prefix.
+    pub fn position(&self) -> u64
+        ensures value { result ≡ self.now.position }
+    {
+        self.position
+    }
+
+    /// Returns the mark of the journal after the prefix.
+    pub fn mark(&self) -> u64
+        ensures value { result ≡ self.now.mark }
+    {
+        self.mark
+    }
+
     /// Returns an equal token. Allocates nothing.
     pub fn again(&self) -> Token
         ensures value { result ≡ self.now }
     {
         Token {
             count: self.count,
+            position: self.position,
+            mark: self.mark,
             seen: self.seen.again(),
         }
     }
@@ -57,8 +78,8 @@ impl Token {
     ) -> Option<Token>
         requires book { self.now.book ≡ J.book }
         requires room { length self.now.changes < 4611686018427387904 }
-        ensures book { IfSome result (λ token. token.book ≡ self.now.book) }
-        ensures changes { IfSome result (λ token. token.changes ≡ self.now.changes ++ change_of maker ready.now ∷ []) }
+        requires position { self.now.position < 9223372036854775808 }
+        ensures value { IfSome result (λ token. token ≡ token_with self.now (change_of maker ready.now)) }
     {
         let mut seen = self.seen.again();
         let making = Making { ready, maker };
@@ -75,6 +96,8 @@ impl Token {
         }
         Some(Token {
             count: count + 1,
+            position: self.position + 1,
+            mark: self.mark.saturating_add(ready.record_len() as u64),
             seen,
         })
     }
@@ -91,11 +114,16 @@ impl Token {
     }
 }
 
-/// Returns the token of a new history, which has no changes yet.
-pub(crate) fn start(seen: Seen<Change, u64, Law>) -> Token
+/// Returns the token of a new history, which has no changes yet, with the position and the mark of
+/// the opening journal.
+pub(crate) fn start(seen: Seen<Change, u64, Law>, position: u64, mark: u64) -> Token
     requires empty { seen.log ≡ [] }
-    ensures book { result.book ≡ seen.book }
-    ensures changes { result.changes ≡ [] }
+    ensures value { result ≡ record { book = seen.book; changes = []; position = position; mark = mark } }
 {
-    Token { count: 0, seen }
+    Token {
+        count: 0,
+        position,
+        mark,
+        seen,
+    }
 }

@@ -12,15 +12,13 @@ pub struct PlaceView {
 /// The contents of a copy. A clause reads an array as a list of any length.
 pub struct CopyView {
     pub places: [Option<PlaceView>; 0],
-    pub position: u64,
+    pub since: [Option<Token>; 0],
     pub token: Token,
 }
 
-/// The contents of an update: the number of a place and what is put there, and the position and the
-/// token afterwards.
+/// The contents of an update: the number of a place, what is put there, and the token afterwards.
 pub struct UpdateView {
     pub number: usize,
     pub place: PlaceView,
-    pub position: u64,
     pub token: Token,
 }

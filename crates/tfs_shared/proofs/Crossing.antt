@@ -13,6 +13,7 @@ use Rattle.tfs_table.proofs.workspace.Workspace.TheSendSync as workspace
 use Rattle.tfs_published.specs.declared.naming.Naming as naming
 use Rattle.tfs_shared.specs.contracts.locked_state.LockedState as LockedState
 use Rattle.tfs_shared.specs.contracts.shared.Shared as Shared
+use Rattle.tfs_published.proofs.point.Point.TheSendSync as point
 use Rattle.tfs_published.proofs.publisher.Publisher.TheSendSync as publisher
 
 -- A table may move to another thread if its sink may.
@@ -26,4 +27,4 @@ module _ (J K : RattleType) (n : naming.Ghosts J.Denot) (l : ledger.Ghosts J.Den
 
   -- A shared table may be used by several threads if its sink may move between them.
   pub shared_sync : IsSync (Shared.the_row J K n l g)
-  shared_sync = search (sendable, crosses, locked_state_send) depth 20
+  shared_sync = search (sendable, crosses, locked_state_send, point.the_send) depth 20

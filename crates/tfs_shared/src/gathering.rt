@@ -61,6 +61,7 @@ pub fn gather<J: Naming, K: Sink, R: Wait>(
     let Shared {
         alloc,
         locked_state,
+        told,
         number,
         opened,
     } = shared;
@@ -73,6 +74,7 @@ pub fn gather<J: Naming, K: Sink, R: Wait>(
     let shared = Shared {
         alloc,
         locked_state: Mutex::new(locked_state),
+        told,
         number,
         opened,
     };

@@ -43,7 +43,30 @@ impl<J: Naming> Session<J> {
         ensures signed { IsSigned J.opening self.old self.new [] }
         ensures counted { CountsNothing self.old self.new }
     {
-        match self.look(name) {
+        self.impact_within(shared, name, query, u64::MAX)
+    }
+
+    /// Answers an impact query as `impact` does, if this number of bytes of the journal is synced.
+    /// If the snapshot's mark isn't synced, the answer is over a shorter journal, which ends with
+    /// what the session had seen or with the name's last change.
+    ///
+    /// # Errors
+    ///
+    /// Returns the refusals of `impact`.
+    pub fn impact_within<K: Sink>(
+        &mut self,
+        shared: &Shared<J, K>,
+        name: &Name,
+        query: &Query,
+        synced: u64,
+    ) -> Result<Impact, Refusal>
+        ensures answer { ((impact_reply result ≡ refused no_copy) × (self.new ≡ missed self.old))
+            ⊎ AnswersImpact self.new.journal name.now query.now (impact_reply result) }
+        ensures later { BeginsWith self.new.journal self.old.journal }
+        ensures signed { IsSigned J.opening self.old self.new [] }
+        ensures counted { CountsNothing self.old self.new }
+    {
+        match self.look_within(name, synced) {
             None => {
                 self.miss();
                 Err(Refusal::NoCopy)

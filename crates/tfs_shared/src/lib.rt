@@ -11,6 +11,7 @@ mod published_state;
 mod session;
 mod shared;
 mod sharing;
+mod telling;
 mod threads;
 
 pub use gathering::{Lack, Strangers, gather};

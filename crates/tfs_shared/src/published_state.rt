@@ -29,7 +29,25 @@ impl<J: Naming> Session<J> {
         ensures signed { IsSigned J.opening self.old self.new [] }
         ensures counted { CountsNothing self.old self.new }
     {
-        match self.look(name)? {
+        self.published_state_within(name, u64::MAX)
+    }
+
+    /// Returns the state of a name as `published_state` does, if this number of bytes of the
+    /// journal is synced. If the snapshot's mark isn't synced, the answer is over a shorter
+    /// journal, which ends with what the session had seen or with the name's last change.
+    pub fn published_state_within(
+        &mut self,
+        name: &Name,
+        synced: u64,
+    ) -> Option<Result<Arc<Doc>, Refusal>>
+        ensures answered { IfSome result (λ answer. MatchResult answer
+            (λ doc. AnswersRead name.now self.old self.new (state (arc_value doc)))
+            (λ refusal. AnswersRead name.now self.old self.new (refused (refusal_value refusal)))) }
+        ensures kept { IfNone result (self.new ≡ self.old) }
+        ensures signed { IsSigned J.opening self.old self.new [] }
+        ensures counted { CountsNothing self.old self.new }
+    {
+        match self.look_within(name, synced)? {
             Lookup::NoState => Some(Err(Refusal::NoState)),
             Lookup::Lost => Some(Err(Refusal::OutOfMemory)),
             Lookup::Kept(version) => Some(state_of(&version)),

@@ -9,6 +9,7 @@ ghost use Rattle.tfs_calls.specs.Reply.{state, refused};
 ghost use Rattle.tfs_table.specs.Lawful.{IsLawful};
 ghost use Rattle.tfs_table.specs.Table.{change_reply};
 ghost use Rattle.tfs_published.specs.Lookup.{IsLookup};
+ghost use Rattle.tfs_table.specs.Mark.{mark_of};
 ghost use mathlib.Core.List.{IsPrefix};
 ghost use Rattle.tfs_shared.specs.Signed.{IsSigned, makers_told};
 ghost use Rattle.tfs_shared.specs.Locked.{AnswersChange, AnswersRead, HasNoCopy};
@@ -22,7 +23,7 @@ use std::marker::Model;
 use std::sync::ledger::{Book, Share};
 use std::sync::{Arc, MutexGuard, Wait};
 use tfs_calls::{Draft, Refusal};
-use tfs_published::{Lookup, Naming, Publisher, Reader};
+use tfs_published::{Lookup, Naming, Point, Publisher, Reader};
 use tfs_records::Sink;
 use tfs_rules::Name;
 use tfs_state::Doc;
@@ -284,11 +285,12 @@ impl<J: Naming> Session<J> {
         self.misses = self.misses.wrapping_add(1);
     }
 
-    /// Looks up a name in a snapshot that begins with all that the session has seen. Afterwards the
-    /// session has seen the journal of the snapshot. Never waits.
+    /// Looks up a name in a snapshot that begins with all that the session has seen, if this number
+    /// of bytes is synced. Afterwards the session has seen the journal of the snapshot if its mark
+    /// is synced; otherwise no more than it had seen and the last change of the name. Never waits.
     /// Returns `None`, and nothing changes, if no such snapshot is handed out.
     #[tactic(auto, using(crate::proofs::Signing::signs_none, crate::proofs::Signing::signs_nothing))]
-    pub(crate) fn look(&mut self, name: &Name) -> Option<Lookup>
+    pub(crate) fn look_within(&mut self, name: &Name, synced: u64) -> Option<Lookup>
         ensures found { IfSome result (λ lookup. IsLookup lookup (state_of (acts_of name.now self.new.journal))) }
         ensures later { BeginsWith self.new.journal self.old.journal }
         ensures signed { IsSigned J.opening self.old self.new [] }
@@ -296,10 +298,37 @@ impl<J: Naming> Session<J> {
         ensures kept { IfNone result (self.new ≡ self.old) }
         ensures counted { CountsNothing self.old self.new }
     {
-        let lookup = self.reader.look(name);
+        let lookup = self.reader.look_within(name, synced);
         // Each change beyond the opening journal has a maker.
         self.reader.is_kept();
         lookup
+    }
+
+    /// Returns at least the mark of the journal that it has seen: the number of the journal's
+    /// bytes.
+    pub fn mark(&self) -> u64
+        ensures least { mark_of self.now.journal ≤ result }
+    {
+        self.reader.mark()
+    }
+
+    /// Returns the point that it has seen.
+    pub(crate) fn point(&self) -> &Point<J> {
+        self.reader.point()
+    }
+
+    /// Advances the session to the journal of a point, unless it has seen more.
+    #[tactic(auto, using(crate::proofs::Signing::signs_none))]
+    pub(crate) fn catch_up(&mut self, point: &Point<J>)
+        ensures later { BeginsWith self.new.journal self.old.journal }
+        ensures signed { IsSigned J.opening self.old self.new [] }
+        ensures lawful { IsLawful self.new.journal }
+        ensures counted { CountsNothing self.old self.new }
+        ensures misses { self.new.misses ≡ self.old.misses }
+    {
+        self.reader.catch_up(point);
+        // Each change beyond the opening journal has a maker.
+        self.reader.is_kept();
     }
 }
 

@@ -8,15 +8,16 @@ use crate::locked_state::LockedState;
 use std::alloc::Global;
 use std::marker::Model;
 use std::sync::{Mutex, MutexGuard, Wait};
-use tfs_published::Naming;
+use tfs_published::{Naming, Point};
 use tfs_records::Sink;
 use tfs_table::Table;
 
-/// A table under one lock, and the position at which it was opened. Contracts see the number of its
-/// sessions.
+/// A table under one lock, the newest point that replies have reported under another, and the
+/// position at which the table was opened. Contracts see the number of its sessions.
 pub struct Shared<J: Naming, K: Sink> {
     pub(crate) alloc: Global,
     pub(crate) locked_state: Mutex<LockedState<J, K>>,
+    pub(crate) told: Mutex<Point<J>>,
     pub(crate) number: usize,
     pub(crate) opened: u64,
 }
@@ -34,11 +35,12 @@ impl<J: Naming, K: Sink> Model for Shared<J, K> {
 }
 
 impl<J: Naming, K: Sink> Shared<J, K> {
-    /// Puts a table and its publisher under one lock.
+    /// Puts a table and its publisher under one lock, and a published point under another.
     pub(crate) fn new(
         alloc: Global,
         number: usize,
         opened: u64,
+        told: Point<J>,
         locked_state: LockedState<J, K>,
     ) -> Shared<J, K>
         requires number { number ≡ J.sessions }
@@ -50,6 +52,7 @@ impl<J: Naming, K: Sink> Shared<J, K> {
         Shared {
             alloc,
             locked_state: Mutex::new(locked_state),
+            told: Mutex::new(told),
             number,
             opened,
         }
@@ -70,6 +73,7 @@ impl<J: Naming, K: Sink> Shared<J, K> {
         let Shared {
             alloc: _,
             locked_state,
+            told: _told,
             number: _,
             opened: _,
         } = self;
@@ -87,5 +91,22 @@ impl<J: Naming, K: Sink> Shared<J, K> {
     /// Takes the lock.
     pub(crate) fn lock<R: Wait>(&self, rt: &R) -> MutexGuard<'_, LockedState<J, K>> {
         self.locked_state.lock(rt)
+    }
+
+    /// Records that replies have reported a point, unless they have reported a later one. Waits
+    /// only for calls of this function and of `told`.
+    pub(crate) fn tell<R: Wait>(&self, rt: &R, point: &Point<J>) {
+        let mut told = self.told.lock(rt);
+        told.advance(point);
+        MutexGuard::unlock(told);
+    }
+
+    /// Returns the newest point that replies have reported; at first the opening journal's. Waits
+    /// only for calls of this function and of `tell`.
+    pub(crate) fn told<R: Wait>(&self, rt: &R) -> Point<J> {
+        let told = self.told.lock(rt);
+        let point = told.again();
+        MutexGuard::unlock(told);
+        point
     }
 }

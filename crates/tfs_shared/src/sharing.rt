@@ -62,8 +62,10 @@ pub fn share<J: Naming, K: Sink, R: Wait>(
     match sessions_of(alloc, &publisher, number, all, stopped) {
         Ok(sessions) => {
             let opened = table.position();
+            let told = publisher.point();
             let locked_state = LockedState::new(table, publisher, book);
-            Ok((Shared::new(alloc, number, opened, locked_state), sessions))
+            let shared = Shared::new(alloc, number, opened, told, locked_state);
+            Ok((shared, sessions))
         }
         Err(why) => {
             publisher.close(rt);

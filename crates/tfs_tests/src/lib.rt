@@ -64,4 +64,6 @@ mod texts;
 #[cfg(test)]
 mod waiting;
 #[cfg(test)]
+mod within;
+#[cfg(test)]
 mod workers;

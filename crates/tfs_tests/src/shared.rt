@@ -8,6 +8,7 @@ use crate::drafts::{name_of, push_of};
 use crate::idle::worked;
 use crate::sessions::{accepted_by, refuses, turns};
 use crate::waiting::ask_meanwhile;
+use crate::within::within;
 use crate::workers::meet;
 use std::alloc::Global;
 use std::marker::Brand;
@@ -19,7 +20,7 @@ use std::sync::ledger::Blank;
 use std::test::Fail;
 use std::thread::Threads;
 use std::time::Clock;
-use tfs_records::{Discard, Sink};
+use tfs_records::{Discard, MemorySink, Sink};
 use tfs_shared::{Lack, Naming, Opened, Session, Shared, Strangers, Unshared, gather, share};
 use tfs_table::Table;
 
@@ -30,6 +31,8 @@ pub(crate) enum Scene<'f> {
     Turns,
     /// The first session pushes, and is refused an older state; both read.
     Refuses,
+    /// The first session pushes, and the second one reads over synced prefixes of the journal.
+    Within,
     /// The first session's change waits in the sink until the second session has its answers.
     Waits(&'f AtomicU64),
     /// Each session makes 100 forced unlocks.
@@ -175,9 +178,23 @@ fn act<
         Scene::Pushes => push_all(rt, shared, sessions),
         Scene::Follows => follow_one(rt, shared, sessions),
         _ => match sessions {
-            [first, second] => refuses(rt, shared, first, second),
+            [first, second] => act_both(rt, shared, first, second, scene),
             _ => panic!(rt; "two sessions"),
         },
+    }
+}
+
+/// Plays a scene of two sessions that call one after the other.
+fn act_both<J: Naming, K: Sink, R: Wait + Abort + Alloc<A = Global>>(
+    rt: &R,
+    shared: &Shared<J, K>,
+    first: &mut Session<J>,
+    second: &mut Session<J>,
+    scene: Scene<'_>,
+) {
+    match scene {
+        Scene::Within => within(rt, shared, first, second),
+        _ => refuses(rt, shared, first, second),
     }
 }
 
@@ -225,5 +242,12 @@ pub(crate) fn new_table(rt: &(impl Alloc<A = Global> + Abort)) -> Table<Discard>
 #[test]
 fn an_older_state_is_refused_and_not_seen(rt: HostRuntime) -> Result<(), Fail> {
     assert_eq!(rt; played(&rt, new_table(&rt), 2, Scene::Refuses), 1);
+    Ok(())
+}
+
+#[test]
+fn a_read_waits_for_no_change_of_another_name(rt: HostRuntime) -> Result<(), Fail> {
+    let sink = MemorySink::new(rt.alloc(), 65_536, 1_000);
+    assert_eq!(rt; played(&rt, table_of(&rt, sink, 1), 2, Scene::Within), 4);
     Ok(())
 }

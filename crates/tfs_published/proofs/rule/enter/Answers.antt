@@ -10,6 +10,6 @@ returns-in-Ok g c =
     let book = g.J.Naming.book in
     let opening = g.J.Naming.opening in
     let stands = subst (λ (copy : CopyView). StandsFor book opening copy) (sym c.get.ensures) c.in-Ok.ensures.1 in record {
-      value = seen_of book opening c.get.result.now c.args.token.now c.args.name.now c.snapshot-snapshot.result stands c.requires.book
+      value = seen_of book opening c.get.result.now c.args.token.now c.args.name.now c.args.synced c.snapshot-snapshot.result stands c.requires.point
           c.snapshot-snapshot.ensures.value;
     }

@@ -12,5 +12,6 @@ returns c = record {
     map-set place_view c.self.inside.places.items c.update.inside.number c.place_for.result,
     c.place_for.ensures.value,
     c.again.ensures.value,
+    c.again-2.ensures.value,
   ) refl;
 }

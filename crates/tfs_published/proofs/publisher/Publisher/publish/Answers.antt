@@ -15,12 +15,9 @@ invariant_of-self-2 g c =
     let is = sym c.replace-none.ensures.after in
     let publisher = publisher_along book opening inside.newest inside.next (Some token) _ (Some writer.desk.shown.value) _
     (Some (drop writer.behind writer.log.items))
-    c.self.invariant.1 (sym c.take.ensures.value ∙ c.in-Some.is) (ap (option_map (λ w. w.desk.shown.value)) was)
+    c.self.invariant (sym c.take.ensures.value ∙ c.in-Some.is) (ap (option_map (λ w. w.desk.shown.value)) was)
     (ap (option_map (λ w. drop w.behind w.log.items)) was) in
     let done = publisher_published book opening inside.newest token (Some token) writer.desk.shown.value after.desk.shown.value
-    (drop writer.behind writer.log.items) (drop after.behind after.log.items) inside.position
-    publisher refl c.publish.ensures.value c.publish.ensures.pending c.self.invariant.0 in (
-      done.0,
-      publisher_along book opening token None c.take.new.self (Some after.desk.shown.value) _ (Some (drop after.behind after.log.items)) _
-          done.1 (sym c.take.ensures.after) (ap (option_map (λ w. w.desk.shown.value)) is) (ap (option_map (λ w. drop w.behind w.log.items)) is),
-    )
+    (drop writer.behind writer.log.items) (drop after.behind after.log.items) publisher refl c.publish.ensures.value c.publish.ensures.pending in
+    publisher_along book opening token None c.take.new.self (Some after.desk.shown.value) _ (Some (drop after.behind after.log.items)) _
+    done (sym c.take.ensures.after) (ap (option_map (λ w. w.desk.shown.value)) is) (ap (option_map (λ w. drop w.behind w.log.items)) is)

@@ -5,10 +5,10 @@ use Rattle.tfs_records.specs.Journal.{acts_of}
 use Rattle.tfs_calls.specs.Refusal.{refusal_value}
 use Rattle.tfs_calls.specs.Reply.{refused}
 use Rattle.tfs_shared.proofs.Refusing.{lost_answer}
-use Rattle.tfs_shared.proofs.session.Session.impact.Goals as goal
+use Rattle.tfs_shared.proofs.session.Session.impact_within.Goals as goal
 
 pub returns-in-Some-Lost-clause-answer : goal.returns-in-Some-Lost-clause-answer
 returns-in-Some-Lost-clause-answer g c =
-    let there : IsSome (state_of (acts_of c.args.name.now c.look.new.self.journal)) = search rules in
-    inr (lost_answer c.look.new.self.journal c.args.name.now c.args.query.now (refused (refusal_value c.refusal_of_lost.result))
+    let there : IsSome (state_of (acts_of c.args.name.now c.look_within.new.self.journal)) = search rules in
+    inr (lost_answer c.look_within.new.self.journal c.args.name.now c.args.query.now (refused (refusal_value c.refusal_of_lost.result))
     c.in-Some-Lost.ensures.lawful there c.refusal_of_lost.ensures)
