@@ -32,143 +32,25 @@ some_told (a ∷ more) =
     let lengths = length-append (position_told a.reply) (positions_told more) in
     let sums = sum_by-cons (λ (b : Answer). accepted_by b.reply) a more in omega (arith, one, rest, lengths, sums)
 
--- The workers of a run report as many positions as accepted changes.
-all_told : (opening last : Journal) (workers : List (List (List Answer))) (told : List (Option (List Event))) (served : List ServedView)
-    → length workers ≡ length told → length served ≡ length told
-    → ((i : ℕ) (t : Option (List Event)) (s : ServedView) → i < length told
-    → IsServed opening last (get_or workers i []) (get_or told i t) (get_or served i s))
-    → length (positions_on workers) ≡ accepted_of served
-all_told opening last [] [] [] few same each = refl
-all_told opening last [] (t ∷ told) served few same each = absurd (omega (arith, few))
-all_told opening last (w ∷ workers) [] served few same each = absurd (omega (arith, few))
-all_told opening last [] [] (s ∷ served) few same each = absurd (omega (arith, same))
-all_told opening last (w ∷ workers) (t ∷ told) [] few same each = absurd (omega (arith, same))
-all_told opening last (w ∷ workers) (t ∷ told) (s ∷ served) few same each =
-    let one = (each 0 t s (omega arith)).accepted_is in
-    let more = all_told opening last workers told served (omega (arith, few)) (omega (arith, same))
-    (λ i u v inside. each (suc i) u v (omega (arith, inside))) in
-    let here = some_told (answers_on w) in
-    let lengths = length-append (positions_told (answers_on w)) (positions_on workers) in
-    let sums = sum_by-cons (λ (v : ServedView). v.accepted) s served in omega (arith, one, more, here, lengths, sums)
-
--- A run reports as many positions as accepted changes.
-term_told : (opening : TableModel) (t : ReturnedRun) → IsReturnedRun opening t → length t.positions ≡ accepted_of t.served
-term_told opening t run =
-    let its = run.run in
-    ap length run.positions ∙ all_told opening.journal t.last.journal its.connections run.told t.served its.each.0 its.each.1 its.workers
-
--- The last journal of a run is at the opening position plus the number of accepted changes.
-term_grows : (opening : TableModel) (t : ReturnedRun) → IsReturnedRun opening t
-    → position_of t.last.journal ≡ position_of opening.journal + accepted_of t.served
-term_grows opening t run =
-    let base = ap (λ b. b.position) run.run.begins.base in
-    let grows = run.run.grows in omega (arith, base, grows)
-
--- A run reports each of its positions once.
-term_once : (opening : TableModel) (t : ReturnedRun) → IsReturnedRun opening t → AreToldOnce opening.journal t.last.journal t.positions
-term_once opening t run p above within = ap (times p) run.positions ∙ run.run.once p above within
-
 -- The opening journal of the next run has the position of the last journal.
 leads_stays : (last next : TableModel) → LeadsTo last next → position_of next.journal ≡ position_of last.journal
 leads_stays last next (inl compact) = compact.rebased.position
 leads_stays last next (inr same) = ap (λ (m : TableModel). position_of m.journal) same
-
--- Successive runs advance the position by the number of accepted changes.
-goes_by_grows : (first now : TableModel) (runs : List ReturnedRun) → GoesBy first runs now
-    → position_of now.journal ≡ position_of first.journal + accepted_by_all runs
-goes_by_grows first now [] goes = let same = ap (λ (m : TableModel). position_of m.journal) goes in omega (arith, same)
-goes_by_grows first now (t ∷ runs) goes =
-    let grows = term_grows first t goes.1 in
-    let stays = leads_stays t.last goes.0 goes.2 in
-    let more = goes_by_grows goes.0 now runs goes.3 in
-    let all = sum_by-cons (λ (u : ReturnedRun). accepted_of u.served) t runs in omega (arith, grows, stays, more, all)
-
--- Successive runs report as many positions as accepted changes.
-goes_by_told : (first now : TableModel) (runs : List ReturnedRun) → GoesBy first runs now → length (positions_of_all runs) ≡ accepted_by_all runs
-goes_by_told first now [] goes = refl
-goes_by_told first now (t ∷ runs) goes =
-    let one = term_told first t goes.1 in
-    let more = goes_by_told goes.0 now runs goes.3 in
-    let lengths = length-append t.positions (positions_of_all runs) in
-    let all = sum_by-cons (λ (u : ReturnedRun). accepted_of u.served) t runs in omega (arith, one, more, lengths, all)
-
--- The difference of the two positions is the number of accepted changes.
-pub goes_on_grows : (first now : TableModel) (accepted : ℕ) → GoesOn first now accepted
-    → position_of now.journal ≡ position_of first.journal + accepted
-goes_on_grows first now accepted goes =
-    let counts = goes.counts in
-    let grows = goes_by_grows first now goes.runs goes.goes in omega (arith, counts, grows)
-
--- Successive runs and one more are successive runs.
-goes_by_then : (first opening next : TableModel) (t : ReturnedRun) (runs : List ReturnedRun) → GoesBy first runs opening → IsReturnedRun opening t → LeadsTo t.last next
-    → GoesBy first (runs ++ t ∷ []) next
-goes_by_then first opening next t [] goes run leads =
-    (next, subst (λ (m : TableModel). IsReturnedRun m t) goes run, leads, refl)
-goes_by_then first opening next t (u ∷ runs) goes run leads =
-    (goes.0, goes.1, goes.2, goes_by_then goes.0 opening next t runs goes.3 run leads)
 
 -- The positions of one more run follow the earlier positions.
 positions_then : (t : ReturnedRun) (runs : List ReturnedRun) → positions_of_all (runs ++ t ∷ []) ≡ positions_of_all runs ++ t.positions
 positions_then t runs =
     flat_map-append (λ (u : ReturnedRun). u.positions) runs (t ∷ []) ∙ ap (λ (l : List ℕ). positions_of_all runs ++ l) (append-nil t.positions)
 
--- No runs lead from the first journal to an equal one.
-pub goes_not_yet : (first now : TableModel) → now ≡ first → GoesOn first now 0
-goes_not_yet first now same = record {
-  runs = [];
-  goes = same;
-  counts = refl;
-  once = λ p above within. let stays = ap (λ (m : TableModel). position_of m.journal) same in absurd (omega (arith, above, within, stays));
-}
-
--- Without a run, a journal leads to itself.
-pub goes_nowhere : (m : TableModel) → GoesOn m m 0
-goes_nowhere m = goes_not_yet m m refl
-
--- A run after others adds its accepted changes.
-pub goes_on_then : (first opening next : TableModel) (accepted : ℕ) (t : ReturnedRun) → GoesOn first opening accepted → IsReturnedRun opening t → LeadsTo t.last next
-    → GoesOn first next (accepted + accepted_of t.served)
-goes_on_then first opening next accepted t goes run leads =
-    let counts = goes.counts in
-    let more = sum_by_push (λ (u : ReturnedRun). accepted_of u.served) goes.runs t in
-    let before = goes_by_grows first opening goes.runs goes.goes in
-    let told = goes_by_told first opening goes.runs goes.goes in
-    let grows = term_grows opening t run in
-    let here = term_told opening t run in
-    let stays = leads_stays t.last next leads in record {
-      runs = goes.runs ++ t ∷ [];
-      goes = goes_by_then first opening next t goes.runs goes.goes run leads;
-      counts = omega (arith, counts, more);
-      once = λ p above within. ap (times p) (positions_then t goes.runs)
-          ∙ told_then (position_of first.journal) (position_of opening.journal) (position_of t.last.journal) (positions_of_all goes.runs) t.positions
-          (omega (arith, before, told)) (omega (arith, grows, here)) goes.once (term_once opening t run) p above (omega (arith, within, stays));
-    }
-
 -- A journal begins with itself.
 pub begins_itself : (j : Journal) → BeginsWith j j
 begins_itself = begins_with_itself
-
--- The last journal of a run begins with what its opening journal begins with.
-pub term_begins : (placed : Journal) (opening last : TableModel) (served : List ServedView) → IsReturnedRunOf opening last served
-    → BeginsWith opening.journal placed → BeginsWith last.journal placed
-term_begins placed opening last served run begins = begins_with_earlier last.journal opening.journal placed run.1.run.begins begins
 
 -- If the end is the last journal, and the placed journal is still the earlier one, the end begins
 -- with it.
 pub same_begins : (last end before after : Journal) → end ≡ last → after ≡ before → BeginsWith last before → BeginsWith end after
 same_begins last end before after same placed begins =
     subst (λ (j : Journal). BeginsWith j after) (sym same) (subst (λ (p : Journal). BeginsWith last p) (sym placed) begins)
-
--- Runs may end with a journal that begins with the opening journal of the next run.
-pub ends_at : (first opening : TableModel) (end : Journal) (accepted before after : ℕ) → GoesOn first opening accepted
-    → BeginsWith end opening.journal → after ≡ before + accepted → EndsOn first end before after
-ends_at first opening end accepted before after goes begins counts = record {
-  opening = opening;
-  accepted = accepted;
-  goes = goes;
-  begins = begins;
-  counts = counts;
-}
 
 -- A prefix is at most as long as the list.
 prefix_is_shorter : {A : Type 0} (xs ys : List A) → IsPrefix xs ys → length xs ≤ length ys
@@ -183,20 +65,6 @@ begins_below j earlier begins =
     let base = ap (λ b. b.position) begins.base in
     let shorter = prefix_is_shorter earlier.entries j.entries begins.entries in omega (arith, base, shorter)
 
--- The last journal has positions for all changes that were reported as accepted.
-pub holds_all : (first : TableModel) (end : Journal) (before after : ℕ) → EndsOn first end before after → HoldsAll first.journal end before after
-holds_all first end before after ends =
-    let counts = ends.counts in
-    let grows = goes_on_grows first ends.opening ends.accepted ends.goes in
-    let below = begins_below end ends.opening.journal ends.begins in omega (arith, counts, grows, below)
-
--- If the end is the opening journal of the next run, it has positions for no other changes.
-pub holds_just : (first opening : TableModel) (end : Journal) (accepted before after : ℕ) → GoesOn first opening accepted
-    → end ≡ opening.journal → after ≡ before + accepted → HoldsJust first.journal end before after
-holds_just first opening end accepted before after goes same counts =
-    let grows = goes_on_grows first opening accepted goes in
-    let stays = ap position_of same in omega (arith, counts, grows, stays)
-
 -- The number of accepted changes of mapped outcomes is the sum over the elements.
 pub accepted_mapped : {X : Type 0} (view : X → ServedView) (xs : List X) → accepted_of (map view xs) ≡ sum_by (λ (x : X). (view x).accepted) xs
 accepted_mapped view [] = refl
@@ -210,28 +78,162 @@ pub counts_then : (before accepted more added now mid after : ℕ) → now ≡ b
     → after ≡ before + (accepted + more)
 counts_then before accepted more added now mid after counts counted same stays = omega (arith, counts, counted, same, stays)
 
--- After one more run, the journals lead to the next one, and the count includes its changes.
-pub grows_then : (first opening last next : TableModel) (served : List ServedView) (accepted before added now mid after : ℕ)
-    → GoesOn first opening accepted → IsReturnedRunOf opening last served → LeadsTo last next → now ≡ before + accepted → mid ≡ now + added
-    → accepted_of served ≡ added → after ≡ mid
-    → (all : ℕ) × GoesOn first next all × (after ≡ before + all)
-grows_then first opening last next served accepted before added now mid after goes run leads counts counted same stays = (
-  accepted + accepted_of served,
-  goes_on_then first opening next accepted _ goes run.1 leads,
-  counts_then before accepted (accepted_of served) added now mid after counts counted same stays,
-)
+-- Runs whose replies are held back until the journal is durable.
+module _ (durable : ℕ → Type 0) where
+  -- The workers of a run report as many positions as accepted changes.
+  all_told : (opening last : Journal) (workers : List (List (List Answer))) (told : List (Option (List Event))) (served : List ServedView)
+      → length workers ≡ length told → length served ≡ length told
+      → ((i : ℕ) (t : Option (List Event)) (s : ServedView) → i < length told
+      → IsServed durable opening last (get_or workers i []) (get_or told i t) (get_or served i s))
+      → length (positions_on workers) ≡ accepted_of served
+  all_told opening last [] [] [] few same each = refl
+  all_told opening last [] (t ∷ told) served few same each = absurd (omega (arith, few))
+  all_told opening last (w ∷ workers) [] served few same each = absurd (omega (arith, few))
+  all_told opening last [] [] (s ∷ served) few same each = absurd (omega (arith, same))
+  all_told opening last (w ∷ workers) (t ∷ told) [] few same each = absurd (omega (arith, same))
+  all_told opening last (w ∷ workers) (t ∷ told) (s ∷ served) few same each =
+      let one = (each 0 t s (omega arith)).accepted_is in
+      let more = all_told opening last workers told served (omega (arith, few)) (omega (arith, same))
+      (λ i u v inside. each (suc i) u v (omega (arith, inside))) in
+      let here = some_told (answers_on w) in
+      let lengths = length-append (positions_told (answers_on w)) (positions_on workers) in
+      let sums = sum_by-cons (λ (v : ServedView). v.accepted) s served in omega (arith, one, more, here, lengths, sums)
 
--- Runs may end with the journal to which they lead.
-pub ends_now : (first now : TableModel) (before after : ℕ) → ((all : ℕ) × GoesOn first now all × (after ≡ before + all))
-    → EndsOn first now.journal before after
-ends_now first now before after grown = ends_at first now now.journal grown.0 before after grown.1 (begins_with_itself now.journal) grown.2
+  -- A run reports as many positions as accepted changes.
+  term_told : (opening : TableModel) (t : ReturnedRun) → IsReturnedRun durable opening t → length t.positions ≡ accepted_of t.served
+  term_told opening t run =
+      let its = run.run in
+      ap length run.positions ∙ all_told opening.journal t.last.journal its.connections run.told t.served its.each.0 its.each.1 its.workers
 
--- The journal to which runs lead has positions for exactly the changes that they reported.
-pub holds_now : (first now : TableModel) (before after : ℕ) → ((all : ℕ) × GoesOn first now all × (after ≡ before + all))
-    → HoldsJust first.journal now.journal before after
-holds_now first now before after grown = holds_just first now now.journal grown.0 before after grown.1 refl grown.2
+  -- The last journal of a run is at the opening position plus the number of accepted changes.
+  term_grows : (opening : TableModel) (t : ReturnedRun) → IsReturnedRun durable opening t
+      → position_of t.last.journal ≡ position_of opening.journal + accepted_of t.served
+  term_grows opening t run =
+      let base = ap (λ b. b.position) run.run.begins.base in
+      let grows = run.run.grows in omega (arith, base, grows)
 
--- A run, as it returns, is a returned run with its last journal and outcomes.
-pub term_of : (opening last : TableModel) (told : List (Option (List Event))) (served : List ServedView)
-    → IsRun opening.journal last.journal opening.stopped last.stopped told served → IsReturnedRunOf opening last served
-term_of opening last told served run = (positions_on run.connections, record { told = told; run = run; positions = refl })
+  -- A run reports each of its positions once.
+  term_once : (opening : TableModel) (t : ReturnedRun) → IsReturnedRun durable opening t → AreToldOnce opening.journal t.last.journal t.positions
+  term_once opening t run p above within = ap (times p) run.positions ∙ run.run.once p above within
+
+  -- Successive runs advance the position by the number of accepted changes.
+  goes_by_grows : (first now : TableModel) (runs : List ReturnedRun) → GoesBy durable first runs now
+      → position_of now.journal ≡ position_of first.journal + accepted_by_all runs
+  goes_by_grows first now [] goes = let same = ap (λ (m : TableModel). position_of m.journal) goes in omega (arith, same)
+  goes_by_grows first now (t ∷ runs) goes =
+      let grows = term_grows first t goes.1 in
+      let stays = leads_stays t.last goes.0 goes.2 in
+      let more = goes_by_grows goes.0 now runs goes.3 in
+      let all = sum_by-cons (λ (u : ReturnedRun). accepted_of u.served) t runs in omega (arith, grows, stays, more, all)
+
+  -- Successive runs report as many positions as accepted changes.
+  goes_by_told : (first now : TableModel) (runs : List ReturnedRun) → GoesBy durable first runs now → length (positions_of_all runs) ≡ accepted_by_all runs
+  goes_by_told first now [] goes = refl
+  goes_by_told first now (t ∷ runs) goes =
+      let one = term_told first t goes.1 in
+      let more = goes_by_told goes.0 now runs goes.3 in
+      let lengths = length-append t.positions (positions_of_all runs) in
+      let all = sum_by-cons (λ (u : ReturnedRun). accepted_of u.served) t runs in omega (arith, one, more, lengths, all)
+
+  -- The difference of the two positions is the number of accepted changes.
+  pub goes_on_grows : (first now : TableModel) (accepted : ℕ) → GoesOn durable first now accepted
+      → position_of now.journal ≡ position_of first.journal + accepted
+  goes_on_grows first now accepted goes =
+      let counts = goes.counts in
+      let grows = goes_by_grows first now goes.runs goes.goes in omega (arith, counts, grows)
+
+  -- Successive runs and one more are successive runs.
+  goes_by_then : (first opening next : TableModel) (t : ReturnedRun) (runs : List ReturnedRun) → GoesBy durable first runs opening → IsReturnedRun durable opening t → LeadsTo t.last next
+      → GoesBy durable first (runs ++ t ∷ []) next
+  goes_by_then first opening next t [] goes run leads =
+      (next, subst (λ (m : TableModel). IsReturnedRun durable m t) goes run, leads, refl)
+  goes_by_then first opening next t (u ∷ runs) goes run leads =
+      (goes.0, goes.1, goes.2, goes_by_then goes.0 opening next t runs goes.3 run leads)
+
+  -- No runs lead from the first journal to an equal one.
+  pub goes_not_yet : (first now : TableModel) → now ≡ first → GoesOn durable first now 0
+  goes_not_yet first now same = record {
+    runs = [];
+    goes = same;
+    counts = refl;
+    once = λ p above within. let stays = ap (λ (m : TableModel). position_of m.journal) same in absurd (omega (arith, above, within, stays));
+  }
+
+  -- Without a run, a journal leads to itself.
+  pub goes_nowhere : (m : TableModel) → GoesOn durable m m 0
+  goes_nowhere m = goes_not_yet m m refl
+
+  -- A run after others adds its accepted changes.
+  pub goes_on_then : (first opening next : TableModel) (accepted : ℕ) (t : ReturnedRun) → GoesOn durable first opening accepted → IsReturnedRun durable opening t → LeadsTo t.last next
+      → GoesOn durable first next (accepted + accepted_of t.served)
+  goes_on_then first opening next accepted t goes run leads =
+      let counts = goes.counts in
+      let more = sum_by_push (λ (u : ReturnedRun). accepted_of u.served) goes.runs t in
+      let before = goes_by_grows first opening goes.runs goes.goes in
+      let told = goes_by_told first opening goes.runs goes.goes in
+      let grows = term_grows opening t run in
+      let here = term_told opening t run in
+      let stays = leads_stays t.last next leads in record {
+        runs = goes.runs ++ t ∷ [];
+        goes = goes_by_then first opening next t goes.runs goes.goes run leads;
+        counts = omega (arith, counts, more);
+        once = λ p above within. ap (times p) (positions_then t goes.runs)
+            ∙ told_then (position_of first.journal) (position_of opening.journal) (position_of t.last.journal) (positions_of_all goes.runs) t.positions
+            (omega (arith, before, told)) (omega (arith, grows, here)) goes.once (term_once opening t run) p above (omega (arith, within, stays));
+      }
+
+  -- The last journal of a run begins with what its opening journal begins with.
+  pub term_begins : (placed : Journal) (opening last : TableModel) (served : List ServedView) → IsReturnedRunOf durable opening last served
+      → BeginsWith opening.journal placed → BeginsWith last.journal placed
+  term_begins placed opening last served run begins = begins_with_earlier last.journal opening.journal placed run.1.run.begins begins
+
+  -- Runs may end with a journal that begins with the opening journal of the next run.
+  pub ends_at : (first opening : TableModel) (end : Journal) (accepted before after : ℕ) → GoesOn durable first opening accepted
+      → BeginsWith end opening.journal → after ≡ before + accepted → EndsOn durable first end before after
+  ends_at first opening end accepted before after goes begins counts = record {
+    opening = opening;
+    accepted = accepted;
+    goes = goes;
+    begins = begins;
+    counts = counts;
+  }
+
+  -- The last journal has positions for all changes that were reported as accepted.
+  pub holds_all : (first : TableModel) (end : Journal) (before after : ℕ) → EndsOn durable first end before after → HoldsAll first.journal end before after
+  holds_all first end before after ends =
+      let counts = ends.counts in
+      let grows = goes_on_grows first ends.opening ends.accepted ends.goes in
+      let below = begins_below end ends.opening.journal ends.begins in omega (arith, counts, grows, below)
+
+  -- If the end is the opening journal of the next run, it has positions for no other changes.
+  pub holds_just : (first opening : TableModel) (end : Journal) (accepted before after : ℕ) → GoesOn durable first opening accepted
+      → end ≡ opening.journal → after ≡ before + accepted → HoldsJust first.journal end before after
+  holds_just first opening end accepted before after goes same counts =
+      let grows = goes_on_grows first opening accepted goes in
+      let stays = ap position_of same in omega (arith, counts, grows, stays)
+
+  -- After one more run, the journals lead to the next one, and the count includes its changes.
+  pub grows_then : (first opening last next : TableModel) (served : List ServedView) (accepted before added now mid after : ℕ)
+      → GoesOn durable first opening accepted → IsReturnedRunOf durable opening last served → LeadsTo last next → now ≡ before + accepted → mid ≡ now + added
+      → accepted_of served ≡ added → after ≡ mid
+      → (all : ℕ) × GoesOn durable first next all × (after ≡ before + all)
+  grows_then first opening last next served accepted before added now mid after goes run leads counts counted same stays = (
+    accepted + accepted_of served,
+    goes_on_then first opening next accepted _ goes run.1 leads,
+    counts_then before accepted (accepted_of served) added now mid after counts counted same stays,
+  )
+
+  -- Runs may end with the journal to which they lead.
+  pub ends_now : (first now : TableModel) (before after : ℕ) → ((all : ℕ) × GoesOn durable first now all × (after ≡ before + all))
+      → EndsOn durable first now.journal before after
+  ends_now first now before after grown = ends_at first now now.journal grown.0 before after grown.1 (begins_with_itself now.journal) grown.2
+
+  -- The journal to which runs lead has positions for exactly the changes that they reported.
+  pub holds_now : (first now : TableModel) (before after : ℕ) → ((all : ℕ) × GoesOn durable first now all × (after ≡ before + all))
+      → HoldsJust first.journal now.journal before after
+  holds_now first now before after grown = holds_just first now now.journal grown.0 before after grown.1 refl grown.2
+
+  -- A run, as it returns, is a returned run with its last journal and outcomes.
+  pub term_of : (opening last : TableModel) (told : List (Option (List Event))) (served : List ServedView)
+      → IsRun durable opening.journal last.journal opening.stopped last.stopped told served → IsReturnedRunOf durable opening last served
+  term_of opening last told served run = (positions_on run.connections, record { told = told; run = run; positions = refl })

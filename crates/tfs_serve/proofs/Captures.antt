@@ -16,12 +16,12 @@ module _ (name : Sym) (A B C D E F G H : RattleType) where
       recorded_sync (field_at name all).row _ _ (type_at name all).to_one
       (struct_sync (shape (type_at name all)) (a, (b, (c, (d, (e, (f, (g, (h, tt)))))))))
 
-module _ (name : Sym) (A B C D E F G H I : RattleType) where
-  abbrev all_nine : List RattleType
-  all_nine = A ∷ B ∷ C ∷ D ∷ E ∷ F ∷ G ∷ H ∷ I ∷ []
+module _ (name : Sym) (A B C D E F G H I K : RattleType) where
+  abbrev all_ten : List RattleType
+  all_ten = A ∷ B ∷ C ∷ D ∷ E ∷ F ∷ G ∷ H ∷ I ∷ K ∷ []
 
-  pub nine_sync : IsSync A → IsSync B → IsSync C → IsSync D → IsSync E → IsSync F → IsSync G → IsSync H → IsSync I
-      → IsSync (TupleAt name (A ∷ B ∷ C ∷ D ∷ E ∷ F ∷ G ∷ H ∷ I ∷ []))
-  nine_sync a b c d e f g h i =
-      recorded_sync (field_at name all_nine).row _ _ (type_at name all_nine).to_one
-      (struct_sync (shape (type_at name all_nine)) (a, (b, (c, (d, (e, (f, (g, (h, (i, tt))))))))))
+  pub ten_sync : IsSync A → IsSync B → IsSync C → IsSync D → IsSync E → IsSync F → IsSync G → IsSync H → IsSync I → IsSync K
+      → IsSync (TupleAt name (A ∷ B ∷ C ∷ D ∷ E ∷ F ∷ G ∷ H ∷ I ∷ K ∷ []))
+  ten_sync a b c d e f g h i k =
+      recorded_sync (field_at name all_ten).row _ _ (type_at name all_ten).to_one
+      (struct_sync (shape (type_at name all_ten)) (a, (b, (c, (d, (e, (f, (g, (h, (i, (k, tt)))))))))))

@@ -20,9 +20,9 @@ abbrev pub Follows : Journal → Answer → Type 0
 Follows last a = (a.reply ≡ refused no_copy) ⊎ FollowsJournal last a
 
 -- The reply of a worker follows the last journal, or is `NoCopy`.
-follows : (opening last seen next : Journal) (a : Answer) → Replies opening last seen a next → Follows last a
-follows opening last seen next a (inl none) = inl none.0
-follows opening last seen next a (inr over) = inr (record {
+follows : (opening last seen : Journal) (a : Answer) → Replies opening last seen a → Follows last a
+follows opening last seen a (inl none) = inl none.reply
+follows opening last seen a (inr over) = inr (record {
   before = over.before;
   after = over.after;
   lawful = over.was_lawful;
@@ -34,7 +34,7 @@ follows opening last seen next a (inr over) = inr (record {
 all_follow : (opening last seen end : Journal) (answers : List Answer) → RepliesInTurn opening last seen answers end → All (Follows last) answers
 all_follow opening last seen end [] replies = All-nil (Follows last)
 all_follow opening last seen end (a ∷ more) replies =
-    All-cons (Follows last) a more (follows opening last seen replies.0 a replies.1) (all_follow opening last replies.0 end more replies.2)
+    All-cons (Follows last) a more (follows opening last seen a replies.0) (all_follow opening last a.seen end more replies.1)
 
 -- What holds of all elements of each list holds of all elements of their concatenation.
 all_of_each : {X Y : Type 0} (P : Y → Type 0) (f : X → List Y) (d : X) (xs : List X) → ((i : ℕ) → i < length xs → All P (f (get_or xs i d)))
@@ -66,9 +66,9 @@ faults_of_lists (c ∷ connections) =
     )
 
 -- All replies of a run follow one journal.
-pub run_follows : (opening last : Journal) (was is : Bool) (told : List (Option (List Event))) (served : List ServedView)
-    (run : IsRun opening last was is told served) → FollowOneJournal opening last was is (flat_map answers_on run.connections)
-run_follows opening last was is told served run = record {
+pub run_follows : (durable : ℕ → Type 0) (opening last : Journal) (was is : Bool) (told : List (Option (List Event))) (served : List ServedView)
+    (run : IsRun durable opening last was is told served) → FollowOneJournal opening last was is (flat_map answers_on run.connections)
+run_follows durable opening last was is told served run = record {
   lawful = run.lawful;
   begins = run.begins;
   follow = all_of_each (Follows last) answers_on [] run.connections (λ i inside.
@@ -83,5 +83,5 @@ run_follows opening last was is told served run = record {
     nobody : ServedView
     nobody = record { told = None; failed = false; fault = None; seen = 0; accepted = 0; written = [] }
 
-    at : (i : ℕ) → i < length run.connections → IsServed opening last (get_or run.connections i []) (get_or told i None) (get_or served i nobody)
+    at : (i : ℕ) → i < length run.connections → IsServed durable opening last (get_or run.connections i []) (get_or told i None) (get_or served i nobody)
     at i inside = run.workers i None nobody (omega (arith, inside, run.each.0))

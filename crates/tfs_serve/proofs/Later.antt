@@ -15,7 +15,7 @@ use Rattle.tfs_shared.specs.View.{SessionView}
 use Rattle.tfs_published.proofs.Beginnings.{begins_with_itself, begins_with_earlier}
 use Rattle.tfs_calls.specs.Refusal.{no_copy}
 use Rattle.tfs_calls.specs.Reply.{refused}
-use Rattle.tfs_serve.specs.Session.{LacksCopy, AnswersOver, SessionStep, IsLater}
+use Rattle.tfs_serve.specs.Session.{LacksCopy, AnswersOver, SessionStep, CatchesUp, CaughtUpStep, IsLater}
 
 -- A session that doesn't change has advanced.
 pub later_itself : (v : SessionView) → IsLater v v
@@ -85,3 +85,10 @@ step_later opening old new call reply step = by step.1
           a.fresh;
       accepted = omega (arith, a.accepted);
     }
+
+-- A session has advanced after a step before which it may have caught up.
+pub caught_up_later : (opening : Journal) (old new : SessionView) (call : Call) (reply : ReplyValue) → CaughtUpStep opening old call reply new
+    → IsLater old new
+caught_up_later opening old new call reply step =
+    let same = step.1.counted.accepted in
+    later_then old step.0 new (record { seen = step.1.seen; accepted = omega (arith, same) }) (step_later opening step.0 new call reply step.2)

@@ -1,5 +1,5 @@
 -- Lemmas about the answers of sessions, over the journal that a run leaves.
-use Rattle.std.proofs.Common.{◌≡◌, ◌⊎◌, ◌+◌, ℕ, Bool, is_some, List, [], ◌∷◌, ◌++◌, Option, refl, sym, ap, subst, inl, inr, arith, append_assoc, append-nil}
+use Rattle.std.proofs.Common.{◌≡◌, ◌⊎◌, ◌+◌, ℕ, Bool, is_some, List, [], ◌∷◌, ◌++◌, Option, refl, sym, ◌∙◌, ap, subst, inl, inr, arith, append_assoc, append-nil}
 use Rattle.std.specs.List.{flat_map}
 use Rattle.std.proofs.lemmas.List.Sums.{sum_by-append}
 use Rattle.tfs_records.specs.Journal.{Journal, BaseValue, EntryValue, position_of}
@@ -13,11 +13,11 @@ use Rattle.tfs_published.proofs.Beginnings.{begins_with_earlier}
 use Rattle.tfs_shared.specs.View.{SessionView, new_session}
 use Rattle.tfs_serve.specs.Faults.{IsCaused}
 use Rattle.tfs_serve.specs.Gate.{Event}
-use Rattle.tfs_serve.specs.Session.{LacksCopy, SessionStep, AnswersOver, IsLater, accepted_by}
+use Rattle.tfs_serve.specs.Session.{LacksCopy, CaughtUpStep, AnswersOver, IsLater, accepted_by}
 use Rattle.tfs_serve.specs.Working.{Answer, Gives, GivesOn, AreReplied, HasWorked, end_of_work}
 use Rattle.tfs_serve.specs.Serving.{Replies, RepliesInTurn, MayLackCopy, accepted_in, answers_on, IsServed}
 use Rattle.tfs_connections.specs.declared.accepting.AcceptFault.{AcceptFault}
-use Rattle.tfs_serve.proofs.Later.{later_itself, later_then, begins_answered, lacks_copy, step_later}
+use Rattle.tfs_serve.proofs.Later.{later_itself, later_then, begins_answered, lacks_copy, caught_up_later}
 use Rattle.tfs_serve.proofs.Standing.{accepted_stand}
 use Rattle.tfs_serve.proofs.Tallying.{begins_lower}
 use Rattle.tfs_serve.proofs.Working.{gives_then}
@@ -42,7 +42,7 @@ lawful_beginning last j lawful begins = lawful_front j.base j.entries begins.ent
 gives_later : (opening : Journal) (old new : SessionView) (answers : List Answer) → Gives opening old answers new → IsLater old new
 gives_later opening old new [] gives = subst (λ (v : SessionView). IsLater old v) (sym gives) (later_itself old)
 gives_later opening old new (a ∷ more) gives =
-    later_then old gives.0 new (step_later opening old gives.0 a.call a.reply gives.1) (gives_later opening gives.0 new more gives.2)
+    later_then old gives.0 new (caught_up_later opening old gives.0 a.call a.reply gives.1) (gives_later opening gives.0 new more gives.3)
 
 -- A session lacks a copy only for a call that `NoCopy` may refuse.
 lacks_by : (opening : Journal) (old new : SessionView) (call : Call) (reply : ReplyValue) → LacksCopy opening old call reply new
@@ -56,26 +56,38 @@ lacks_by opening old new (Impact name query) reply lacks = tt
 -- A step of a session gives a reply over the last journal, if this begins with all that the session
 -- has seen.
 step_replies : (opening last : Journal) (old new : SessionView) (a : Answer) → IsLawful last → BeginsWith last new.journal
-    → SessionStep opening old a.call a.reply new → Replies opening last old.journal a new.journal
-step_replies opening last old new a lawful stands step = by step.1
+    → CaughtUpStep opening old a.call a.reply new → a.seen ≡ new.journal → Replies opening last old.journal a
+step_replies opening last old new a lawful stands step seen = by step.2.1
   where
-    by : LacksCopy opening old a.call a.reply new ⊎ AnswersOver old a.call a.reply new → Replies opening last old.journal a new.journal
+    caught : SessionView
+    caught = step.0
+
+    has : BeginsWith last a.seen
+    has = subst (λ (j : Journal). BeginsWith last j) (sym seen) stands
+
+    by : LacksCopy opening caught a.call a.reply new ⊎ AnswersOver caught a.call a.reply new → Replies opening last old.journal a
     by (inl none) =
-        let same = lacks_copy opening old new a.call a.reply none in
-        inl (same.0, same.1, lacks_by opening old new a.call a.reply none)
+        let same = lacks_copy opening caught new a.call a.reply none in
+        let at : caught.journal ≡ a.seen = sym (seen ∙ same.1) in
+        inl (record {
+          reply = same.0;
+          later = subst (λ (j : Journal). BeginsWith j old.journal) at step.1.seen;
+          stands = has;
+          may = subst (λ (j : Journal). MayLackCopy opening j a.call) at (lacks_by opening caught new a.call a.reply none);
+        })
     by (inr over) = inr (record {
       before = over.before;
       after = over.after;
-      fresh = over.fresh;
+      fresh = begins_with_earlier over.before.journal caught.journal old.journal over.fresh step.1.seen;
       answer = over.answer;
       memory = over.memory;
-      leaves = sym over.seen;
+      leaves = sym over.seen ∙ sym seen;
       stood = begins_with_earlier last new.journal over.before.journal stands
           (subst (λ (j : Journal). BeginsWith j over.before.journal) (sym over.seen)
           (begins_answered over.before over.after a.call a.reply over.answer));
-      stands = stands;
+      stands = has;
       was_lawful = over.lawful;
-      is_lawful = lawful_beginning last new.journal lawful stands;
+      is_lawful = lawful_beginning last a.seen lawful has;
     })
 
 -- The answers of a session are replies in order over the last journal.
@@ -83,24 +95,27 @@ gives_replies : (opening last : Journal) (old new : SessionView) (answers : List
     → Gives opening old answers new → RepliesInTurn opening last old.journal answers new.journal
 gives_replies opening last old new [] lawful stands gives = ap (λ (v : SessionView). v.journal) gives
 gives_replies opening last old new (a ∷ more) lawful stands gives =
-    let later = gives_later opening gives.0 new more gives.2 in (
-      gives.0.journal,
-      step_replies opening last old gives.0 a lawful (begins_with_earlier last new.journal gives.0.journal stands later.seen) gives.1,
-      gives_replies opening last gives.0 new more lawful stands gives.2,
+    let later = gives_later opening gives.0 new more gives.3 in (
+      step_replies opening last old gives.0 a lawful (begins_with_earlier last new.journal gives.0.journal stands later.seen) gives.1 gives.2,
+      subst (λ (j : Journal). RepliesInTurn opening last j more new.journal) (sym gives.2)
+          (gives_replies opening last gives.0 new more lawful stands gives.3),
     )
 
 -- A step adds 1 to the session's accepted changes if the reply reports one as accepted.
-step_counts : (opening : Journal) (old new : SessionView) (a : Answer) → SessionStep opening old a.call a.reply new
+step_counts : (opening : Journal) (old new : SessionView) (a : Answer) → CaughtUpStep opening old a.call a.reply new
     → new.accepted ≡ old.accepted + accepted_by a.reply
-step_counts opening old new a step = by step.1
+step_counts opening old new a step = by step.2.1
   where
-    by : LacksCopy opening old a.call a.reply new ⊎ AnswersOver old a.call a.reply new → new.accepted ≡ old.accepted + accepted_by a.reply
+    caught : step.0.accepted ≡ old.accepted
+    caught = step.1.counted.accepted
+
+    by : LacksCopy opening step.0 a.call a.reply new ⊎ AnswersOver step.0 a.call a.reply new → new.accepted ≡ old.accepted + accepted_by a.reply
     by (inl none) =
-        let lacks = lacks_copy opening old new a.call a.reply none in
+        let lacks = lacks_copy opening step.0 new a.call a.reply none in
         let same = lacks.2 in
         let nothing = ap accepted_by lacks.0 in
-        omega (arith, same, nothing)
-    by (inr over) = over.accepted
+        omega (arith, caught, same, nothing)
+    by (inr over) = omega (arith, caught, over.accepted)
 
 -- Answers add as many accepted changes to the session as they report.
 gives_counts : (opening : Journal) (old new : SessionView) (answers : List Answer) → Gives opening old answers new
@@ -108,7 +123,7 @@ gives_counts : (opening : Journal) (old new : SessionView) (answers : List Answe
 gives_counts opening old new [] gives = let same = ap (λ (v : SessionView). v.accepted) gives in omega (arith, same)
 gives_counts opening old new (a ∷ more) gives =
     let one = step_counts opening old gives.0 a gives.1 in
-    let rest = gives_counts opening gives.0 new more gives.2 in
+    let rest = gives_counts opening gives.0 new more gives.3 in
     let parts = sum_by-append (λ (b : Answer). accepted_by b.reply) (a ∷ []) more in
     omega (arith, one, rest, parts)
 
@@ -127,11 +142,11 @@ all_given opening told now old new end worked = gives_all opening old new worked
 
 -- If a new session has worked, and the last journal begins with all that it has seen, its worker
 -- has served.
-pub served : (opening last : Journal) (told now : Option (List Event)) (was : Bool) (number : ℕ) (new : SessionView) (fault : Option AcceptFault)
+pub served : (durable : ℕ → Type 0) (opening last : Journal) (told now : Option (List Event)) (was : Bool) (number : ℕ) (new : SessionView) (fault : Option AcceptFault)
     (written : List (List ℕ)) → IsLawful last → BeginsWith last new.journal → IsCaused fault
     → (worked : HasWorked opening told now (new_session opening was number) new (end_of_work (is_some fault)))
-    → AreReplied worked.connections written
-    → IsServed opening last worked.connections told (record {
+    → AreReplied durable worked.connections written
+    → IsServed durable opening last worked.connections told (record {
       told = now;
       failed = is_some fault;
       fault = fault;
@@ -139,7 +154,7 @@ pub served : (opening last : Journal) (told now : Option (List Event)) (was : Bo
       accepted = new.accepted;
       written = written;
     })
-served opening last told now was number new fault written lawful stands caused worked replied = record {
+served durable opening last told now was number new fault written lawful stands caused worked replied = record {
   heard = worked.heard;
   view = new.journal;
   replies = replies;

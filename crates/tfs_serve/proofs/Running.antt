@@ -81,15 +81,15 @@ left_of told session fault written w = record {
 }
 
 -- Workers that began with new sessions, numbered down to 0, and have worked.
-module _ {W : Type 0} (told : W → Option (List Event)) (session : W → SessionView) (fault : W → Option AcceptFault) (written : W → List (List ℕ))
-    (opening last : Journal) (was is : Bool) (old new : List W)
+module _ {W : Type 0} (durable : ℕ → Type 0) (told : W → Option (List Event)) (session : W → SessionView) (fault : W → Option AcceptFault)
+    (written : W → List (List ℕ)) (opening last : Journal) (was is : Bool) (old new : List W)
   where
     abbrev left : W → ServedView
     left = left_of told session fault written
 
     -- A worker has served these connections, with its number: its position in the list.
     pub record HasServed (d : W) (i : ℕ) (connections : List (List Answer)) : Type 0 where
-      pub served : IsServed opening last connections (told (get_or old i d)) (left (get_or new i d))
+      pub served : IsServed durable opening last connections (told (get_or old i d)) (left (get_or new i d))
       pub number : ℕ
       pub number_is : number + i + 1 ≡ length old
       pub tells : Tells opening (new_session opening was number) (session (get_or new i d)) (told_on connections)
@@ -101,7 +101,7 @@ module _ {W : Type 0} (told : W → Option (List Event)) (session : W → Sessio
 
     abbrev pub WorkedEach : Type 0
     WorkedEach = (i : ℕ) (d : W) → i < length old
-        → HasReplied opening (told (get_or old i d)) (told (get_or new i d)) (session (get_or old i d)) (session (get_or new i d))
+        → HasReplied durable opening (told (get_or old i d)) (told (get_or new i d)) (session (get_or old i d)) (session (get_or new i d))
         (end_of_work (is_some (fault (get_or new i d)))) [] (written (get_or new i d))
 
     abbrev pub AreCaused : Type 0
@@ -124,16 +124,16 @@ module _ {W : Type 0} (told : W → Option (List Event)) (session : W → Sessio
         let in_sessions : i < length (map session new) = omega (arith, in_new, length-map new session) in
         let has : BeginsWith last (session now).journal =
         subst (λ (s : SessionView). BeginsWith last s.journal) (get_or-map session new i d (session d) in_new) (begins i (session d) in_sessions) in
-        let did : HasReplied opening (told (get_or old i d)) (told now) (new_session opening was number.0) (session now)
+        let did : HasReplied durable opening (told (get_or old i d)) (told now) (new_session opening was number.0) (session now)
         (end_of_work (is_some (fault now))) [] (written now) =
-        subst (λ (s : SessionView). HasReplied opening (told (get_or old i d)) (told now) s (session now) (end_of_work (is_some (fault now))) []
+        subst (λ (s : SessionView). HasReplied durable opening (told (get_or old i d)) (told now) s (session now) (end_of_work (is_some (fault now))) []
         (written now)) number.2 (worked i d inside) in
         let given = all_given opening (told (get_or old i d)) (told now) (new_session opening was number.0) (session now)
         (end_of_work (is_some (fault now))) did.worked in (
           did.worked.connections,
           record {
-            served = served opening last (told (get_or old i d)) (told now) was number.0 (session now) (fault now) (written now) lawful has
-                (caused i d inside) did.worked (subst (AreReplied did.worked.connections) (sym did.written) did.replied);
+            served = served durable opening last (told (get_or old i d)) (told now) was number.0 (session now) (fault now) (written now) lawful has
+                (caused i d inside) did.worked (subst (AreReplied durable did.worked.connections) (sym did.written) did.replied);
             number = number.0;
             number_is = number.1;
             tells = gives_tells opening (new_session opening was number.0) (session now) (answers_on did.worked.connections) given;
@@ -173,7 +173,7 @@ module _ {W : Type 0} (told : W → Option (List Event)) (session : W → Sessio
     pub is_run : IsLawful last → BeginsWith last opening → AreNumbered → AreCaused → WorkedEach → length new ≡ length old
         → All (λ (s : SessionView). BeginsWith last s.journal) (map session new) → AreSigned opening last (map session new)
         → length last.entries ≡ length opening.entries + sum_by (λ (s : SessionView). s.accepted) (map session new)
-        → HasStopped → 1 ≤ length old → (d : W) → IsRun opening last was is (map told old) (map left new)
+        → HasStopped → 1 ≤ length old → (d : W) → IsRun durable opening last was is (map told old) (map left new)
     is_run lawful begins numbered caused worked same seen signed grows stops some d = record {
       lawful = lawful;
       begins = begins;
@@ -182,9 +182,9 @@ module _ {W : Type 0} (told : W → Option (List Event)) (session : W → Sessio
       workers = λ i t s inside.
           let in_old : i < length old = omega (arith, inside, many) in
           let in_new : i < length new = omega (arith, in_old, same) in
-          subst (λ (v : ServedView). IsServed opening last (get_or all.0 i []) (get_or (map told old) i t) v)
+          subst (λ (v : ServedView). IsServed durable opening last (get_or all.0 i []) (get_or (map told old) i t) v)
           (sym (get_or-map left new i d s in_new))
-          (subst (λ (o : Option (List Event)). IsServed opening last (get_or all.0 i []) o (left (get_or new i d)))
+          (subst (λ (o : Option (List Event)). IsServed durable opening last (get_or all.0 i []) o (left (get_or new i d)))
           (sym (get_or-map told old i d t in_old)) (all.2 i [] in_old).served);
       grows = grows ∙ ap (λ (n : ℕ). length opening.entries + n) accepted_same;
       once = λ p above within. each_once (position_of opening) (length signed.makers) told_all as_many apart.once
@@ -257,30 +257,30 @@ map_alike f g [] same = refl
 map_alike f g (x ∷ xs) same = ap (λ u. u ∷ map f xs) (same x) ∙ ap (λ l. g x ∷ l) (map_alike f g xs same)
 
 -- The workers of gates make a run, with the outcomes that the call returns.
-pub run_of : {W G V : Type 0} (gate : W → G) (told : G → Option (List Event)) (session : W → SessionView) (fault : W → Option AcceptFault)
+pub run_of : {W G V : Type 0} (durable : ℕ → Type 0) (gate : W → G) (told : G → Option (List Event)) (session : W → SessionView) (fault : W → Option AcceptFault)
     (written : W → List (List ℕ)) (made : W → V) (view : V → ServedView) (opening last : Journal) (was is : Bool) (gates : List G) (old new : List W)
     (all : List V)
     → ((w : W) → left_of (λ (x : W). told (gate x)) session fault written w ≡ view (made w))
     → map gate old ≡ gates → all ≡ map made new → 1 ≤ length gates → IsLawful last → BeginsWith last opening
     → HaveNumbers session opening was (length gates) old
-    → AreCaused (λ (w : W). told (gate w)) session fault written opening last was is old new
-    → WorkedEach (λ (w : W). told (gate w)) session fault written opening last was is old new → length new ≡ length old
+    → AreCaused durable (λ (w : W). told (gate w)) session fault written opening last was is old new
+    → WorkedEach durable (λ (w : W). told (gate w)) session fault written opening last was is old new → length new ≡ length old
     → All (λ (s : SessionView). BeginsWith last s.journal) (map session new) → AreSigned opening last (map session new)
     → length last.entries ≡ length opening.entries + sum_by (λ (s : SessionView). s.accepted) (map session new)
-    → HasStopped (λ (w : W). told (gate w)) session fault written opening last was is old new
-    → IsRun opening last was is (map told gates) (map view all)
-run_of gate told session fault written made view opening last was is gates old [] all views are_gates are_all some lawful begins numbered caused
+    → HasStopped durable (λ (w : W). told (gate w)) session fault written opening last was is old new
+    → IsRun durable opening last was is (map told gates) (map view all)
+run_of durable gate told session fault written made view opening last was is gates old [] all views are_gates are_all some lawful begins numbered caused
     worked same seen signed grows stops =
     absurd (omega (arith, some, same, ap length are_gates, length-map old gate))
-run_of {W} {G} {V} gate told session fault written made view opening last was is gates old (w ∷ rest) all views are_gates are_all some lawful begins
+run_of {W} {G} {V} durable gate told session fault written made view opening last was is gates old (w ∷ rest) all views are_gates are_all some lawful begins
     numbered caused worked same seen signed grows stops =
-    subst (λ (gs : List G). IsRun opening last was is (map told gs) (map view all)) are_gates
-    (subst (λ (os : List (Option (List Event))). IsRun opening last was is os (map view all)) (sym (map_made gate told old))
-    (subst (λ (vs : List V). IsRun opening last was is (map (λ (x : W). told (gate x)) old) (map view vs)) (sym are_all)
-    (subst (λ (ss : List ServedView). IsRun opening last was is (map (λ (x : W). told (gate x)) old) ss)
+    subst (λ (gs : List G). IsRun durable opening last was is (map told gs) (map view all)) are_gates
+    (subst (λ (os : List (Option (List Event))). IsRun durable opening last was is os (map view all)) (sym (map_made gate told old))
+    (subst (λ (vs : List V). IsRun durable opening last was is (map (λ (x : W). told (gate x)) old) (map view vs)) (sym are_all)
+    (subst (λ (ss : List ServedView). IsRun durable opening last was is (map (λ (x : W). told (gate x)) old) ss)
     (map_alike (left_of (λ (x : W). told (gate x)) session fault written) (λ (x : W). view (made x)) (w ∷ rest) views
     ∙ sym (map_made made view (w ∷ rest)))
-    (is_run (λ (x : W). told (gate x)) session fault written opening last was is old (w ∷ rest) lawful begins (λ i d inside.
+    (is_run durable (λ (x : W). told (gate x)) session fault written opening last was is old (w ∷ rest) lawful begins (λ i d inside.
     let x = numbered i d inside in
     let at = x.1 in
     (x.0, omega (arith, at, ap length are_gates, length-map old gate), x.2)) caused worked same seen signed grows stops

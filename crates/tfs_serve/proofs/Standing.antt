@@ -92,11 +92,11 @@ accepts last next m n (Change name raw) reply position (inr faults) leaves begin
     absurd (refuses journal_fault position (sym faults.2.1 ∙ is))
 
 -- The previous lemma for the reply of a worker.
-accepts_one : (opening last seen next : Journal) (a : Answer) (position : ℕ) → Replies opening last seen a next → a.reply ≡ done position
+accepts_one : (opening last seen : Journal) (a : Answer) (position : ℕ) → Replies opening last seen a → a.reply ≡ done position
     → IsAcceptedAt last a.call position
-accepts_one opening last seen next a position (inl none) is = absurd (refuses no_copy position (sym none.0 ∙ is))
-accepts_one opening last seen next a position (inr over) is =
-    accepts last next over.before over.after a.call a.reply position over.answer over.leaves over.stands is
+accepts_one opening last seen a position (inl none) is = absurd (refuses no_copy position (sym none.reply ∙ is))
+accepts_one opening last seen a position (inr over) is =
+    accepts last a.seen over.before over.after a.call a.reply position over.answer over.leaves over.stands is
 
 -- Each accepted change of a worker is in the last journal at the reported position.
 pub accepted_stand : (opening last seen end : Journal) (answers : List Answer) → RepliesInTurn opening last seen answers end
@@ -104,4 +104,4 @@ pub accepted_stand : (opening last seen end : Journal) (answers : List Answer) �
 accepted_stand opening last seen end [] replies = All-nil (λ (a : Answer). (position : ℕ) → a.reply ≡ done position → IsAcceptedAt last a.call position)
 accepted_stand opening last seen end (a ∷ more) replies =
     All-cons (λ (b : Answer). (position : ℕ) → b.reply ≡ done position → IsAcceptedAt last b.call position) a more
-    (λ position is. accepts_one opening last seen replies.0 a position replies.1 is) (accepted_stand opening last replies.0 end more replies.2)
+    (λ position is. accepts_one opening last seen a position replies.0 is) (accepted_stand opening last a.seen end more replies.1)

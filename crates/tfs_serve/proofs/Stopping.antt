@@ -163,6 +163,13 @@ reports_then old between new a more one rest =
     either true is = refl
     either false is = is
 
+-- A session that caught up and then counted a reply has counted the reply.
+stops_since : (old caught new : SessionView) (reply : ReplyValue) → CountsNothing old caught → CountsStop caught new reply → CountsStop old new reply
+stops_since old caught new reply nothing stop = record {
+  faulted = stop.faulted ∙ ap (λ (b : Bool). as_number b + as_number (reports_fault reply)) nothing.faulted;
+  stopped = stop.stopped ∙ ap (λ (b : Bool). cond (reports_stop reply) true b) nothing.stopped;
+}
+
 -- A session has counted what all of its answers report.
 pub gives_reports : (opening : Journal) (old new : SessionView) (answers : List Answer) → Gives opening old answers new → HasReported old new answers
 gives_reports opening old new [] gives = subst (λ (v : SessionView). HasReported old v []) (sym gives) (record {
@@ -171,7 +178,8 @@ gives_reports opening old new [] gives = subst (λ (v : SessionView). HasReporte
   stopped = All-nil (λ (b : Answer). reports_stop b.reply ≡ true → old.stopped ≡ true);
 })
 gives_reports opening old new (a ∷ more) gives =
-    reports_then old gives.0 new a more gives.1.0.stops (gives_reports opening gives.0 new more gives.2)
+    reports_then old gives.0 new a more (stops_since old gives.1.0 gives.0 a.reply gives.1.1.counted gives.1.2.0.stops)
+    (gives_reports opening gives.0 new more gives.3)
 
 -- ---- All sessions.
 

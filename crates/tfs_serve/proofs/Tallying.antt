@@ -6,7 +6,7 @@ use Rattle.tfs_calls.specs.Reply.{ReplyValue, done, state, impact, refused}
 use Rattle.tfs_published.specs.Beginning.{BeginsWith}
 use Rattle.tfs_shared.specs.Signed.{makers_told}
 use Rattle.tfs_shared.specs.View.{SessionView}
-use Rattle.tfs_serve.specs.Session.{KeepsCount, accepted_by}
+use Rattle.tfs_serve.specs.Session.{KeepsCount, CaughtUpStep, accepted_by}
 use Rattle.tfs_serve.specs.Serving.{accepted_in}
 use Rattle.tfs_serve.specs.Told.{position_told, positions_told, times}
 use Rattle.tfs_serve.specs.Working.{Answer, Gives}
@@ -115,16 +115,24 @@ tells_then opening a b c xs ys first then = record {
         let within = is.1 in
         (is.0, omega (arith, within, then.later), made_later opening b.makers c.makers p a.number then.seen is.2)
 
+-- A session that may have caught up and then gave an answer has reported the position in it.
+tells_step : (opening : Journal) (old new : SessionView) (a : Answer) → CaughtUpStep opening old a.call a.reply new
+    → Tells opening old new (position_told a.reply)
+tells_step opening old new a step =
+    let caught = step.1.signed in
+    tells_then opening old step.0 new [] (position_told a.reply) (tells_nothing opening old step.0 caught.number
+    (prefix_then old.makers caught.before step.0.makers caught.fresh ([], sym caught.made)) (begins_lower step.0.journal old.journal step.1.seen))
+    (tells_reply opening step.0 new a.reply step.2.0
+    (begins_lower new.journal step.0.journal (step_later opening step.0 new a.call a.reply step.2).seen))
+
 -- A session that gave answers has reported the positions in them.
 pub gives_tells : (opening : Journal) (old new : SessionView) (answers : List Answer) → Gives opening old answers new
     → Tells opening old new (positions_told answers)
 gives_tells opening old new [] gives =
     subst (λ (v : SessionView). Tells opening old v []) (sym gives) (tells_nothing opening old old refl ([], append-nil old.makers) (omega arith))
 gives_tells opening old new (a ∷ more) gives =
-    tells_then opening old gives.0 new (position_told a.reply) (positions_told more)
-    (tells_reply opening old gives.0 a.reply gives.1.0
-    (begins_lower gives.0.journal old.journal (step_later opening old gives.0 a.call a.reply gives.1).seen))
-    (gives_tells opening gives.0 new more gives.2)
+    tells_then opening old gives.0 new (position_told a.reply) (positions_told more) (tells_step opening old gives.0 a gives.1)
+    (gives_tells opening gives.0 new more gives.3)
 
 -- A reply reports as many positions as it counts accepted changes: 1 or 0.
 counted_told : (reply : ReplyValue) → length (position_told reply) ≡ accepted_by reply

@@ -2,16 +2,17 @@
 use Rattle.std.proofs.Common.{◌≡◌, ℕ, inl, inr, List, [], ◌∷◌, ◌++◌, Option, Some, None, Result, Ok, Err, MatchResult, true, false, refl, sym, ◌∙◌, ap, subst, append_assoc, append-nil}
 use Rattle.std.specs.List.{flat_map}
 use Rattle.std.proofs.lemmas.Grind.{flat_map-append}
+use Rattle.std.proofs.lemmas.List.Elements.{All-nil, All-cons}
 use Rattle.tfs_calls.specs.declared.call.Call.{Call}
-use Rattle.tfs_calls.specs.Reply.{ReplyValue}
-use Rattle.tfs_conversation.specs.Conversation.{AnswersRequest, Exchange, Runs, Converses, BreaksOff, HasTalked}
+use Rattle.tfs_conversation.specs.Conversation.{AnswersRequest, Exchange, Said, is_open, Runs, Talks, Breaks, HasSpoken}
 use Rattle.tfs_conversation.specs.declared.ended.Ended.{Ended}
 use Rattle.tfs_http.specs.declared.fault.ServeFault.{ServeFault}
 use Rattle.tfs_records.specs.Journal.{Journal}
 use Rattle.tfs_shared.specs.View.{SessionView}
 use Rattle.tfs_serve.specs.Gate.{Event, asked, before, after, Hears}
-use Rattle.tfs_serve.specs.Session.{SessionStep}
-use Rattle.tfs_serve.specs.Working.{Answer, heard_of, heard_of_connection, Gives, GivesOn, GivesFirst, IsReplied, AreReplied, HasAnswered, HasConversed, HasWorked, HasReplied}
+use Rattle.tfs_serve.specs.Hold.{IsDurable}
+use Rattle.tfs_serve.specs.Session.{HeldStep, reply_said}
+use Rattle.tfs_serve.specs.Working.{Answer, heard_of, heard_of_connection, Gives, GivesOn, GivesFirst, AreHeld, IsReplied, AreReplied, HasAnswered, HasConversed, HasWorked, HasReplied}
 
 -- A gate that hears no event doesn't change.
 hears_nothing : (t : Option (List Event)) → Hears t t []
@@ -31,7 +32,7 @@ heard_as a b xs ys is h = subst (Hears a b) is h
 -- A session that gives some answers and then others gives all of them.
 pub gives_then : (o : Journal) (a b c : SessionView) (xs ys : List Answer) → Gives o a xs b → Gives o b ys c → Gives o a (xs ++ ys) c
 gives_then o a b c [] ys p q = subst (λ (v : SessionView). Gives o v ys c) p q
-gives_then o a b c (x ∷ xs) ys p q = (p.0, p.1, gives_then o p.0 b c xs ys p.2 q)
+gives_then o a b c (x ∷ xs) ys p q = (p.0, p.1, p.2, gives_then o p.0 b c xs ys p.3 q)
 
 -- A session that gives answers on connections and then on one more gives them on all.
 gives_on_then : (o : Journal) (a b c : SessionView) (connections : List (List Answer)) (answers : List Answer) → GivesOn o a connections b
@@ -39,13 +40,15 @@ gives_on_then : (o : Journal) (a b c : SessionView) (connections : List (List An
 gives_on_then o a b c [] answers p q = (c, subst (λ (v : SessionView). Gives o v answers c) p q, refl)
 gives_on_then o a b c (x ∷ xs) answers p q = (p.0, p.1, gives_on_then o p.0 b c xs answers p.2 q)
 
--- The steps of a desk over a session and a gate.
-module _ {S : Type 0} (step : S → Call → ReplyValue → S → Type 0) (o : Journal) (session : S → SessionView) (told : S → Option (List Event))
-    (steps : (old new : S) (call : Call) (reply : ReplyValue) → step old call reply new
-    → SessionStep o (session old) call reply (session new) × Hears (told old) (told new) (before call ∷ after reply ∷ [])) where
-  -- The desk has answered calls with the replies of these exchanges.
+-- The steps of a desk that holds its replies back, over a session and a gate.
+module _ {S : Type 0} (step : S → Call → Said → S → Type 0) (durable : ℕ → Type 0) (o : Journal) (session : S → SessionView)
+    (told : S → Option (List Event)) (steps : (old new : S) (call : Call) (said : Said) → step old call said new
+    → HeldStep durable o (session old) call said (session new) × Hears (told old) (told new) (before call ∷ after (reply_said said) ∷ [])) where
+  -- The desk has answered calls with the replies of these exchanges, and those that may be written
+  -- are over durable journals.
   pub record HasRun (old new : S) (exchanges : List Exchange) : Type 0 where
     pub answered : HasAnswered o (told old) (told new) (session old) (session new)
+    pub held : AreHeld durable answered.answers
     pub gives : Runs GivesFirst answered.answers exchanges []
 
   -- A desk that didn't change before it answered has answered all of the exchanges.
@@ -53,6 +56,7 @@ module _ {S : Type 0} (step : S → Call → ReplyValue → S → Type 0) (o : J
       → ((answers : List Answer) → AnswersRequest GivesFirst answers x.request x.reply answers) → HasRun between new xs → HasRun old new (x ∷ xs)
   run_on old between new x xs is same run = subst (λ (s : S). HasRun s new (x ∷ xs)) is (record {
     answered = run.answered;
+    held = run.held;
     gives = (run.answered.answers, same run.answered.answers, run.gives);
   })
 
@@ -60,6 +64,7 @@ module _ {S : Type 0} (step : S → Call → ReplyValue → S → Type 0) (o : J
   pub has_run : (old new : S) (xs : List Exchange) → Runs step old xs new → HasRun old new xs
   has_run old new [] run = record {
     answered = record { answers = []; heard = subst (λ (s : S). Hears (told old) (told s) []) (sym run) (hears_nothing (told old)); gives = ap session run };
+    held = All-nil (λ (a : Answer). a.opened ≡ true → IsDurable durable a.seen);
     gives = refl;
   }
   has_run old new (x ∷ xs) run = by run.1 (has_run run.0 new xs run.2)
@@ -69,56 +74,73 @@ module _ {S : Type 0} (step : S → Call → ReplyValue → S → Type 0) (o : J
       by (inr (inl a)) rest = run_on old run.0 new x xs a.1 (λ answers. inr (inl (a.0, refl, a.2))) rest
       by (inr (inr a)) rest =
           let one = steps old run.0 a.0 x.reply a.2 in
+          let seen = (session run.0).journal in
+          let first : Answer = record { call = a.0; reply = reply_said x.reply; opened = is_open x.reply; seen = seen } in
           record {
             answered = record {
-              answers = record { call = a.0; reply = x.reply } ∷ rest.answered.answers;
+              answers = first ∷ rest.answered.answers;
               heard = hears_then (told old) (told run.0) (told new) _ _ one.1 rest.answered.heard;
-              gives = (session run.0, one.0, rest.answered.gives);
+              gives = (session run.0, one.0.step, refl, rest.answered.gives);
             };
-            gives = (rest.answered.answers, inr (inr (a.0, a.1, refl)), rest.gives);
+            held = All-cons (λ (b : Answer). b.opened ≡ true → IsDurable durable b.seen) first rest.answered.answers one.0.held rest.held;
+            gives = (rest.answered.answers, inr (inr (a.0, a.1, seen, refl)), rest.gives);
           }
 
   -- After a conversation over the desk, the session has answered calls, and the text is of their
   -- replies.
-  pub conversed : (old new : S) (text : List ℕ) → HasTalked step old new text → HasConversed o (told old) (told new) (session old) (session new) text
+  pub conversed : (old new : S) (text : List ℕ) → HasSpoken step old new text
+      → HasConversed durable o (told old) (told new) (session old) (session new) text
   conversed old new text t = by t.end t.talk
     where
       by : (end : Result Ended ServeFault)
-          → MatchResult end (λ ended. Converses step old new t.bytes text ended) (λ fault. BreaksOff step old new t.bytes text fault 0 t.reads)
-          → HasConversed o (told old) (told new) (session old) (session new) text
+          → MatchResult end (λ ended. Talks step old new t.bytes text ended) (λ fault. Breaks step old new t.bytes text fault 0 t.reads)
+          → HasConversed durable o (told old) (told new) (session old) (session new) text
       by (Ok ended) c = let run = has_run old new c.course.exchanges c.takes.run in record {
         answered = run.answered;
         replied = record {
-          bytes = t.bytes;
-          reads = t.reads;
-          came = t.came;
-          end = Ok ended;
-          talk = record { course = c.course; takes = record { has = c.takes.has; run = run.gives }; stop = c.stop; text_is = c.text_is };
+          held = run.held;
+          talked = record {
+            bytes = t.bytes;
+            reads = t.reads;
+            came = t.came;
+            end = Ok ended;
+            talk = record {
+              course = c.course;
+              takes = record { has = c.takes.has; run = run.gives };
+              opened = c.opened;
+              stop = c.stop;
+              text_is = c.text_is;
+            };
+          };
         };
       }
       by (Err fault) b = let run = has_run old new b.course.exchanges b.takes.run in record {
         answered = run.answered;
         replied = record {
-          bytes = t.bytes;
-          reads = t.reads;
-          came = t.came;
-          end = Err fault;
-          talk = record {
-            course = b.course;
-            lost = b.lost;
-            takes = record { has = b.takes.has; run = run.gives };
-            text_is = b.text_is;
-            comes_at = b.comes_at;
+          held = run.held;
+          talked = record {
+            bytes = t.bytes;
+            reads = t.reads;
+            came = t.came;
+            end = Err fault;
+            talk = record {
+              course = b.course;
+              lost = b.lost;
+              takes = record { has = b.takes.has; run = run.gives };
+              opened = b.opened;
+              text_is = b.text_is;
+              comes_at = b.comes_at;
+            };
           };
         };
       }
 
 -- Appending a connection, and the text written to it, gives connections and their texts.
-replied_then : (connections : List (List Answer)) (texts : List (List ℕ)) (answers : List Answer) (text : List ℕ) → AreReplied connections texts
-    → IsReplied answers text → AreReplied (connections ++ answers ∷ []) (texts ++ text ∷ [])
-replied_then [] texts answers text p q = subst (λ (l : List (List ℕ)). AreReplied (answers ∷ []) (l ++ text ∷ [])) (sym p) (q, refl)
-replied_then (a ∷ connections) [] answers text p q = absurd p
-replied_then (a ∷ connections) (t ∷ texts) answers text p q = (p.0, replied_then connections texts answers text p.1 q)
+replied_then : (durable : ℕ → Type 0) (connections : List (List Answer)) (texts : List (List ℕ)) (answers : List Answer) (text : List ℕ)
+    → AreReplied durable connections texts → IsReplied durable answers text → AreReplied durable (connections ++ answers ∷ []) (texts ++ text ∷ [])
+replied_then durable [] texts answers text p q = subst (λ (l : List (List ℕ)). AreReplied durable (answers ∷ []) (l ++ text ∷ [])) (sym p) (q, refl)
+replied_then durable (a ∷ connections) [] answers text p q = absurd p
+replied_then durable (a ∷ connections) (t ∷ texts) answers text p q = (p.0, replied_then durable connections texts answers text p.1 q)
 
 -- If the gate admits one more connection, and calls are answered on it, the session has worked on
 -- it.
@@ -145,21 +167,21 @@ worked_on o t u v w a b c p admitted q = record {
         ∙ sym (append-nil (flat_map heard_of_connection (p.connections ++ q.answers ∷ [])))
 
 -- If the gate admits one more connection, the text written to it is of the replies on it.
-pub replied_on : (o : Journal) (t u v w : Option (List Event)) (a b c : SessionView) (from mid to : List (List ℕ)) (text : List ℕ)
-    → HasReplied o t u a b [] from mid → Hears u v (asked true ∷ []) → HasConversed o v w b c text → to ≡ mid ++ text ∷ []
-    → HasReplied o t w a c [] from to
+pub replied_on : (durable : ℕ → Type 0) (o : Journal) (t u v w : Option (List Event)) (a b c : SessionView) (from mid to : List (List ℕ)) (text : List ℕ)
+    → HasReplied durable o t u a b [] from mid → Hears u v (asked true ∷ []) → HasConversed durable o v w b c text → to ≡ mid ++ text ∷ []
+    → HasReplied durable o t w a c [] from to
 unfolding worked_on
-replied_on o t u v w a b c from mid to text p admitted q is = record {
+replied_on durable o t u v w a b c from mid to text p admitted q is = record {
   worked = worked_on o t u v w a b c p.worked admitted q.answered;
   texts = p.texts ++ text ∷ [];
   written = is ∙ ap (λ (l : List (List ℕ)). l ++ text ∷ []) p.written ∙ append_assoc from p.texts (text ∷ []);
-  replied = replied_then p.worked.connections p.texts q.answered.answers text p.replied q.replied;
+  replied = replied_then durable p.worked.connections p.texts q.answered.answers text p.replied q.replied;
 }
 
 -- When the gate admits no more connections, the work ends.
-pub replied_all : (o : Journal) (t u v : Option (List Event)) (a b : SessionView) (from to : List (List ℕ))
-    → HasReplied o t u a b [] from to → Hears u v (asked false ∷ []) → HasReplied o t v a b (asked false ∷ []) from to
-replied_all o t u v a b from to p closed = record {
+pub replied_all : (durable : ℕ → Type 0) (o : Journal) (t u v : Option (List Event)) (a b : SessionView) (from to : List (List ℕ))
+    → HasReplied durable o t u a b [] from to → Hears u v (asked false ∷ []) → HasReplied durable o t v a b (asked false ∷ []) from to
+replied_all durable o t u v a b from to p closed = record {
   worked = record {
     connections = p.worked.connections;
     heard = heard_as t v _ _ (append_assoc (flat_map heard_of_connection p.worked.connections) [] (asked false ∷ []))
@@ -172,8 +194,8 @@ replied_all o t u v a b from to p closed = record {
 }
 
 -- A session that did nothing has worked on no connections.
-pub replied_nothing : (o : Journal) (t : Option (List Event)) (s : SessionView) (written : List (List ℕ)) → HasReplied o t t s s [] written written
-replied_nothing o t s written = record {
+pub replied_nothing : (durable : ℕ → Type 0) (o : Journal) (t : Option (List Event)) (s : SessionView) (written : List (List ℕ)) → HasReplied durable o t t s s [] written written
+replied_nothing durable o t s written = record {
   worked = record { connections = []; heard = hears_nothing t; gives = refl };
   texts = [];
   written = sym (append-nil written);
@@ -181,9 +203,9 @@ replied_nothing o t s written = record {
 }
 
 -- If nothing was written before, all that was written is the text of the session's connections.
-pub replied_since : (o : Journal) (t u : Option (List Event)) (a b : SessionView) (end : List Event) (from to texts : List (List ℕ)) → from ≡ []
-    → texts ≡ to → HasReplied o t u a b end from to → HasReplied o t u a b end [] texts
-replied_since o t u a b end from to texts none is p = record {
+pub replied_since : (durable : ℕ → Type 0) (o : Journal) (t u : Option (List Event)) (a b : SessionView) (end : List Event) (from to texts : List (List ℕ)) → from ≡ []
+    → texts ≡ to → HasReplied durable o t u a b end from to → HasReplied durable o t u a b end [] texts
+replied_since durable o t u a b end from to texts none is p = record {
   worked = p.worked;
   texts = p.texts;
   written = is ∙ p.written ∙ ap (λ (l : List (List ℕ)). l ++ p.texts) none;

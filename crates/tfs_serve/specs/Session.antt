@@ -1,5 +1,5 @@
 -- The step of a desk over a session.
-use Rattle.std.specs.Prelude.{◌≡◌, ◌≤◌, ◌<◌, ◌+◌, ◌⊎◌, ℕ}
+use Rattle.std.specs.Prelude.{◌≡◌, ◌≤◌, ◌<◌, ◌+◌, ◌⊎◌, ℕ, [], true}
 use Rattle.tfs_records.specs.Journal.{Journal, position_of}
 use Rattle.tfs_calls.specs.declared.call.Call.{Call}
 use Rattle.tfs_calls.specs.declared.call.Call.TheVariants.{Read, Change, Impact}
@@ -7,11 +7,13 @@ use Rattle.tfs_calls.specs.Refusal.{no_copy, out_of_memory}
 use Rattle.tfs_calls.specs.Reply.{ReplyValue, done, state, impact, refused}
 use Rattle.tfs_calls.specs.Transition.{TableModel, Answers}
 use Rattle.tfs_conversation.specs.Desk.{CallMayLackMemory}
+use Rattle.tfs_conversation.specs.Conversation.{Said, replied, withheld, is_open}
 use Rattle.tfs_table.specs.Lawful.{IsLawful}
 use Rattle.tfs_published.specs.Beginning.{BeginsWith}
 use Rattle.tfs_shared.specs.Locked.{HasNoCopy}
 use Rattle.tfs_shared.specs.Signed.{IsSigned, makers_told}
-use Rattle.tfs_shared.specs.View.{SessionView, CountsStop, missed}
+use Rattle.tfs_serve.specs.Hold.{IsDurable}
+use Rattle.tfs_shared.specs.View.{SessionView, CountsNothing, CountsStop, missed}
 
 -- The number of changes that a reply reports as accepted: 1 or 0.
 abbrev pub accepted_by : ReplyValue → ℕ
@@ -54,6 +56,28 @@ pub record KeepsCount (opening : Journal) (old : SessionView) (reply : ReplyValu
 -- over a journal with all that the session had seen, or `NoCopy`.
 abbrev pub SessionStep : Journal → SessionView → Call → ReplyValue → SessionView → Type 0
 SessionStep opening old call reply new = KeepsCount opening old reply new × (LacksCopy opening old call reply new ⊎ AnswersOver old call reply new)
+
+-- A session catches up with a journal that others' replies have reported: it has seen more, and
+-- nothing else changes.
+pub record CatchesUp (opening : Journal) (old new : SessionView) : Type 0 where
+  pub seen : BeginsWith new.journal old.journal
+  pub signed : IsSigned opening old new []
+  pub counted : CountsNothing old new
+
+-- A session may catch up first, and then makes a step.
+abbrev pub CaughtUpStep : Journal → SessionView → Call → ReplyValue → SessionView → Type 0
+CaughtUpStep opening old call reply new = (caught : SessionView) × CatchesUp opening old caught × SessionStep opening caught call reply new
+
+-- The reply that is said, whether it may be written or not.
+abbrev pub reply_said : Said → ReplyValue
+reply_said (replied reply) = reply
+reply_said (withheld reply) = reply
+
+-- One step of a desk that holds its replies back: the session answers, and if the reply may be
+-- written, the journal that the session has seen then is durable.
+pub record HeldStep (durable : ℕ → Type 0) (opening : Journal) (old : SessionView) (call : Call) (said : Said) (new : SessionView) : Type 0 where
+  pub step : CaughtUpStep opening old call (reply_said said) new
+  pub held : is_open said ≡ true → IsDurable durable new.journal
 
 -- A session has advanced: it has seen all that it had seen before, and maybe more.
 pub record IsLater (old new : SessionView) : Type 0 where

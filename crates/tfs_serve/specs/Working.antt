@@ -1,18 +1,22 @@
 -- The work of a worker: it asks its gate for connections, and answers the calls on each connection
 -- that the gate admits.
-use Rattle.std.specs.Prelude.{◌≡◌, ℕ, Bool, true, false, List, [], ◌∷◌, ◌++◌, flat_map, Option, if◌then◌else◌}
+use Rattle.std.specs.Prelude.{◌≡◌, ℕ, All, Bool, true, false, List, [], ◌∷◌, ◌++◌, flat_map, Option, if◌then◌else◌}
 use Rattle.tfs_calls.specs.declared.call.Call.{Call}
 use Rattle.tfs_calls.specs.Reply.{ReplyValue}
-use Rattle.tfs_conversation.specs.Conversation.{HasTalked}
+use Rattle.tfs_conversation.specs.Conversation.{HasSpoken, Said, is_open}
 use Rattle.tfs_records.specs.Journal.{Journal}
 use Rattle.tfs_shared.specs.View.{SessionView}
 use Rattle.tfs_serve.specs.Gate.{Event, asked, before, after, Hears}
-use Rattle.tfs_serve.specs.Session.{SessionStep}
+use Rattle.tfs_serve.specs.Hold.{IsDurable}
+use Rattle.tfs_serve.specs.Session.{CaughtUpStep, reply_said}
 
--- A call and its reply.
+-- A call and its reply, whether the reply may be written to the connection, and the journal that
+-- the session has seen then.
 pub record Answer : Type 0 where
   pub call : Call
   pub reply : ReplyValue
+  pub opened : Bool
+  pub seen : Journal
 
 -- The events of an answer.
 abbrev pub heard_of : Answer → List Event
@@ -22,11 +26,12 @@ heard_of a = before a.call ∷ after a.reply ∷ []
 abbrev pub heard_of_connection : List Answer → List Event
 heard_of_connection answers = asked true ∷ flat_map heard_of answers
 
--- A session of a table with an opening journal gives these answers in order, each by a step, and
--- changes in no other way.
+-- A session of a table with an opening journal gives these answers in order, each by a step before
+-- which it may catch up, and changes in no other way.
 abbrev pub Gives : Journal → SessionView → List Answer → SessionView → Type 0
 Gives opening old [] new = new ≡ old
-Gives opening old (a ∷ more) new = (between : SessionView) × SessionStep opening old a.call a.reply between × Gives opening between more new
+Gives opening old (a ∷ more) new = (between : SessionView) × CaughtUpStep opening old a.call a.reply between
+    × (a.seen ≡ between.journal) × Gives opening between more new
 
 -- A session gives these answers on one connection after another.
 abbrev pub GivesOn : Journal → SessionView → List (List Answer) → SessionView → Type 0
@@ -49,35 +54,44 @@ pub record HasWorked (opening : Journal) (told now : Option (List Event)) (old n
 
 -- The step of a desk that gives exactly these answers in order: it gives the first, and the others
 -- are left.
-abbrev pub GivesFirst : List Answer → Call → ReplyValue → List Answer → Type 0
-GivesFirst answers call reply left = answers ≡ record { call = call; reply = reply } ∷ left
+abbrev pub GivesFirst : List Answer → Call → Said → List Answer → Type 0
+GivesFirst answers call said left = (seen : Journal)
+    × (answers ≡ record { call = call; reply = reply_said said; opened = is_open said; seen = seen } ∷ left)
+
+-- Each answer whose reply may be written is over a journal whose bytes are durable.
+abbrev pub AreHeld : (ℕ → Type 0) → List Answer → Type 0
+AreHeld durable = All (λ a. a.opened ≡ true → IsDurable durable a.seen)
 
 -- The text was written to a connection by a conversation in which the desk gave exactly these
 -- answers: for each message in order, the reply of the next answer, or a refusal made without the
--- desk. After a fault, the end of the text may be missing.
-abbrev pub IsReplied : List Answer → List ℕ → Type 0
-IsReplied answers text = HasTalked GivesFirst answers [] text
+-- desk. Nothing of a withheld reply is written. After a fault, the end of the text may be missing.
+-- What may be written is durable.
+pub record IsReplied (durable : ℕ → Type 0) (answers : List Answer) (text : List ℕ) : Type 0 where
+  pub held : AreHeld durable answers
+  pub talked : HasSpoken GivesFirst answers [] text
 
 -- The texts were written to the connections by conversations with these answers: one text for each
 -- connection, in order.
-abbrev pub AreReplied : List (List Answer) → List (List ℕ) → Type 0
-AreReplied [] texts = texts ≡ []
-AreReplied (answers ∷ connections) [] = ⊥
-AreReplied (answers ∷ connections) (text ∷ texts) = IsReplied answers text × AreReplied connections texts
+abbrev pub AreReplied : (ℕ → Type 0) → List (List Answer) → List (List ℕ) → Type 0
+AreReplied durable [] texts = texts ≡ []
+AreReplied durable (answers ∷ connections) [] = ⊥
+AreReplied durable (answers ∷ connections) (text ∷ texts) = IsReplied durable answers text × AreReplied durable connections texts
 
 -- A session has answered calls on a connection, and the text written to it is from a conversation
 -- with these answers.
-pub record HasConversed (opening : Journal) (told now : Option (List Event)) (old new : SessionView) (text : List ℕ) : Type 0 where
-  pub answered : HasAnswered opening told now old new
-  pub replied : IsReplied answered.answers text
+pub record HasConversed (durable : ℕ → Type 0) (opening : Journal) (told now : Option (List Event)) (old new : SessionView) (text : List ℕ) : Type 0
+  where
+    pub answered : HasAnswered opening told now old new
+    pub replied : IsReplied durable answered.answers text
 
 -- A session has worked. The texts written to its connections are from conversations with its
 -- answers, and follow the texts written before.
-pub record HasReplied (opening : Journal) (told now : Option (List Event)) (old new : SessionView) (end : List Event) (from to : List (List ℕ)) : Type 0 where
+pub record HasReplied (durable : ℕ → Type 0) (opening : Journal) (told now : Option (List Event)) (old new : SessionView) (end : List Event)
+    (from to : List (List ℕ)) : Type 0 where
   pub worked : HasWorked opening told now old new end
   pub texts : List (List ℕ)
   pub written : to ≡ from ++ texts
-  pub replied : AreReplied worked.connections texts
+  pub replied : AreReplied durable worked.connections texts
 
 -- The last event of a worker's gate: it was asked for a connection and said no, unless the listener
 -- failed.

@@ -8,6 +8,7 @@ ghost use Rattle.tfs_serve.specs.Serving.{IsRun, served_view};
 ghost use Rattle.tfs_serve.specs.Working.{HasReplied, end_of_work};
 
 use crate::gate::Gate;
+use crate::hold::Hold;
 use crate::leaving::{gather_table, split_members};
 use crate::member::{Member, work_until};
 use crate::run::{Run, Served};
@@ -64,9 +65,10 @@ pub(crate) fn attend<
     K: Sink + Send + Drop,
     G: Gate + Send + Drop,
     R: Threads + Wait + Clock + Sync,
+    H: Hold + Sync,
     S: Connection + Send + Drop,
 >(
-    runtime: &Runtime<'_, R>,
+    runtime: &Runtime<'_, R, H>,
     shared: Shared<J, K>,
     crew: Crew<J, G>,
     listener: L,
@@ -76,7 +78,7 @@ pub(crate) fn attend<
     requires empty { (crew.room.members.items ≡ []) × (crew.room.sessions.items ≡ []) × (crew.room.served.items ≡ []) }
     requires room { (length crew.gates.items ≤ vec_capacity crew.room.members) × (length crew.gates.items ≤ vec_capacity crew.room.sessions)
         × (length crew.gates.items ≤ vec_capacity crew.room.served) }
-    ensures run { IfOk result (λ run. IsRun J.opening run.table.journal crew.stopped run.table.stopped (map G.told crew.gates.items) (map (served_view G.told) run.served.items)) }
+    ensures run { IfOk result (λ run. IsRun H.durable J.opening run.table.journal crew.stopped run.table.stopped (map G.told crew.gates.items) (map (served_view G.told) run.served.items)) }
     ensures kept { IfErr result (λ table. BeginsWith table.journal J.opening) }
 {
     let Crew {
@@ -140,8 +142,9 @@ fn run_members<
     K: Sink + Send,
     G: Gate + Send + Drop,
     R: Threads + Wait + Clock + Sync,
+    H: Hold + Sync,
 >(
-    runtime: &Runtime<'_, R>,
+    runtime: &Runtime<'_, R, H>,
     listener: &L,
     members: Vec<Member<J, G>>,
     shared: &Shared<J, K>,
@@ -149,7 +152,7 @@ fn run_members<
     ensures len { length result.items ≡ length members.items }
     ensures caused { (i : ℕ) (d : _) → i < length members.items → IsCaused (slice_index_or result.items i d).fault }
     ensures worked { (i : ℕ) (d : _) → i < length members.items
-        → HasReplied J.opening (G.told (slice_index_or members.items i d).gate) (G.told (slice_index_or result.items i d).gate)
+        → HasReplied H.durable J.opening (G.told (slice_index_or members.items i d).gate) (G.told (slice_index_or result.items i d).gate)
         (slice_index_or members.items i d).session (slice_index_or result.items i d).session
         (end_of_work (is_some (slice_index_or result.items i d).fault)) [] (slice_index_or result.items i d).written.value.texts }
 {

@@ -20,7 +20,7 @@ pub trait Gate {
     fn before(&mut self, call: &Call)
         ensures heard { Hears (told self.old) (told self.new) (before call.now ∷ []) };
 
-    /// Hears of a reply after the call is answered and before the reply is written.
+    /// Hears of a reply after the call is answered and before the reply is written or withheld.
     fn after(&mut self, reply: &Reply)
         ensures heard { Hears (told self.old) (told self.new) (after (reply_value reply.now) ∷ []) };
 }

@@ -4,6 +4,8 @@
 mod crew;
 mod gate;
 mod gated;
+mod held_desk;
+mod hold;
 mod laws;
 mod leaving;
 mod member;
@@ -15,6 +17,7 @@ mod worker;
 
 pub use gate::{Gate, Open};
 pub use gated::Gated;
+pub use hold::{Hold, NoHold};
 pub use laws::{accepted_changes_stand_in_the_last_journal, all_replies_follow_one_journal};
 pub use run::{Obstacle, Run, Served, Unserved, first_fault, serve, serve_until};
 pub use runtime::Runtime;

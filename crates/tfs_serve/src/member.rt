@@ -5,6 +5,8 @@ ghost use Rattle.tfs_serve.specs.Faults.{IsCaused};
 ghost use Rattle.tfs_serve.specs.Working.{HasReplied, end_of_work};
 
 use crate::gate::Gate;
+use crate::held_desk::Post;
+use crate::hold::Hold;
 use crate::runtime::Runtime;
 use crate::serving::work_over;
 use crate::session_desk::Service;
@@ -30,17 +32,17 @@ pub(crate) struct Member<J: Naming, G: Gate> {
 
 impl<J: Naming, G: Gate> Member<J, G> {
     /// Works until the gate admits no further connection, or the listener fails.
-    fn run<L: OpenListener<Stream = AnyStream>, K: Sink, R: Wait + Clock>(
+    fn run<L: OpenListener<Stream = AnyStream>, K: Sink, R: Wait + Clock, H: Hold>(
         &mut self,
-        service: &Service<'_, J, K, R>,
+        post: &Post<'_, '_, J, K, R, H>,
         listener: &L,
     )
         ensures caused { IsCaused self.new.fault }
-        ensures worked { HasReplied J.opening (G.told self.old.gate) (G.told self.new.gate) self.old.session self.new.session
+        ensures worked { HasReplied H.durable J.opening (G.told self.old.gate) (G.told self.new.gate) self.old.session self.new.session
             (end_of_work (is_some self.new.fault)) [] self.new.written.value.texts }
     {
         let mut reception = Reception::new(listener);
-        match work_over(service, &mut reception, &mut self.gate, &mut self.session) {
+        match work_over(post, &mut reception, &mut self.gate, &mut self.session) {
             Ok(()) => self.fault = None,
             Err(fault) => self.fault = Some(fault),
         }
@@ -56,14 +58,15 @@ pub(crate) fn work_until<
     K: Sink + Send,
     G: Gate + Send,
     R: Threads + Wait + Clock + Sync,
->(runtime: &Runtime<'_, R>, listener: &L, members: &mut [Member<J, G>], shared: &Shared<J, K>)
+    H: Hold + Sync,
+>(runtime: &Runtime<'_, R, H>, listener: &L, members: &mut [Member<J, G>], shared: &Shared<J, K>)
     ensures caused { (i : ℕ) (d : _) → i < length members.old → IsCaused (slice_index_or members.new i d).fault }
     ensures worked { (i : ℕ) (d : _) → i < length members.old
-        → HasReplied J.opening (G.told (slice_index_or members.old i d).gate) (G.told (slice_index_or members.new i d).gate)
+        → HasReplied H.durable J.opening (G.told (slice_index_or members.old i d).gate) (G.told (slice_index_or members.new i d).gate)
         (slice_index_or members.old i d).session (slice_index_or members.new i d).session
         (end_of_work (is_some (slice_index_or members.new i d).fault)) [] (slice_index_or members.new i d).written.value.texts }
 {
-    let (rt, alloc) = (runtime.rt, runtime.alloc);
+    let (rt, alloc, hold) = (runtime.rt, runtime.alloc, runtime.hold);
     let (ended, muted) = (runtime.ended, runtime.muted);
     let even = Mutex::new(());
     let odd = Mutex::new(());
@@ -74,7 +77,7 @@ pub(crate) fn work_until<
         16,
         &|number: usize, member: &mut Member<J, G>|
             ensures caused { IsCaused member.exit.now.fault }
-            ensures worked { HasReplied J.opening (G.told member.entry.now.gate) (G.told member.exit.now.gate) member.entry.now.session
+            ensures worked { HasReplied H.durable J.opening (G.told member.entry.now.gate) (G.told member.exit.now.gate) member.entry.now.session
                 member.exit.now.session (end_of_work (is_some member.exit.now.fault)) [] member.exit.now.written.value.texts }
         {
             let turn = if number % 2 == 0 { &even } else { &odd };
@@ -87,7 +90,11 @@ pub(crate) fn work_until<
                 muted,
                 load: &load,
             };
-            member.run(&service, listener)
+            let post = Post {
+                service: &service,
+                hold,
+            };
+            member.run(&post, listener)
         },
     );
 }

@@ -11,6 +11,7 @@ ghost use Rattle.tfs_serve.specs.declared.run.Obstacle.TheVariants.{NoCopy};
 
 use crate::crew::{Crew, Room, attend};
 use crate::gate::Gate;
+use crate::hold::{Hold, NoHold};
 use crate::leaving::take_back;
 use crate::runtime::Runtime;
 use std::alloc::Global;
@@ -127,7 +128,7 @@ pub fn serve<
 ) -> Result<Run<K, G, L>, Unserved<K, E>>
     requires number { (1 ≤ length gates.items) × (length gates.items ≤ 16) }
     requires callable { F.IsAlwaysCallable listen }
-    ensures run { IfOk result (λ run. IsRun table.journal run.table.journal table.stopped run.table.stopped (map G.told gates.items) (map (served_view G.told) run.served.items)) }
+    ensures run { IfOk result (λ run. IsRun ⟦<NoHold as Hold>⟧.durable table.journal run.table.journal table.stopped run.table.stopped (map G.told gates.items) (map (served_view G.told) run.served.items)) }
     ensures kept { IfErr result (λ unserved. BeginsWith unserved.table.journal table.journal) }
     ensures back { IfErr result (λ unserved. unserved.why ≢ NoCopy → unserved.table.journal ≡ table.journal) }
 {
@@ -135,6 +136,7 @@ pub fn serve<
     let runtime = Runtime {
         rt,
         alloc,
+        hold: &NoHold,
         ended: &never,
         muted: &never,
     };
@@ -142,6 +144,8 @@ pub fn serve<
 }
 
 /// Serves as [`serve`] does, over a listener of any transport; conversations can be asked to end.
+/// Before a byte of a reply is written, the bytes of the journal that the reply was answered over
+/// are durable, as the hold says.
 pub fn serve_until<
     L: OpenListener<Stream = S> + Sync + Drop,
     K: Sink + Send + Drop,
@@ -149,16 +153,17 @@ pub fn serve_until<
     E,
     F: FnOnce() -> Result<L, E> + Drop,
     R: Threads + Wait + Clock + Sync,
+    H: Hold + Sync,
     S: Connection + Send + Drop,
 >(
-    runtime: &Runtime<'_, R>,
+    runtime: &Runtime<'_, R, H>,
     table: Table<K>,
     gates: Vec<G>,
     listen: F,
 ) -> Result<Run<K, G, L>, Unserved<K, E>>
     requires number { (1 ≤ length gates.items) × (length gates.items ≤ 16) }
     requires callable { F.IsAlwaysCallable listen }
-    ensures run { IfOk result (λ run. IsRun table.journal run.table.journal table.stopped run.table.stopped (map G.told gates.items) (map (served_view G.told) run.served.items)) }
+    ensures run { IfOk result (λ run. IsRun H.durable table.journal run.table.journal table.stopped run.table.stopped (map G.told gates.items) (map (served_view G.told) run.served.items)) }
     ensures kept { IfErr result (λ unserved. BeginsWith unserved.table.journal table.journal) }
     ensures back { IfErr result (λ unserved. unserved.why ≢ NoCopy → unserved.table.journal ≡ table.journal) }
 {
@@ -166,7 +171,7 @@ pub fn serve_until<
     let opened = Opened::new();
     let asked = Asked { gates, listen };
     let blanks = Blanks { blank, opened };
-    serve_named::<Brand, L, K, G, E, F, R, S>(runtime, table, asked, blanks)
+    serve_named::<Brand, L, K, G, E, F, R, H, S>(runtime, table, asked, blanks)
 }
 
 /// Runs over the history and the ledger that `J` names.
@@ -178,9 +183,10 @@ fn serve_named<
     E,
     F: FnOnce() -> Result<L, E> + Drop,
     R: Threads + Wait + Clock + Sync,
+    H: Hold + Sync,
     S: Connection + Send + Drop,
 >(
-    runtime: &Runtime<'_, R>,
+    runtime: &Runtime<'_, R, H>,
     table: Table<K>,
     asked: Asked<G, F>,
     blanks: Blanks,
@@ -189,7 +195,7 @@ fn serve_named<
     requires callable { F.IsAlwaysCallable asked.listen }
     requires named { (length asked.gates.items ≡ J.sessions) × (J.parts ≡ J.sessions) × (blanks.blank.name ≡ J.name)
         × (blanks.blank.parts ≡ J.parts) × (blanks.opened ≡ J.book) × (table.journal ≡ J.opening) }
-    ensures run { IfOk result (λ run. IsRun J.opening run.table.journal table.stopped run.table.stopped (map G.told asked.gates.items) (map (served_view G.told) run.served.items)) }
+    ensures run { IfOk result (λ run. IsRun H.durable J.opening run.table.journal table.stopped run.table.stopped (map G.told asked.gates.items) (map (served_view G.told) run.served.items)) }
     ensures kept { IfErr result (λ unserved. BeginsWith unserved.table.journal J.opening) }
     ensures back { IfErr result (λ unserved. unserved.why ≢ NoCopy → unserved.table.journal ≡ J.opening) }
 {
@@ -215,9 +221,10 @@ fn serve_shared<
     E,
     F: FnOnce() -> Result<L, E> + Drop,
     R: Threads + Wait + Clock + Sync,
+    H: Hold + Sync,
     S: Connection + Send + Drop,
 >(
-    runtime: &Runtime<'_, R>,
+    runtime: &Runtime<'_, R, H>,
     shared: Shared<J, K>,
     sessions: Vec<Session<J>>,
     asked: Asked<G, F>,
@@ -226,7 +233,7 @@ fn serve_shared<
     requires number { (1 ≤ length asked.gates.items) × (length asked.gates.items ≡ J.sessions) }
     requires callable { F.IsAlwaysCallable asked.listen }
     requires new { AreNew J.opening stopped J.sessions sessions.items }
-    ensures run { IfOk result (λ run. IsRun J.opening run.table.journal stopped run.table.stopped (map G.told asked.gates.items) (map (served_view G.told) run.served.items)) }
+    ensures run { IfOk result (λ run. IsRun H.durable J.opening run.table.journal stopped run.table.stopped (map G.told asked.gates.items) (map (served_view G.told) run.served.items)) }
     ensures kept { IfErr result (λ unserved. BeginsWith unserved.table.journal J.opening) }
     ensures back { IfErr result (λ unserved. unserved.why ≢ NoCopy → unserved.table.journal ≡ J.opening) }
 {

@@ -1,10 +1,11 @@
 //! The environment of workers.
 
+use crate::hold::Hold;
 use std::alloc::Global;
 use std::sync::atomic::AtomicBool;
 
-/// The runtime, the allocator, and two flags: `ended` asks conversations to end, and `muted`
-/// forbids all writes.
+/// The runtime, the allocator, the hold of the replies, and two flags: `ended` asks conversations
+/// to end, and `muted` forbids all writes.
 ///
 /// Once `ended` is set, a conversation ends between two requests: immediately after a reply, or
 /// when no byte of a request has come. A request or a reply in progress has 5 seconds left. A
@@ -14,9 +15,10 @@ use std::sync::atomic::AtomicBool;
 /// Once `muted` is set, each write to a connection that begins later fails, so that no client gets
 /// any more bytes.
 #[derive(Drop)]
-pub struct Runtime<'r, R> {
+pub struct Runtime<'r, R, H: Hold> {
     pub rt: &'r R,
     pub alloc: Global,
+    pub hold: &'r H,
     pub ended: &'r AtomicBool,
     pub muted: &'r AtomicBool,
 }

@@ -8,8 +8,9 @@ ghost use Rattle.tfs_serve.specs.Session.{IsLater};
 ghost use Rattle.tfs_serve.specs.Working.{HasConversed, HasReplied, HasWorked};
 
 use crate::gate::Gate;
-use crate::gated::Gated;
-use crate::session_desk::{LentDesk, Service};
+use crate::held_desk::{HeldDesk, Post};
+use crate::hold::{Hold, NoHold};
+use crate::session_desk::Service;
 use json::Scratch;
 use std::net::{OpenListener, TcpStream};
 use std::sync::Wait;
@@ -39,11 +40,16 @@ pub fn work<L: OpenListener<Stream = TcpStream>, J: Naming, K: Sink, G: Gate, R:
     ensures broken { OnErr result (HasWorked J.opening (G.told gate.old) (G.told gate.new) session.old session.new []) }
 {
     let mut reception = Reception::new(listener);
-    work_over(service, &mut reception, gate, session)
+    let post = Post {
+        service,
+        hold: &NoHold,
+    };
+    work_over(&post, &mut reception, gate, session)
 }
 
 /// Works as [`work`] does, over a listener of any transport. What is written to each connection are
-/// the replies to the messages that came on it; if the connection fails, the end may be missing.
+/// the replies to the messages that came on it, each only if the hold covers the journal that it
+/// was answered over; if the connection fails, the end may be missing.
 #[tactic(auto, using(crate::proofs::Later::later_itself, crate::proofs::Later::later_then, crate::proofs::Working::replied_nothing))]
 pub(crate) fn work_over<
     L: OpenListener<Stream = S>,
@@ -51,9 +57,10 @@ pub(crate) fn work_over<
     K: Sink,
     G: Gate,
     R: Wait + Clock,
+    H: Hold,
     S: Connection + Drop,
 >(
-    service: &Service<'_, J, K, R>,
+    post: &Post<'_, '_, J, K, R, H>,
     reception: &mut Reception<'_, L>,
     gate: &mut G,
     session: &mut Session<J>,
@@ -62,17 +69,17 @@ pub(crate) fn work_over<
     ensures ends { IfErr result (λ fault. IsFinal (error_of fault)) }
     ensures admitted { OnErr result (IsAdmitted (G.told gate.new)) }
     ensures later { IsLater session.old session.new }
-    ensures worked { OnOk result (HasReplied J.opening (G.told gate.old) (G.told gate.new) session.old session.new (asked false ∷ [])
+    ensures worked { OnOk result (HasReplied H.durable J.opening (G.told gate.old) (G.told gate.new) session.old session.new (asked false ∷ [])
         (written_at reception.old) (written_at reception.new)) }
-    ensures broken { OnErr result (HasReplied J.opening (G.told gate.old) (G.told gate.new) session.old session.new []
+    ensures broken { OnErr result (HasReplied H.durable J.opening (G.told gate.old) (G.told gate.new) session.old session.new []
         (written_at reception.old) (written_at reception.new)) }
 {
-    let mut scratch = Scratch::new(service.alloc);
-    for _ in service.rt.forever() {
+    let mut scratch = Scratch::new(post.service.alloc);
+    for _ in post.service.rt.forever() {
         if !gate.admit() {
             return Ok(());
         }
-        if let Err(fault) = converse_next(service, reception, gate, session, &mut scratch) {
+        if let Err(fault) = converse_next(post, reception, gate, session, &mut scratch) {
             return Err(fault);
         }
     }
@@ -87,9 +94,10 @@ fn converse_next<
     K: Sink,
     G: Gate,
     R: Wait + Clock,
+    H: Hold,
     S: Connection + Drop,
 >(
-    service: &Service<'_, J, K, R>,
+    post: &Post<'_, '_, J, K, R, H>,
     reception: &mut Reception<'_, L>,
     gate: &mut G,
     session: &mut Session<J>,
@@ -99,14 +107,15 @@ fn converse_next<
     ensures kept { OnErr result (G.told gate.new ≡ G.told gate.old) }
     ensures later { IsLater session.old session.new }
     ensures conversed { (text : List ℕ) × (written_at reception.new ≡ written_at reception.old ++ text ∷ [])
-        × HasConversed J.opening (G.told gate.old) (G.told gate.new) session.old session.new text }
+        × HasConversed H.durable J.opening (G.told gate.old) (G.told gate.new) session.old session.new text }
 {
-    let desk = LentDesk {
-        service,
+    let mut desk = HeldDesk {
+        post,
         session,
+        gate,
         scratch,
     };
-    converse_over(&service.setting(), reception, &mut Gated { desk, gate })
+    converse_over(&post.service.setting(), reception, &mut desk)
 }
 
 /// Holds a conversation over the desk on the next connection. The desk keeps its borrowed session
@@ -117,19 +126,19 @@ fn converse_over<
     K: Sink,
     G: Gate,
     R: Wait + Clock,
+    H: Hold,
     S: Connection + Drop,
 >(
     setting: &Setting<'_, R>,
     reception: &mut Reception<'_, L>,
-    desk: &mut Gated<'_, LentDesk<'_, '_, '_, J, K, R>, G>,
+    desk: &mut HeldDesk<'_, '_, '_, J, K, G, R, H>,
 ) -> Result<(), AcceptFault>
     ensures ends { IfErr result (λ fault. IsFinal (error_of fault)) }
     ensures kept { OnErr result (G.told desk.new.gate.now ≡ G.told desk.old.gate.now) }
-    ensures loan { desk.new.desk.session.ghost_name ≡ desk.old.desk.session.ghost_name }
-    ensures gate { desk.new.gate.ghost_name ≡ desk.old.gate.ghost_name }
-    ensures later { IsLater desk.old.desk.session.now desk.new.desk.session.now }
+    ensures loan { (desk.new.session.ghost_name ≡ desk.old.session.ghost_name) × (desk.new.gate.ghost_name ≡ desk.old.gate.ghost_name) }
+    ensures later { IsLater desk.old.session.now desk.new.session.now }
     ensures conversed { (text : List ℕ) × (written_at reception.new ≡ written_at reception.old ++ text ∷ [])
-        × HasConversed J.opening (G.told desk.old.gate.now) (G.told desk.new.gate.now) desk.old.desk.session.now desk.new.desk.session.now text }
+        × HasConversed H.durable J.opening (G.told desk.old.gate.now) (G.told desk.new.gate.now) desk.old.session.now desk.new.session.now text }
 {
     reception.converse(setting, desk)
 }

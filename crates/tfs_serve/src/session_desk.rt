@@ -77,45 +77,26 @@ impl<'v, 's, 'm, J: Naming, K: Sink, R: Wait> Desk for SessionDesk<'v, 's, 'm, J
 
     fn answer(&mut self, call: Call) -> Reply {
         let mut scratch = Scratch::new(self.service.alloc);
-        reply_to(self.service, self.session, &mut scratch, call)
+        reply_to(self.service, self.session, &mut scratch, call, u64::MAX)
     }
 }
 
-/// The same desk with borrowed memory for reading states, which is reused by all changes.
-#[derive(Drop)]
-pub(crate) struct LentDesk<'v, 's, 'm, J: Naming, K: Sink, R: Wait> {
-    pub(crate) service: &'v Service<'s, J, K, R>,
-    pub(crate) session: &'m mut Session<J>,
-    pub(crate) scratch: &'m mut Scratch,
-}
-
-impl<'v, 's, 'm, J: Naming, K: Sink, R: Wait> Desk for LentDesk<'v, 's, 'm, J, K, R> {
-    ghost use Rattle.std.specs.Prelude.{◌≡◌};
-    ghost use Rattle.tfs_serve.specs.Session.{SessionStep};
-
-    // The session stays the borrowed one, and answers.
-    ghost step = { λ old call reply new. (new.session.ghost_name ≡ old.session.ghost_name)
-        × SessionStep J.opening old.session.now call reply new.session.now };
-
-    fn answer(&mut self, call: Call) -> Reply {
-        reply_to(self.service, self.session, self.scratch, call)
-    }
-}
-
-/// Answers a call. A state of at most 1 MiB is read with the memory of `scratch`.
-fn reply_to<J: Naming, K: Sink, R: Wait>(
+/// Answers a call. A state of at most 1 MiB is read with the memory of `scratch`. Reads and queries
+/// prefer a journal of which at most `synced` bytes have to be durable.
+pub(crate) fn reply_to<J: Naming, K: Sink, R: Wait>(
     service: &Service<'_, J, K, R>,
     session: &mut Session<J>,
     scratch: &mut Scratch,
     call: Call,
+    synced: u64,
 ) -> Reply
     requires { CarriesFittingState call }
     ensures { SessionStep J.opening session.old call (reply_value result) session.new }
 {
     match call {
-        Call::Read(name) => read(service, session, &name),
+        Call::Read(name) => read(service, session, &name, synced),
         Call::Change(name, raw) => change(service, session, name, raw, scratch),
-        Call::Impact(name, query) => ask(service.shared, session, &name, &query),
+        Call::Impact(name, query) => ask(service.shared, session, &name, &query, synced),
     }
 }
 
@@ -124,10 +105,11 @@ fn read<J: Naming, K: Sink, R: Wait>(
     service: &Service<'_, J, K, R>,
     session: &mut Session<J>,
     name: &Name,
+    synced: u64,
 ) -> Reply
     ensures { SessionStep J.opening session.old (CallRead name.now) (reply_value result) session.new }
 {
-    match state_of(service, session, name) {
+    match state_of(service, session, name, synced) {
         Ok(doc) => Reply::State(doc),
         Err(refusal) => Reply::Refused(refusal),
     }
@@ -138,6 +120,7 @@ fn state_of<J: Naming, K: Sink, R: Wait>(
     service: &Service<'_, J, K, R>,
     session: &mut Session<J>,
     name: &Name,
+    synced: u64,
 ) -> Result<Arc<Doc>, Refusal>
     ensures answered { MatchResult result
         (λ doc. AnswersRead name.now session.old session.new (state (arc_value doc)))
@@ -146,7 +129,7 @@ fn state_of<J: Naming, K: Sink, R: Wait>(
     ensures signed { IsSigned J.opening session.old session.new [] }
     ensures counted { CountsNothing session.old session.new }
 {
-    match session.published_state(name) {
+    match session.published_state_within(name, synced) {
         Some(Ok(doc)) => Ok(doc),
         Some(Err(refusal)) => Err(refusal),
         None => session.state(service.rt, service.shared, name),
@@ -159,12 +142,13 @@ fn ask<J: Naming, K: Sink>(
     session: &mut Session<J>,
     name: &Name,
     query: &Query,
+    synced: u64,
 ) -> Reply
     ensures { SessionStep J.opening session.old (Impact name.now query.now) (reply_value result) session.new }
 {
     // No answer of the model is `OutOfMemory`.
     answers_of_the_model_are_undisturbed();
-    match session.impact(shared, name, query) {
+    match session.impact_within(shared, name, query, synced) {
         Ok(answer) => Reply::Impact(answer),
         Err(refusal) => Reply::Refused(refusal),
     }

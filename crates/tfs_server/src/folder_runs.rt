@@ -4,9 +4,9 @@ ghost use Rattle.std.specs.Prelude.{◌≡◌, ◌<◌, length, IfOk};
 
 use crate::fault::{CompactionFault, fault_of, fault_of_opening};
 use crate::gate::Watching;
+use crate::hold::SyncHold;
 use crate::listening::Listening;
 use crate::notice::{Compaction, Notice};
-use crate::pending::Pending;
 use crate::placing::{journal_of, length_of, name_new, remove, sink_of};
 use crate::serve::Plan;
 use crate::watch::Watch;
@@ -74,6 +74,8 @@ impl<'t, 'w, R: AllocGlobal + Wait + Sync> Runs for FolderRuns<'t, 'w, R> {
 
     type Listener = Listening<'t, 'w>;
 
+    type Hold = SyncHold<'t, 'w, R>;
+
     type Fault = CompactionFault;
 
     ghost placed = { λ t. t.placed.value.journal };
@@ -86,6 +88,17 @@ impl<'t, 'w, R: AllocGlobal + Wait + Sync> Runs for FolderRuns<'t, 'w, R> {
     ) -> Result<Vec<Watching<'t, 'w, R>>, CompactionFault> {
         match gates_of(self, table.sink().durable()) {
             Ok(gates) => Ok(gates),
+            Err(_) => Err(CompactionFault::NoMemory),
+        }
+    }
+
+    fn hold(&self, table: &Table<JournalSink>) -> Result<SyncHold<'t, 'w, R>, CompactionFault> {
+        match table.sink().durable().clone() {
+            Ok(durable) => Ok(SyncHold {
+                rt: self.rt,
+                watch: self.watch,
+                durable,
+            }),
             Err(_) => Err(CompactionFault::NoMemory),
         }
     }
@@ -189,10 +202,9 @@ fn gates_of<'t, 'w, R: AllocGlobal + Wait>(
 {
     let alloc = folder_runs.rt.alloc();
     let number = folder_runs.plan.workers;
-    let pending = Arc::new(alloc, Pending::new(alloc, number)?)?;
     let mut gates = Vec::with_capacity(alloc, number)?;
-    for made in 0..number {
-        gates.push(gate_of(folder_runs, durable.clone()?, &pending, made)?)?;
+    for _made in 0..number {
+        gates.push(gate_of(folder_runs, durable.clone()?)?)?;
     }
     Ok(gates)
 }
@@ -201,8 +213,6 @@ fn gates_of<'t, 'w, R: AllocGlobal + Wait>(
 fn gate_of<'t, 'w, R: AllocGlobal + Wait>(
     folder_runs: &FolderRuns<'t, 'w, R>,
     durable: Arc<Durable<FileDevice>>,
-    pending: &Arc<Pending>,
-    worker: usize,
 ) -> Result<Watching<'t, 'w, R>, AllocError> {
     Ok(Watching {
         rt: folder_runs.rt,
@@ -211,8 +221,5 @@ fn gate_of<'t, 'w, R: AllocGlobal + Wait>(
         journal: folder_runs.journal.clone()?,
         least: folder_runs.least,
         serves_reads: folder_runs.plan.serves_reads,
-        pending: pending.clone()?,
-        worker,
-        read: None,
     })
 }

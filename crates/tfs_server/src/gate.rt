@@ -1,8 +1,7 @@
-//! The gates of a server's workers. They hold a reply back until what it reports is durable, raise
+//! The gates of a server's workers. They compare the folder before a change is acknowledged, raise
 //! the position in the file of the least position, end a run whose journal has grown by its bound,
-//! and end a server that can't write or sync its journal.
+//! and end a server that can't write its journal.
 
-use crate::pending::{Pending, number_of};
 use crate::watch::Watch;
 use std::sync::{Arc, Mutex, MutexGuard, Wait};
 use tfs_durable::{Durable, FileDevice};
@@ -10,18 +9,15 @@ use tfs_files::{PositionFile, ServedJournal};
 use tfs_serve::Gate;
 use tfs_table::{Call, Refusal, Reply};
 
-/// A gate that admits every connection until conversations are to end.
+/// A gate that admits every connection until conversations are to end. It does nothing more once
+/// nothing is to be written to any client.
 ///
-/// Before a reply is written, everything written to the journal so far is synced; once a sync has
-/// failed, nothing more is written to any client. The exception is a read of a state: it reports
-/// about one name, and waits only while a worker changes that name, because the change before is
-/// durable once its worker is done.
+/// It hears of a reply once the journal of the reply is durable. Before an accepted change is
+/// acknowledged, the folder, its journal and its lock file are compared with the opened ones; one
+/// comparison may serve all changes of a sync.
 ///
-/// Before an accepted change is acknowledged, the folder, its journal and its lock file are
-/// compared with the opened ones; one comparison may serve all changes of a sync.
-///
-/// The gate raises the least position with each accepted change, after the change is durable and
-/// without a sync. If the file can't be written, its position lags.
+/// The gate raises the least position with each accepted change, without a sync. If the file can't
+/// be written, its position lags.
 #[derive(Drop)]
 pub(crate) struct Watching<'g, 'w, R: AllocGlobal + Wait> {
     pub(crate) rt: &'g R,
@@ -30,10 +26,6 @@ pub(crate) struct Watching<'g, 'w, R: AllocGlobal + Wait> {
     pub(crate) journal: Arc<ServedJournal>,
     pub(crate) least: &'g Mutex<Option<PositionFile>>,
     pub(crate) serves_reads: bool,
-    pub(crate) pending: Arc<Pending>,
-    pub(crate) worker: usize,
-    /// The number of the name that the current call reads, if it reads a state.
-    pub(crate) read: Option<u64>,
 }
 
 impl<'g, 'w, R: AllocGlobal + Wait> Watching<'g, 'w, R> {
@@ -44,15 +36,6 @@ impl<'g, 'w, R: AllocGlobal + Wait> Watching<'g, 'w, R> {
             let _ = file.raise(self.rt.alloc(), position);
         }
         MutexGuard::unlock(guard);
-    }
-
-    /// Returns how many bytes must be durable before the reply: all written ones, or none for a
-    /// read of a name that nobody is changing.
-    fn due(&self) -> u64 {
-        match self.read {
-            Some(number) if !self.pending.has(number) => 0,
-            _ => self.durable.written(),
-        }
     }
 }
 
@@ -66,29 +49,20 @@ impl<'g, 'w, R: AllocGlobal + Wait> Gate for Watching<'g, 'w, R> {
         !self.watch.is_ended()
     }
 
-    fn before(&mut self, call: &Call) {
-        self.read = None;
-        match call {
-            Call::Read(name) => self.read = Some(number_of(name.text())),
-            Call::Change(name, _) => self.pending.begin(self.worker, number_of(name.text())),
-            Call::Impact(_, _) => {}
-        }
-    }
+    fn before(&mut self, _call: &Call) {}
 
     fn after(&mut self, reply: &Reply) {
-        let count = self.due();
-        if self.durable.cover(self.rt, count).is_err() {
-            self.watch.mute();
+        if self.watch.is_muted() {
             return;
         }
-        self.pending.end(self.worker);
         match reply {
             Reply::Done(position) => {
-                if !self.watch.holds_after(&self.journal, count) {
+                let synced = self.durable.synced();
+                if !self.watch.holds_after(&self.journal, synced) {
                     return;
                 }
                 self.raise(*position);
-                self.watch.grow(*position, count);
+                self.watch.grow(*position, synced);
             }
             Reply::Refused(Refusal::JournalFault | Refusal::JournalStopped) => {
                 self.watch.stop(self.serves_reads);

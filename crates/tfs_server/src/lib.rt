@@ -4,6 +4,7 @@
 mod fault;
 mod folder_runs;
 mod gate;
+mod hold;
 mod listening;
 mod moments;
 mod notice;

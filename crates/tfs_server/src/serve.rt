@@ -1,6 +1,7 @@
 //! Serving a folder in runs, with a compaction between two of them.
 
 ghost use Rattle.std.specs.Prelude.{◌≡◌, ◌≤◌};
+ghost use Rattle.tfs_durable.specs.Counts.{Covers};
 ghost use Rattle.tfs_table.specs.Table.{model_of};
 ghost use Rattle.tfs_runs.specs.Runs.{EndsOn, HoldsAll};
 
@@ -13,6 +14,7 @@ use std::snapshot::Snapshot;
 use std::sync::{Arc, Mutex, Wait};
 use std::thread::Threads;
 use std::time::Clock;
+use tfs_durable::{Device, FileDevice};
 use tfs_files::{
     CommandFault, DurableJournal, FolderLock, JournalSink, PositionFile, Retention, ServedJournal,
 };
@@ -67,7 +69,9 @@ pub struct Left {
     pub reported: Tally,
 }
 
-/// Serves a folder in runs, with a compaction between two of them, until an error ends it.
+/// Serves a folder in runs, with a compaction between two of them, until an error ends it. In each
+/// run that returned, before a byte of a reply was written, the file was synced after the bytes of
+/// the journal that the reply was answered over were written.
 pub fn serve_folder<R: AllocGlobal + Threads + Wait + Clock + Sync>(
     rt: &R,
     host: &HostRuntime,
@@ -75,7 +79,7 @@ pub fn serve_folder<R: AllocGlobal + Threads + Wait + Clock + Sync>(
     plan: &Plan<'_>,
     begun: StartedFolder<'_>,
 ) -> Left
-    ensures ends { EndsOn (model_of begun.entry.table) result.table.journal 0 result.reported.count }
+    ensures ends { EndsOn (Covers ⟦<FileDevice as Device>⟧.synced) (model_of begun.entry.table) result.table.journal 0 result.reported.count }
     ensures holds { HoldsAll begun.entry.table.journal result.table.journal 0 result.reported.count }
 {
     let StartedFolder {

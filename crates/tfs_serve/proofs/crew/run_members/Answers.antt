@@ -14,8 +14,8 @@ returns-clause-worked g c i d inside =
     let same : slice_index_or (take c.args.members.len (new ++ drop (length new) items)) i d ≡ slice_index_or new i d =
     ap (λ n. slice_index_or (take n (new ++ drop (length new) items)) i d) long
     ∙ ap (λ l. slice_index_or l i d) (take-append_seam new (drop (length new) items)) in
-    subst (λ m. HasReplied g.J.Naming.opening (told (slice_index_or items i d).gate) (told m.gate) (slice_index_or items i d).session m.session
+    subst (λ m. HasReplied g.H.Hold.durable g.J.Naming.opening (told (slice_index_or items i d).gate) (told m.gate) (slice_index_or items i d).session m.session
     (end_of_work (is_some m.fault)) [] m.written.value.texts) (sym same)
-    (subst (λ l. HasReplied g.J.Naming.opening (told (slice_index_or l i d).gate) (told (slice_index_or new i d).gate) (slice_index_or l i d).session
+    (subst (λ l. HasReplied g.H.Hold.durable g.J.Naming.opening (told (slice_index_or l i d).gate) (told (slice_index_or new i d).gate) (slice_index_or l i d).session
     (slice_index_or new i d).session (end_of_work (is_some (slice_index_or new i d).fault)) [] (slice_index_or new i d).written.value.texts) is
     (c.work_until.ensures.worked i d (subst (λ l. i < length l) (sym is) inside)))

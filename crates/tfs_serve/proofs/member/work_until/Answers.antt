@@ -11,7 +11,7 @@ use Rattle.std.proofs.alloc.Global.TheSendSync as global
 use Rattle.tfs_shared.proofs.Crossing.{shared_sync}
 use Rattle.tfs_serve.specs.Faults.{IsCaused}
 use Rattle.tfs_serve.specs.Working.{HasReplied, end_of_work}
-use Rattle.tfs_serve.proofs.Captures.{nine_sync}
+use Rattle.tfs_serve.proofs.Captures.{ten_sync}
 use Rattle.tfs_serve.proofs.Sent.{member_send}
 use Rattle.tfs_connections.proofs.load.Load.TheSendSync as load
 use Rattle.tfs_serve.proofs.member.work_until.Goals as goal
@@ -20,9 +20,10 @@ pub for_each_mut-requires-sync-F : goal.for_each_mut-requires-sync-F
 for_each_mut-requires-sync-F g c κs within =
     let table = shared_sync (param 1 g.row.J) (param 2 g.row.K) g.J.Naming g.J.Ledger g.K.Sink c.type_bounds.send-K in
     let turn = mutex.the_sync unit (search sendable) in
-    param_sync 2 _ (arg_sync _ no _ (nine_sync _ _ _ _ _ _ _ _ _ _
+    param_sync 2 _ (arg_sync _ no _ (ten_sync _ _ _ _ _ _ _ _ _ _ _
     (shr_sync _ _ _ turn) (shr_sync _ _ _ turn) (shr_sync _ _ _ c.type_bounds.sync-R) (shr_sync _ _ _ global.the_sync) (shr_sync _ _ _ table)
-    (shr_sync _ _ _ atomic.the_sync) (shr_sync _ _ _ atomic.the_sync) (shr_sync _ _ _ load.the_sync) (shr_sync _ _ _ c.type_bounds.sync-L)))
+    (shr_sync _ _ _ atomic.the_sync) (shr_sync _ _ _ atomic.the_sync) (shr_sync _ _ _ load.the_sync) (shr_sync _ _ _ c.type_bounds.sync-H)
+    (shr_sync _ _ _ c.type_bounds.sync-L)))
 
 pub returns : goal.returns
 returns g c = record {
@@ -33,9 +34,9 @@ returns g c = record {
       let at = (c.for_each_mut.ensures i d inside).1 in
       let told = g.G.Gate.told in
       let new = slice_index_or c.for_each_mut.new.s i d in
-      subst (λ m. HasReplied g.J.Naming.opening (told m.gate) (told new.gate) m.session new.session (end_of_work (is_some new.fault)) [] new.written.value.texts)
+      subst (λ m. HasReplied g.H.Hold.durable g.J.Naming.opening (told m.gate) (told new.gate) m.session new.session (end_of_work (is_some new.fault)) [] new.written.value.texts)
       at.argument_is
-      (subst (λ m. HasReplied g.J.Naming.opening (told at.argument.now.gate) (told m.gate) at.argument.now.session m.session (end_of_work (is_some m.fault))
+      (subst (λ m. HasReplied g.H.Hold.durable g.J.Naming.opening (told at.argument.now.gate) (told m.gate) at.argument.now.session m.session (end_of_work (is_some m.fault))
       [] m.written.value.texts) at.left at.call.1);
 }
 

@@ -9,17 +9,17 @@ loop-preserved g c = (
   tt,
   tt,
   later_then _ _ _ c.loop.invariant.2 c.converse_next.ensures.later,
-  replied_on _ _ _ _ _ _ _ _ _ _ _ _ c.loop.invariant.3 c.if-not-admit.ensures.heard c.converse_next.ensures.conversed.2
+  replied_on _ _ _ _ _ _ _ _ _ _ _ _ _ c.loop.invariant.3 c.if-not-admit.ensures.heard c.converse_next.ensures.conversed.2
       c.converse_next.ensures.conversed.1,
 )
 
 pub loop-init : goal.loop-init
-loop-init g c = (tt, tt, later_itself _, replied_nothing g.J.Naming.opening (g.G.Gate.told c.args.gate.now) c.args.session.now _)
+loop-init g c = (tt, tt, later_itself _, replied_nothing g.H.Hold.durable g.J.Naming.opening (g.G.Gate.told c.args.gate.now) c.args.session.now _)
 
 pub returns-then-not-admit-clause-worked : goal.returns-then-not-admit-clause-worked
-returns-then-not-admit-clause-worked g c = replied_all _ _ _ _ _ _ _ _ c.loop.invariant.3 c.if-not-admit.ensures.heard
+returns-then-not-admit-clause-worked g c = replied_all _ _ _ _ _ _ _ _ _ c.loop.invariant.3 c.if-not-admit.ensures.heard
 
 pub returns-in-Err-clause-broken : goal.returns-in-Err-clause-broken
 returns-in-Err-clause-broken g c =
-    replied_on _ _ _ _ _ _ _ _ _ _ _ _ c.loop.invariant.3 c.if-not-admit.ensures.heard c.converse_next.ensures.conversed.2
+    replied_on _ _ _ _ _ _ _ _ _ _ _ _ _ c.loop.invariant.3 c.if-not-admit.ensures.heard c.converse_next.ensures.conversed.2
     c.converse_next.ensures.conversed.1

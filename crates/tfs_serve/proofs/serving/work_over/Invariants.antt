@@ -8,5 +8,5 @@ use Rattle.tfs_serve.proofs.serving.work_over.Given as goal
 abbrev pub invariant-loop : goal.invariant-loop
 invariant-loop g l =
     (goal.iterator-loop g).can_next l.iterator' × (goal.iterator-loop g).is_finite l.iterator' × IsLater l.fn.session l.session
-    × HasReplied g.J.Naming.opening (g.G.Gate.told l.fn.gate) (g.G.Gate.told l.gate) l.fn.session l.session [] (written_at l.fn.reception)
+    × HasReplied g.H.Hold.durable g.J.Naming.opening (g.G.Gate.told l.fn.gate) (g.G.Gate.told l.gate) l.fn.session l.session [] (written_at l.fn.reception)
     (written_at l.reception)

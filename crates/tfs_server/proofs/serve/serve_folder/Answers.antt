@@ -1,5 +1,5 @@
 -- If the folder isn't read, there are no runs.
-use Rattle.std.proofs.Common.{refl, ap}
+use Rattle.std.proofs.Common.{ℕ, refl, ap}
 use Rattle.tfs_table.specs.Table.{model_of}
 use Rattle.tfs_published.proofs.Beginnings.{begins_with_itself}
 use Rattle.tfs_runs.proofs.Going.{goes_nowhere, ends_at, holds_all, same_begins}
@@ -10,8 +10,8 @@ returns-in_default g c =
     let first = model_of c.args.begun.table in
     let last = c.unread.result.table.journal in
     let begins = same_begins first.journal last first.journal first.journal (ap (λ t. t.journal) c.unread.ensures.table) refl
-    (begins_with_itself first.journal) in
-    let ends = ends_at first first last 0 0 _ (goes_nowhere first) begins c.unread.ensures.reported in record {
-      ends = ends;
-      holds = holds_all first last 0 _ ends;
+    (begins_with_itself first.journal) in record {
+      ends = ends_at _ first first last 0 0 _ (goes_nowhere _ first) begins c.unread.ensures.reported;
+      holds = holds_all (λ (n : ℕ). Unit {0}) first last 0 _
+          (ends_at _ first first last 0 0 _ (goes_nowhere _ first) begins c.unread.ensures.reported);
     }

@@ -11,10 +11,10 @@ returns-clause-worked g c =
     let old = c.args.self.now in
     let written = ap (λ w. w.texts) c.of.ensures ∙ c.into_written.ensures.texts in
     elim c.match-work_over.branch [
-      | in-Ok w ↦ subst (λ m. HasReplied g.J.Naming.opening (told old.gate) (told m.gate) old.session m.session (end_of_work (is_some m.fault)) []
+      | in-Ok w ↦ subst (λ m. HasReplied g.H.Hold.durable g.J.Naming.opening (told old.gate) (told m.gate) old.session m.session (end_of_work (is_some m.fault)) []
           c.of.result.value.texts) (sym w.self-is)
-          (replied_since _ _ _ _ _ _ _ _ _ c.new-reception.ensures.written written w.in-Ok.ensures.worked)
-      | in-Err w ↦ subst (λ m. HasReplied g.J.Naming.opening (told old.gate) (told m.gate) old.session m.session (end_of_work (is_some m.fault)) []
+          (replied_since _ _ _ _ _ _ _ _ _ _ c.new-reception.ensures.written written w.in-Ok.ensures.worked)
+      | in-Err w ↦ subst (λ m. HasReplied g.H.Hold.durable g.J.Naming.opening (told old.gate) (told m.gate) old.session m.session (end_of_work (is_some m.fault)) []
           c.of.result.value.texts) (sym w.self-is)
-          (replied_since _ _ _ _ _ _ _ _ _ c.new-reception.ensures.written written w.in-Err.ensures.broken)
+          (replied_since _ _ _ _ _ _ _ _ _ _ c.new-reception.ensures.written written w.in-Err.ensures.broken)
     ]

@@ -1,0 +1,151 @@
+//! The desk of a worker: it answers over a session, and holds replies back until they are durable.
+
+ghost use Rattle.std.specs.Prelude.{◌≡◌, ◌∷◌, [], true};
+ghost use Rattle.tfs_calls.specs.Draft.{CarriesFittingState};
+ghost use Rattle.tfs_calls.specs.Reply.{reply_value};
+ghost use Rattle.tfs_serve.specs.Gate.{before, after, Hears};
+ghost use Rattle.tfs_serve.specs.Hold.{IsDurable};
+ghost use Rattle.tfs_serve.specs.Session.{CatchesUp, CaughtUpStep};
+
+use crate::gate::Gate;
+use crate::hold::Hold;
+use crate::session_desk::{Service, reply_to};
+use json::Scratch;
+use std::sync::Wait;
+use tfs_calls::{Call, Reply};
+use tfs_conversation::{Outlet, OwedDesk, ReplyBuffer, ServeFault};
+use tfs_framing::Form;
+use tfs_records::Sink;
+use tfs_shared::{Naming, Session};
+
+/// What a worker answers with: what its session is served with, and the hold of its replies.
+#[derive(Drop)]
+pub(crate) struct Post<'p, 's, J: Naming, K: Sink, R: Wait, H: Hold> {
+    pub(crate) service: &'p Service<'s, J, K, R>,
+    pub(crate) hold: &'p H,
+}
+
+/// A desk that answers from a shared table through a borrowed session. Its borrowed gate hears of
+/// each call before the session is asked, and of the reply. States are read with borrowed memory,
+/// which is reused by all changes.
+#[derive(Drop)]
+pub(crate) struct HeldDesk<'p, 's, 'm, J: Naming, K: Sink, G: Gate, R: Wait, H: Hold> {
+    pub(crate) post: &'p Post<'p, 's, J, K, R, H>,
+    pub(crate) session: &'m mut Session<J>,
+    pub(crate) gate: &'m mut G,
+    pub(crate) scratch: &'m mut Scratch,
+}
+
+impl<'p, 's, 'm, J: Naming, K: Sink, G: Gate, R: Wait, H: Hold> HeldDesk<
+    'p,
+    's,
+    'm,
+    J,
+    K,
+    G,
+    R,
+    H,
+> {
+    /// Answers a call, and waits until the journal that the session has seen then is durable.
+    /// Returns the reply, and whether it may be written.
+    fn answer(&mut self, call: Call) -> (Reply, bool)
+        requires fitting { CarriesFittingState call }
+        ensures loans { (self.new.session.ghost_name ≡ self.old.session.ghost_name) × (self.new.gate.ghost_name ≡ self.old.gate.ghost_name) }
+        ensures step { CaughtUpStep J.opening self.old.session.now call (reply_value result.0) self.new.session.now }
+        ensures held { result.1 ≡ true → IsDurable H.durable self.new.session.now.journal }
+        ensures heard { Hears (G.told self.old.gate.now) (G.told self.new.gate.now) (before call ∷ after (reply_value result.0) ∷ []) }
+    {
+        let post = self.post;
+        let synced = post.hold.synced();
+        self.gate.before(&call);
+        let reply = caught_up_reply(post.service, self.session, self.scratch, call, synced);
+        let is_durable = covers(post, self.session, synced);
+        self.gate.after(&reply);
+        (reply, is_durable)
+    }
+}
+
+impl<'p, 's, 'm, J: Naming, K: Sink, G: Gate, R: Wait, H: Hold> OwedDesk
+    for HeldDesk<'p, 's, 'm, J, K, G, R, H> {
+    ghost use Rattle.std.specs.Prelude.{◌≡◌, ◌∷◌, []};
+    ghost use Rattle.tfs_serve.specs.Gate.{before, after, Hears};
+    ghost use Rattle.tfs_serve.specs.Session.{HeldStep, reply_said};
+
+    // The session and the gate stay the borrowed ones. The session answers, and the gate hears of
+    // the call and the reply.
+    ghost step = { λ old call said new. (new.session.ghost_name ≡ old.session.ghost_name) × (new.gate.ghost_name ≡ old.gate.ghost_name)
+        × HeldStep H.durable J.opening old.session.now call said new.session.now
+        × Hears (G.told old.gate.now) (G.told new.gate.now) (before call ∷ after (reply_said said) ∷ []) };
+
+    fn reply<W: Outlet>(
+        &mut self,
+        call: Call,
+        form: Form,
+        buffer: &mut ReplyBuffer,
+        writer: &mut W,
+    ) -> Result<(), ServeFault> {
+        let (reply, is_durable) = self.answer(call);
+        if !is_durable {
+            return Err(ServeFault::Write);
+        }
+        buffer.send(writer, &reply, form)
+    }
+}
+
+/// Answers a call after catching up.
+fn caught_up_reply<J: Naming, K: Sink, R: Wait>(
+    service: &Service<'_, J, K, R>,
+    session: &mut Session<J>,
+    scratch: &mut Scratch,
+    call: Call,
+    synced: u64,
+) -> Reply
+    requires { CarriesFittingState call }
+    ensures { CaughtUpStep J.opening session.old call (reply_value result) session.new }
+{
+    catch_up(service, session, &call, synced);
+    reply_to(service, session, scratch, call, synced)
+}
+
+/// Catches up with what other replies have reported, if replies are held back and the call isn't a
+/// change: a read or a query may be answered over less than the published journal.
+fn catch_up<J: Naming, K: Sink, R: Wait>(
+    service: &Service<'_, J, K, R>,
+    session: &mut Session<J>,
+    call: &Call,
+    synced: u64,
+)
+    ensures { CatchesUp J.opening session.old session.new }
+{
+    // Each change beyond the opening journal has a maker.
+    session.is_kept();
+    if synced < u64::MAX && !is_change(call) {
+        session.hear(service.rt, service.shared);
+    }
+}
+
+/// Returns true if the call is a change.
+fn is_change(call: &Call) -> bool {
+    match call {
+        Call::Change(_, _) => true,
+        Call::Read(_) | Call::Impact(_, _) => false,
+    }
+}
+
+/// Waits until the journal that the session has seen is durable, and lets the other sessions hear
+/// of it, since a reply is about to report it. Returns false if it can't become durable.
+fn covers<J: Naming, K: Sink, R: Wait, H: Hold>(
+    post: &Post<'_, '_, J, K, R, H>,
+    session: &Session<J>,
+    synced: u64,
+) -> bool
+    ensures { result ≡ true → IsDurable H.durable session.now.journal }
+{
+    if !post.hold.cover(session.mark()) {
+        return false;
+    }
+    if synced < u64::MAX {
+        session.tell(post.service.rt, post.service.shared);
+    }
+    true
+}
