@@ -8,7 +8,6 @@ mod hold;
 mod listening;
 mod moments;
 mod notice;
-mod pending;
 mod placing;
 mod serve;
 mod watch;
