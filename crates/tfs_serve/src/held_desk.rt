@@ -124,8 +124,8 @@ fn catch_up<J: Naming, K: Sink, R: Wait>(
     session.hear(service.rt, service.shared);
 }
 
-/// Returns true if a session has to catch up before it answers the call: if replies are held back, a
-/// read or a query may be answered over less than the published journal.
+/// Returns true if a session has to catch up before it answers the call: if replies are held back,
+/// a read or a query may be answered over less than the published journal.
 fn has_to_hear(call: &Call, synced: u64) -> bool {
     match call {
         Call::Change(_, _) => false,
