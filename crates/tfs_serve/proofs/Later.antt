@@ -1,5 +1,5 @@
 -- Lemmas: sessions advance.
-use Rattle.std.proofs.Common.{◌≡◌, ◌⊎◌, ℕ, arith, List, [], ◌∷◌, Option, Some, None, if◌then◌else◌, is_some}
+use Rattle.std.proofs.Common.{◌≡◌, ◌⊎◌, ◌+◌, ℕ, length, arith, List, [], ◌∷◌, Option, Some, None, if◌then◌else◌, is_some}
 use Rattle.std.proofs.Common.{refl, sym, ap, subst, inl, inr}
 use Rattle.std.specs.Option.{option_map_or}
 use Rattle.tfs_rules.specs.Act.{ActValue}
@@ -12,6 +12,7 @@ use Rattle.tfs_calls.specs.Reply.{ReplyValue}
 use Rattle.tfs_calls.specs.Transition.{TableModel, Answers, act_refusal, journal_after, journal_after_act}
 use Rattle.tfs_published.specs.Beginning.{BeginsWith}
 use Rattle.tfs_shared.specs.View.{SessionView}
+use Rattle.tfs_shared.proofs.Signing.{signs_nothing}
 use Rattle.tfs_published.proofs.Beginnings.{begins_with_itself, begins_with_earlier}
 use Rattle.tfs_calls.specs.Refusal.{no_copy}
 use Rattle.tfs_calls.specs.Reply.{refused}
@@ -92,3 +93,12 @@ pub caught_up_later : (opening : Journal) (old new : SessionView) (call : Call) 
 caught_up_later opening old new call reply step =
     let same = step.1.counted.accepted in
     later_then old step.0 new (record { seen = step.1.seen; accepted = omega (arith, same) }) (step_later opening step.0 new call reply step.2)
+
+-- A session that doesn't change has caught up.
+pub caught_up : (opening : Journal) (v : SessionView) → BeginsWith v.journal opening
+    → length v.journal.entries ≡ length opening.entries + length v.makers → CatchesUp opening v v
+caught_up opening v begins entries = record {
+  seen = begins_with_itself v.journal;
+  signed = signs_nothing opening v v refl begins entries;
+  counted = record { accepted = refl; faulted = refl; stopped = refl };
+}

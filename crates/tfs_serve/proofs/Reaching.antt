@@ -19,12 +19,12 @@ module _ {S : Type 0} (step : S → Call → Said → S → Type 0) (reaches : S
       between (inr (inr a)) = steps old run.0 a.0 x.reply a.2
 
   -- A conversation keeps the relation.
-  pub talk_reaches : (old new : S) (text : List ℕ) → HasSpoken step old new text → reaches old new
-  talk_reaches old new text talk = let run = talked_run step old new text talk in runs_reach old new run.0 run.1
+  pub talk_reaches : (old new : S) (bytes text : List ℕ) → HasSpoken step old new bytes text → reaches old new
+  talk_reaches old new bytes text talk = let run = talked_run step old new bytes text talk in runs_reach old new run.0 run.1
 
 -- What no step of a desk changes, a conversation doesn't change.
 pub talk_keeps : {S U : Type 0} (step : S → Call → Said → S → Type 0) (part : S → U)
     → ((old new : S) (call : Call) (said : Said) → step old call said new → part new ≡ part old)
-    → (old new : S) (text : List ℕ) → HasSpoken step old new text → part new ≡ part old
-talk_keeps step part keeps old new text talk =
-    let run = talked_run step old new text talk in runs_keep step part keeps old new run.0 run.1
+    → (old new : S) (bytes text : List ℕ) → HasSpoken step old new bytes text → part new ≡ part old
+talk_keeps step part keeps old new bytes text talk =
+    let run = talked_run step old new bytes text talk in runs_keep step part keeps old new run.0 run.1

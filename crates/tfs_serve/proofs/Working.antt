@@ -83,24 +83,24 @@ module _ {S : Type 0} (step : S → Call → Said → S → Type 0) (durable : �
               gives = (session run.0, one.0.step, refl, rest.answered.gives);
             };
             held = All-cons (λ (b : Answer). b.opened ≡ true → IsDurable durable b.seen) first rest.answered.answers one.0.held rest.held;
-            gives = (rest.answered.answers, inr (inr (a.0, a.1, seen, refl)), rest.gives);
+            gives = (rest.answered.answers, inr (inr (a.0, a.1, (seen, refl))), rest.gives);
           }
 
   -- After a conversation over the desk, the session has answered calls, and the text is of their
   -- replies.
-  pub conversed : (old new : S) (text : List ℕ) → HasSpoken step old new text
+  pub conversed : (old new : S) (bytes text : List ℕ) → HasSpoken step old new bytes text
       → HasConversed durable o (told old) (told new) (session old) (session new) text
-  conversed old new text t = by t.end t.talk
+  conversed old new bytes text t = by t.end t.talk
     where
       by : (end : Result Ended ServeFault)
-          → MatchResult end (λ ended. Talks step old new t.bytes text ended) (λ fault. Breaks step old new t.bytes text fault 0 t.reads)
+          → MatchResult end (λ ended. Talks step old new bytes text ended) (λ fault. Breaks step old new bytes text fault 0 t.reads)
           → HasConversed durable o (told old) (told new) (session old) (session new) text
       by (Ok ended) c = let run = has_run old new c.course.exchanges c.takes.run in record {
         answered = run.answered;
         replied = record {
           held = run.held;
+          bytes = bytes;
           talked = record {
-            bytes = t.bytes;
             reads = t.reads;
             came = t.came;
             end = Ok ended;
@@ -118,8 +118,8 @@ module _ {S : Type 0} (step : S → Call → Said → S → Type 0) (durable : �
         answered = run.answered;
         replied = record {
           held = run.held;
+          bytes = bytes;
           talked = record {
-            bytes = t.bytes;
             reads = t.reads;
             came = t.came;
             end = Err fault;

@@ -68,7 +68,8 @@ AreHeld durable = All (λ a. a.opened ≡ true → IsDurable durable a.seen)
 -- What may be written is durable.
 pub record IsReplied (durable : ℕ → Type 0) (answers : List Answer) (text : List ℕ) : Type 0 where
   pub held : AreHeld durable answers
-  pub talked : HasSpoken GivesFirst answers [] text
+  pub bytes : List ℕ
+  pub talked : HasSpoken GivesFirst answers [] bytes text
 
 -- The texts were written to the connections by conversations with these answers: one text for each
 -- connection, in order.

@@ -107,8 +107,7 @@ fn caught_up_reply<J: Naming, K: Sink, R: Wait>(
     reply_to(service, session, scratch, call, synced)
 }
 
-/// Catches up with what other replies have reported, if replies are held back and the call isn't a
-/// change: a read or a query may be answered over less than the published journal.
+/// Catches up with what other replies have reported, if the call has to.
 fn catch_up<J: Naming, K: Sink, R: Wait>(
     service: &Service<'_, J, K, R>,
     session: &mut Session<J>,
@@ -119,16 +118,18 @@ fn catch_up<J: Naming, K: Sink, R: Wait>(
 {
     // Each change beyond the opening journal has a maker.
     session.is_kept();
-    if synced < u64::MAX && !is_change(call) {
-        session.hear(service.rt, service.shared);
+    if !has_to_hear(call, synced) {
+        return;
     }
+    session.hear(service.rt, service.shared);
 }
 
-/// Returns true if the call is a change.
-fn is_change(call: &Call) -> bool {
+/// Returns true if a session has to catch up before it answers the call: if replies are held back,
+/// a read or a query may be answered over less than the published journal.
+fn has_to_hear(call: &Call, synced: u64) -> bool {
     match call {
-        Call::Change(_, _) => true,
-        Call::Read(_) | Call::Impact(_, _) => false,
+        Call::Change(_, _) => false,
+        Call::Read(_) | Call::Impact(_, _) => synced < u64::MAX,
     }
 }
 
@@ -144,8 +145,17 @@ fn covers<J: Naming, K: Sink, R: Wait, H: Hold>(
     if !post.hold.cover(session.mark()) {
         return false;
     }
-    if synced < u64::MAX {
-        session.tell(post.service.rt, post.service.shared);
-    }
+    tell_others(post.service, session, synced);
     true
+}
+
+/// Lets the other sessions hear of the journal that the session has seen, if replies are held back.
+fn tell_others<J: Naming, K: Sink, R: Wait>(
+    service: &Service<'_, J, K, R>,
+    session: &Session<J>,
+    synced: u64,
+) {
+    if synced < u64::MAX {
+        session.tell(service.rt, service.shared);
+    }
 }

@@ -140,5 +140,5 @@ fn converse_over<
     ensures conversed { (text : List ℕ) × (written_at reception.new ≡ written_at reception.old ++ text ∷ [])
         × HasConversed H.durable J.opening (G.told desk.old.gate.now) (G.told desk.new.gate.now) desk.old.session.now desk.new.session.now text }
 {
-    reception.converse(setting, desk)
+    reception.converse_owed(setting, desk)
 }

@@ -7,20 +7,20 @@ use Rattle.tfs_serve.proofs.serving.converse_over.Goals as goal
 
 pub returns-clause-loan : goal.returns-clause-loan
 returns-clause-loan g c = (
-  talk_keeps _ (λ d. d.session.ghost_name) (λ old new call said step. step.0) _ _ _ c.converse.ensures.talked.2,
-  talk_keeps _ (λ d. d.gate.ghost_name) (λ old new call said step. step.1) _ _ _ c.converse.ensures.talked.2,
+  talk_keeps _ (λ d. d.session.ghost_name) (λ old new call said step. step.0) _ _ _ _ c.converse_owed.ensures.talked.4,
+  talk_keeps _ (λ d. d.gate.ghost_name) (λ old new call said step. step.1) _ _ _ _ c.converse_owed.ensures.talked.4,
 )
 
 pub returns-clause-later : goal.returns-clause-later
 returns-clause-later g c = talk_reaches _ (λ a b. IsLater a.session.now b.session.now) (λ s. later_itself s.session.now)
     (λ a b d p q. later_then a.session.now b.session.now d.session.now p q)
-    (λ old new call said step. caught_up_later g.J.Naming.opening old.session.now new.session.now call (reply_said said) step.2.step) _ _ _
-    c.converse.ensures.talked.2
+    (λ old new call said step. caught_up_later g.J.Naming.opening old.session.now new.session.now call (reply_said said) step.2.step) _ _ _ _
+    c.converse_owed.ensures.talked.4
 
 pub returns-clause-conversed : goal.returns-clause-conversed
 returns-clause-conversed g c = (
-  c.converse.ensures.talked.0,
-  c.converse.ensures.talked.1,
+  c.converse_owed.ensures.talked.1,
+  c.converse_owed.ensures.talked.3,
   conversed _ g.H.Hold.durable g.J.Naming.opening (λ d. d.session.now) (λ d. g.G.Gate.told d.gate.now)
-      (λ old new call said step. (step.2, step.3)) _ _ _ c.converse.ensures.talked.2,
+      (λ old new call said step. (step.2, step.3)) _ _ _ _ c.converse_owed.ensures.talked.4,
 )
