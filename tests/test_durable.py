@@ -1,6 +1,7 @@
 """What both programs acknowledge is on the disk: with a power cut that leaves only what was synced
 (lazy_disk.c), with each sync failing once, and with slow syncs and writes."""
 import http.client
+import json
 import re
 import string
 import threading
@@ -237,9 +238,31 @@ def reading(name):
     return lambda connection, told: ask_over(connection, "GET", f"/state/{name}")
 
 
+def asking(name):
+    return lambda connection, told: ask_over(connection, "GET", f"/impact/{name}/any?of=t.a")
+
+
 def test_a_read_waits_only_while_its_name_is_changed():
     pushes, other, same = counted(slow(DELAY=50000), pushing("busy"), reading("still"), reading("busy"))
     expect(pushes <= 41 and other >= 4 * max(pushes, same) > 0, True, f"pushes {pushes}, reads {same}, of another name {other}")
+
+
+def test_a_query_waits_only_while_its_name_is_changed():
+    pushes, other, same = counted(slow(DELAY=50000), pushing("busy"), asking("still"), asking("busy"))
+    expect(pushes <= 41 and other >= 4 * max(pushes, same) > 0, True, f"pushes {pushes}, queries {same}, of another name {other}")
+
+
+# Both pushes of the start are acknowledged; each later one adds a position.
+def test_a_query_has_the_position_of_each_change_that_was_acknowledged_before_it():
+    positions = []
+
+    def asked(connection, told):
+        least = 1 + told.acknowledged["busy"]
+        status, body = asking("still")(connection, told)
+        positions.append((status, least, json.loads(body)["position"]))
+    pushes, queries = counted(slow(DELAY=20000), pushing("busy"), asked)
+    expect([found for found in positions if found[0] != 200 or found[2] < found[1]], [], f"pushes {pushes}, queries {queries}")
+    expect(pushes > 10 and queries > pushes, True, f"pushes {pushes}, queries {queries}")
 
 
 def test_a_read_waits_for_no_write_of_another_name():
