@@ -247,6 +247,9 @@ fn an_older_state_is_refused_and_not_seen(rt: HostRuntime) -> Result<(), Fail> {
 #[test]
 fn a_read_waits_for_no_change_of_another_name(rt: HostRuntime) -> Result<(), Fail> {
     let sink = MemorySink::new(rt.alloc(), 65_536, 1_000);
-    assert_eq!(rt; play_scene(&rt, table_of(&rt, sink, 1), 2, Scene::Within), 4);
+    assert_eq!(rt;
+        play_scene(&rt, table_of(&rt, sink, 1), 2, Scene::Within),
+        4
+    );
     Ok(())
 }
