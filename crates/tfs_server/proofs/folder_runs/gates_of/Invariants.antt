@@ -3,4 +3,4 @@ use Rattle.std.proofs.Common.{◌≡◌, length}
 use Rattle.tfs_server.proofs.folder_runs.gates_of.Given as goal
 
 abbrev pub invariant-loop-made : goal.invariant-loop-made
-invariant-loop-made g l = length l.gates.items ≡ l.made
+invariant-loop-made g l = length l.gates.items ≡ l._made
