@@ -1,8 +1,8 @@
-"""Counts instructions, which don't change with the load of a machine. A head's end is found in one
-pass however the head is cut. An order of rows costs little in comparison with their closure. A push
-makes its index and each digest once. A rebase reads a state and makes its index once. A journal in
-pieces is read once. A query finds an address without a look at each instance, and writes
-consecutive addresses from the list that the version keeps."""
+"""Counts instructions, which don't change with the load of a machine. The end of a head or a trailer
+is found in one pass however it is cut, and a head is parsed once. An order of rows costs little in
+comparison with their closure. A push makes its index and each digest once. A rebase reads a state
+and makes its index once. A journal in pieces is read once. A query finds an address without a look
+at each instance, and writes consecutive addresses from the list that the version keeps."""
 import base64
 import hashlib
 import os
@@ -47,6 +47,28 @@ def test_the_end_of_a_head_is_sought_in_one_pass_however_it_is_cut():
     cut = {**os.environ, "LD_PRELOAD": preloaded("short_reads.c")}
     few, some, many = (counted(long_head(fields), env=cut) for fields in (8, 16, 32))
     expect(many - some < 2.2 * (some - few), True, f"one byte a read: {few:,}, {some:,} and {many:,} instructions")
+
+
+def chunked(fields):
+    """Returns a request whose body is empty and chunked, with a trailer of this many fields of 100
+    bytes."""
+    head = "POST /state/a HTTP/1.1\r\nHost: h\r\nTransfer-Encoding: chunked\r\n\r\n0\r\n"
+    return (head + f"X: {'x' * 95}\r\n" * fields + "\r\n").encode()
+
+
+def test_the_end_of_a_trailer_is_sought_in_one_pass_however_it_is_cut():
+    cut = {**os.environ, "LD_PRELOAD": preloaded("short_reads.c")}
+    few, some, many = (counted(chunked(fields), env=cut) for fields in (16, 32, 64))
+    expect(many - some < 2.2 * (some - few), True, f"one byte a read: {few:,}, {some:,} and {many:,} instructions")
+
+
+def test_the_head_of_a_body_that_arrives_in_pieces_is_parsed_once():
+    cut = {**os.environ, "LD_PRELOAD": preloaded("short_reads.c")}
+    short, long = (
+        [counted(request_text("POST", "/state/a", b"x" * size, f"X: {'x' * 495}\r\n" * fields), env=cut) for size in (1_000, 3_000)]
+        for fields in (1, 32)
+    )
+    expect(long[1] - long[0] < 1.1 * (short[1] - short[0]), True, f"2,000 bytes more, one a read: {short} and {long} instructions")
 
 
 def relation(pairs):

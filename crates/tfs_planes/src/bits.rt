@@ -99,17 +99,18 @@ pub(crate) fn highest_bit(word: u64) -> usize
     63 - word.leading_zeros() as usize
 }
 
-/// Returns a number whose bit is set in `words` and not in `others`. The search starts at word
-/// `from`.
+/// Returns a number whose bit is set in `words` and not in `others`, in the words from `from` to
+/// before `to`.
 #[inline(always)]
-fn missing_singly(words: &[u64], others: &[u64], from: usize) -> Option<usize>
+fn missing_singly(words: &[u64], others: &[u64], from: usize, to: usize) -> Option<usize>
     requires lengths { length words.now ≤ length others.now }
     requires wide { length words.now ≤ 64 }
+    requires within { to ≤ length words.now }
     ensures below { IfSome result (λ number. number < 64 * length words.now) }
     ensures member { IfSome result (λ number. IsTrue (bit_at_word words.now number)) }
     ensures missing { IfSome result (λ number. bit_at_word others.now number ≡ false) }
 {
-    for at in from..words.len() {
+    for at in from..to {
         let missing = words[at] & !others[at];
         if missing != 0 {
             return Some(at * 64 + highest_bit(missing));
@@ -118,7 +119,8 @@ fn missing_singly(words: &[u64], others: &[u64], from: usize) -> Option<usize>
     None
 }
 
-/// Does the same as `missing_singly`, and compares a lane block per step.
+/// Returns a number whose bit is set in `words` and not in `others`. The search starts at word
+/// `from`. After the lane block of that word, it compares a lane block per step.
 #[inline(always)]
 pub(crate) fn missing(words: &[u64], others: &[u64], from: usize) -> Option<usize>
     requires lengths { length words.now ≤ length others.now }
@@ -127,9 +129,18 @@ pub(crate) fn missing(words: &[u64], others: &[u64], from: usize) -> Option<usiz
     ensures member { IfSome result (λ number. IsTrue (bit_at_word words.now number)) }
     ensures missing { IfSome result (λ number. bit_at_word others.now number ≡ false) }
 {
-    for block in from / LANES..words.len() / LANES {
-        if !covers_lanes(words, others, block * LANES) {
-            return missing_singly(words, others, from.max(block * LANES));
+    let next = from / LANES + 1;
+    let whole = words.len() / LANES;
+    if next > whole {
+        return missing_singly(words, others, from, words.len());
+    }
+    if let Some(number) = missing_singly(words, others, from, next * LANES) {
+        return Some(number);
+    }
+    for block in next..whole {
+        let at = block * LANES;
+        if !covers_lanes(words, others, at) {
+            return missing_singly(words, others, at, at + LANES);
         }
     }
     None
