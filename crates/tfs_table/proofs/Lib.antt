@@ -5,6 +5,7 @@ pub mod JudgeLemmas
 pub mod FirstUnlawfulLemmas
 pub mod TableLemmas
 pub mod RebaseLemmas
+pub mod CompactLemmas
 pub mod OpenLemmas
 pub mod NumberLemmas
 pub mod MarkLemmas

@@ -3,5 +3,6 @@ pub mod Workspaces
 pub mod Table
 pub mod Ready
 pub mod Rebase
+pub mod Compact
 pub mod Open
 pub mod Mark

@@ -1,6 +1,7 @@
 //! The table of workspaces over a journal that is written to a sink.
 #![tactic(auto)]
 
+mod compact;
 mod fault;
 mod judge;
 mod laws;
@@ -19,7 +20,10 @@ mod workspace;
 mod workspaces;
 
 pub use fault::OpenFault;
-pub use laws::{journals_are_lawful_entry_by_entry, lawful_journals_keep_the_history_laws};
+pub use laws::{
+    compacted_journals_are_judged_as_before, journals_are_lawful_entry_by_entry,
+    lawful_journals_keep_the_history_laws, rebased_journals_keep_all_names,
+};
 pub use prepared::{DeferredDrop, Prepared};
 pub use ready::Ready;
 pub use rebase::base_of;
