@@ -2,7 +2,7 @@
 use Rattle.std.proofs.Common.{◌≡◌, refl}
 use Rattle.std.specs.Io.KnownBytes.{prepend_known}
 use Rattle.tfs_folder.proofs.OpenedLemmas.{opened_rebased, opened_ok, opened_err}
-use Rattle.tfs_folder.proofs.opened.open_following.Goals as goal
+use Rattle.tfs_folder.proofs.opened.open_begun.Goals as goal
 
 pub returns-clause-rebased : goal.returns-clause-rebased
 returns-clause-rebased g c =
