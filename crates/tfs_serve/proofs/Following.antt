@@ -81,7 +81,7 @@ run_follows durable opening last was is told served run = record {
 }
   where
     nobody : ServedView
-    nobody = record { told = None; failed = false; fault = None; seen = 0; accepted = 0; written = [] }
+    nobody = record { told = None; failed = false; fault = None; seen = 0; accepted = 0; read = []; written = [] }
 
     at : (i : ℕ) → i < length run.connections → IsServed durable opening last (get_or run.connections i []) (get_or told i None) (get_or served i nobody)
     at i inside = run.workers i None nobody (omega (arith, inside, run.each.0))

@@ -1,6 +1,7 @@
 pub mod Captures
 pub mod Faults
 pub mod Following
+pub mod Holding
 pub mod Later
 pub mod Reaching
 pub mod Replying

@@ -143,18 +143,19 @@ all_given opening told now old new end worked = gives_all opening old new worked
 -- If a new session has worked, and the last journal begins with all that it has seen, its worker
 -- has served.
 pub served : (durable : ℕ → Type 0) (opening last : Journal) (told now : Option (List Event)) (was : Bool) (number : ℕ) (new : SessionView) (fault : Option AcceptFault)
-    (written : List (List ℕ)) → IsLawful last → BeginsWith last new.journal → IsCaused fault
+    (read texts : List (List ℕ)) → IsLawful last → BeginsWith last new.journal → IsCaused fault
     → (worked : HasWorked opening told now (new_session opening was number) new (end_of_work (is_some fault)))
-    → AreReplied durable worked.connections written
+    → AreReplied durable worked.connections read texts
     → IsServed durable opening last worked.connections told (record {
       told = now;
       failed = is_some fault;
       fault = fault;
       seen = position_of new.journal;
       accepted = new.accepted;
-      written = written;
+      read = read;
+      written = texts;
     })
-served durable opening last told now was number new fault written lawful stands caused worked replied = record {
+served durable opening last told now was number new fault read texts lawful stands caused worked replied = record {
   heard = worked.heard;
   view = new.journal;
   replies = replies;

@@ -11,11 +11,12 @@ use Rattle.tfs_shared.specs.Signed.{AreSigned}
 use Rattle.tfs_shared.specs.Stops.{as_number}
 use Rattle.tfs_shared.specs.View.{SessionView, new_session}
 use Rattle.tfs_connections.specs.declared.accepting.AcceptFault.{AcceptFault}
+use Rattle.tfs_connections.specs.declared.written.Written.{Written}
 use Rattle.tfs_serve.specs.Faults.{IsCaused}
 use Rattle.tfs_serve.specs.Gate.{Event}
 use Rattle.tfs_serve.specs.Serving.{ServedView, IsServed, IsRun, accepted_in, faults_in, answers_on}
 use Rattle.tfs_serve.specs.Told.{positions_told}
-use Rattle.tfs_serve.specs.Working.{Answer, AreReplied, HasReplied, end_of_work}
+use Rattle.tfs_serve.specs.Working.{Answer, AreReplied, HasReplied, end_of_work, nothing_written}
 use Rattle.tfs_serve.proofs.Replying.{served, all_given}
 use Rattle.tfs_serve.proofs.Returning.{HaveNumbers}
 use Rattle.tfs_serve.proofs.Stopping.{HasReported, faults_of_all, gives_reports, stops_as}
@@ -70,19 +71,20 @@ abbrev told_on : List (List Answer) → List ℕ
 told_on connections = positions_told (answers_on connections)
 
 -- The view of a worker's outcome.
-abbrev pub left_of : {W : Type 0} → (W → Option (List Event)) → (W → SessionView) → (W → Option AcceptFault) → (W → List (List ℕ)) → W → ServedView
+abbrev pub left_of : {W : Type 0} → (W → Option (List Event)) → (W → SessionView) → (W → Option AcceptFault) → (W → Written) → W → ServedView
 left_of told session fault written w = record {
   told = told w;
   failed = is_some (fault w);
   fault = fault w;
   seen = position_of (session w).journal;
   accepted = (session w).accepted;
-  written = written w;
+  read = (written w).read;
+  written = (written w).texts;
 }
 
 -- Workers that began with new sessions, numbered down to 0, and have worked.
 module _ {W : Type 0} (durable : ℕ → Type 0) (told : W → Option (List Event)) (session : W → SessionView) (fault : W → Option AcceptFault)
-    (written : W → List (List ℕ)) (opening last : Journal) (was is : Bool) (old new : List W)
+    (written : W → Written) (opening last : Journal) (was is : Bool) (old new : List W)
   where
     abbrev left : W → ServedView
     left = left_of told session fault written
@@ -102,7 +104,7 @@ module _ {W : Type 0} (durable : ℕ → Type 0) (told : W → Option (List Even
     abbrev pub WorkedEach : Type 0
     WorkedEach = (i : ℕ) (d : W) → i < length old
         → HasReplied durable opening (told (get_or old i d)) (told (get_or new i d)) (session (get_or old i d)) (session (get_or new i d))
-        (end_of_work (is_some (fault (get_or new i d)))) [] (written (get_or new i d))
+        (end_of_work (is_some (fault (get_or new i d)))) nothing_written (written (get_or new i d))
 
     abbrev pub AreCaused : Type 0
     AreCaused = (i : ℕ) (d : W) → i < length old → IsCaused (fault (get_or new i d))
@@ -125,15 +127,16 @@ module _ {W : Type 0} (durable : ℕ → Type 0) (told : W → Option (List Even
         let has : BeginsWith last (session now).journal =
         subst (λ (s : SessionView). BeginsWith last s.journal) (get_or-map session new i d (session d) in_new) (begins i (session d) in_sessions) in
         let did : HasReplied durable opening (told (get_or old i d)) (told now) (new_session opening was number.0) (session now)
-        (end_of_work (is_some (fault now))) [] (written now) =
-        subst (λ (s : SessionView). HasReplied durable opening (told (get_or old i d)) (told now) s (session now) (end_of_work (is_some (fault now))) []
+        (end_of_work (is_some (fault now))) nothing_written (written now) =
+        subst (λ (s : SessionView). HasReplied durable opening (told (get_or old i d)) (told now) s (session now) (end_of_work (is_some (fault now))) nothing_written
         (written now)) number.2 (worked i d inside) in
         let given = all_given opening (told (get_or old i d)) (told now) (new_session opening was number.0) (session now)
         (end_of_work (is_some (fault now))) did.worked in (
           did.worked.connections,
           record {
-            served = served durable opening last (told (get_or old i d)) (told now) was number.0 (session now) (fault now) (written now) lawful has
-                (caused i d inside) did.worked (subst (AreReplied durable did.worked.connections) (sym did.written) did.replied);
+            served = served durable opening last (told (get_or old i d)) (told now) was number.0 (session now) (fault now) (written now).read
+                (written now).texts lawful has (caused i d inside) did.worked (subst (AreReplied durable did.worked.connections (written now).read) (sym did.since.has_written)
+                (subst (λ (read : List (List ℕ)). AreReplied durable did.worked.connections read did.texts) (sym did.since.has_read) did.replied));
             number = number.0;
             number_is = number.1;
             tells = gives_tells opening (new_session opening was number.0) (session now) (answers_on did.worked.connections) given;
@@ -258,7 +261,7 @@ map_alike f g (x ∷ xs) same = ap (λ u. u ∷ map f xs) (same x) ∙ ap (λ l.
 
 -- The workers of gates make a run, with the outcomes that the call returns.
 pub run_of : {W G V : Type 0} (durable : ℕ → Type 0) (gate : W → G) (told : G → Option (List Event)) (session : W → SessionView) (fault : W → Option AcceptFault)
-    (written : W → List (List ℕ)) (made : W → V) (view : V → ServedView) (opening last : Journal) (was is : Bool) (gates : List G) (old new : List W)
+    (written : W → Written) (made : W → V) (view : V → ServedView) (opening last : Journal) (was is : Bool) (gates : List G) (old new : List W)
     (all : List V)
     → ((w : W) → left_of (λ (x : W). told (gate x)) session fault written w ≡ view (made w))
     → map gate old ≡ gates → all ≡ map made new → 1 ≤ length gates → IsLawful last → BeginsWith last opening

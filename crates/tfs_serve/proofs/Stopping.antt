@@ -1,5 +1,5 @@
 -- Lemmas: what sessions report of a stopped table.
-use Rattle.std.proofs.Common.{◌≡◌, ◌⊎◌, ◌+◌, ◌<◌, ◌≤◌, ℕ, zero, suc, nat_lt, Bool, true, false, cond, List, [], ◌∷◌, length, get_or, sum_by, All, Option, Some, None, IfSome, refl, sym, ◌∙◌, ap, subst, inl, inr, arith}
+use Rattle.std.proofs.Common.{◌≡◌, ◌⊎◌, ◌+◌, ◌<◌, ◌≤◌, ℕ, suc, nat_lt, Bool, true, false, cond, List, [], ◌∷◌, length, get_or, sum_by, Option, Some, None, IfSome, refl, sym, ◌∙◌, ap, subst, inl, inr, arith}
 use Rattle.std.specs.Option.{option_map_or}
 use Rattle.std.specs.Prelude.{option_map}
 use Rattle.std.proofs.lemmas.List.Elements.{All-nil, All-cons}
@@ -18,15 +18,15 @@ use Rattle.tfs_index.specs.declared.fault.ImpactFault.TheVariants as impact_faul
 use Rattle.tfs_calls.specs.Draft.{is_too_long, lock_refusal, state_refusal, lock_text_refusal, state_text_refusal, draft_refusal}
 use Rattle.tfs_calls.specs.Impact.{fault_refusal, query_refusal}
 use Rattle.tfs_calls.specs.Refusal.{RefusalValue, bad_lock_info, bad_state, no_copy, no_state, out_of_memory}
-use Rattle.tfs_calls.specs.Reply.{ReplyValue, state, impact, refused}
+use Rattle.tfs_calls.specs.Reply.{ReplyValue, state, refused}
 use Rattle.tfs_calls.specs.Transition.{answer_of, query_answer, open_model}
-use Rattle.tfs_calls.specs.declared.call.Call.TheVariants.{Read, Impact}
+use Rattle.tfs_calls.specs.declared.call.Call.TheVariants.{Read}
 use Rattle.tfs_calls.specs.declared.call.Raw.{Raw}
 use Rattle.tfs_calls.specs.declared.call.Raw.TheVariants.{Lock, Unlock, Push, Delete}
 use Rattle.tfs_calls.specs.declared.query.Query.{Query}
 use Rattle.tfs_shared.specs.Impact.{AnswersImpact}
 use Rattle.tfs_shared.specs.Locked.{AnswersRead, HasNoCopy}
-use Rattle.tfs_shared.specs.Stops.{as_number, comes_faulted, is_fault, is_stop, reports_fault, reports_stop}
+use Rattle.tfs_shared.specs.Stops.{as_number, comes_faulted, reports_fault, reports_stop}
 use Rattle.tfs_shared.specs.View.{SessionView, CountsNothing, CountsStop}
 use Rattle.tfs_shared.proofs.Stopping.{IsQuiet}
 use Rattle.tfs_serve.specs.Serving.{StopsLast, faults_in}

@@ -7,12 +7,13 @@ use Rattle.tfs_calls.specs.declared.call.Call.{Call}
 use Rattle.tfs_conversation.specs.Conversation.{AnswersRequest, Exchange, Said, is_open, Runs, Talks, Breaks, HasSpoken}
 use Rattle.tfs_conversation.specs.declared.ended.Ended.{Ended}
 use Rattle.tfs_http.specs.declared.fault.ServeFault.{ServeFault}
+use Rattle.tfs_connections.specs.declared.written.Written.{Written}
 use Rattle.tfs_records.specs.Journal.{Journal}
 use Rattle.tfs_shared.specs.View.{SessionView}
 use Rattle.tfs_serve.specs.Gate.{Event, asked, before, after, Hears}
 use Rattle.tfs_serve.specs.Hold.{IsDurable}
 use Rattle.tfs_serve.specs.Session.{HeldStep, reply_said}
-use Rattle.tfs_serve.specs.Working.{Answer, heard_of, heard_of_connection, Gives, GivesOn, GivesFirst, AreHeld, IsReplied, AreReplied, HasAnswered, HasConversed, HasWorked, HasReplied}
+use Rattle.tfs_serve.specs.Working.{Answer, heard_of, heard_of_connection, Gives, GivesOn, GivesFirst, AreHeld, IsReplied, AreReplied, HasAnswered, HasConversed, GoesOnWith, nothing_written, HasWorked, HasReplied}
 
 -- A gate that hears no event doesn't change.
 hears_nothing : (t : Option (List Event)) → Hears t t []
@@ -89,17 +90,16 @@ module _ {S : Type 0} (step : S → Call → Said → S → Type 0) (durable : �
   -- After a conversation over the desk, the session has answered calls, and the text is of their
   -- replies.
   pub conversed : (old new : S) (bytes text : List ℕ) → HasSpoken step old new bytes text
-      → HasConversed durable o (told old) (told new) (session old) (session new) text
+      → HasConversed durable o (told old) (told new) (session old) (session new) bytes text
   conversed old new bytes text t = by t.end t.talk
     where
       by : (end : Result Ended ServeFault)
           → MatchResult end (λ ended. Talks step old new bytes text ended) (λ fault. Breaks step old new bytes text fault 0 t.reads)
-          → HasConversed durable o (told old) (told new) (session old) (session new) text
+          → HasConversed durable o (told old) (told new) (session old) (session new) bytes text
       by (Ok ended) c = let run = has_run old new c.course.exchanges c.takes.run in record {
         answered = run.answered;
         replied = record {
           held = run.held;
-          bytes = bytes;
           talked = record {
             reads = t.reads;
             came = t.came;
@@ -118,7 +118,6 @@ module _ {S : Type 0} (step : S → Call → Said → S → Type 0) (durable : �
         answered = run.answered;
         replied = record {
           held = run.held;
-          bytes = bytes;
           talked = record {
             reads = t.reads;
             came = t.came;
@@ -135,12 +134,26 @@ module _ {S : Type 0} (step : S → Call → Said → S → Type 0) (durable : �
         };
       }
 
--- Appending a connection, and the text written to it, gives connections and their texts.
-replied_then : (durable : ℕ → Type 0) (connections : List (List Answer)) (texts : List (List ℕ)) (answers : List Answer) (text : List ℕ)
-    → AreReplied durable connections texts → IsReplied durable answers text → AreReplied durable (connections ++ answers ∷ []) (texts ++ text ∷ [])
-replied_then durable [] texts answers text p q = subst (λ (l : List (List ℕ)). AreReplied durable (answers ∷ []) (l ++ text ∷ [])) (sym p) (q, refl)
-replied_then durable (a ∷ connections) [] answers text p q = absurd p
-replied_then durable (a ∷ connections) (t ∷ texts) answers text p q = (p.0, replied_then durable connections texts answers text p.1 q)
+-- Appending a connection, the bytes read from it and the text written to it gives connections with
+-- their bytes and texts.
+replied_then : (durable : ℕ → Type 0) (connections : List (List Answer)) (read texts : List (List ℕ)) (answers : List Answer) (bytes text : List ℕ)
+    → AreReplied durable connections read texts → IsReplied durable answers bytes text
+    → AreReplied durable (connections ++ answers ∷ []) (read ++ bytes ∷ []) (texts ++ text ∷ [])
+replied_then durable [] read texts answers bytes text p q =
+    subst (λ (r : List (List ℕ)). AreReplied durable (answers ∷ []) (r ++ bytes ∷ []) (texts ++ text ∷ [])) (sym p.0)
+    (subst (λ (t : List (List ℕ)). AreReplied durable (answers ∷ []) (bytes ∷ []) (t ++ text ∷ [])) (sym p.1) (q, (refl, refl)))
+replied_then durable (a ∷ connections) [] texts answers bytes text p q = absurd p
+replied_then durable (a ∷ connections) (b ∷ read) [] answers bytes text p q = absurd p
+replied_then durable (a ∷ connections) (b ∷ read) (t ∷ texts) answers bytes text p q =
+    (p.0, replied_then durable connections read texts answers bytes text p.1 q)
+
+-- What was read and written goes on with that of some connections, and then with that of others.
+goes_on_then : (from mid to : Written) (read texts more later : List (List ℕ)) → GoesOnWith from mid read texts → GoesOnWith mid to more later
+    → GoesOnWith from to (read ++ more) (texts ++ later)
+goes_on_then from mid to read texts more later p q = record {
+  has_read = q.has_read ∙ ap (λ (l : List (List ℕ)). l ++ more) p.has_read ∙ append_assoc from.read read more;
+  has_written = q.has_written ∙ ap (λ (l : List (List ℕ)). l ++ later) p.has_written ∙ append_assoc from.texts texts later;
+}
 
 -- If the gate admits one more connection, and calls are answered on it, the session has worked on
 -- it.
@@ -166,20 +179,22 @@ worked_on o t u v w a b c p admitted q = record {
         ∙ sym (flat_map-append heard_of_connection p.connections (q.answers ∷ []))
         ∙ sym (append-nil (flat_map heard_of_connection (p.connections ++ q.answers ∷ [])))
 
--- If the gate admits one more connection, the text written to it is of the replies on it.
-pub replied_on : (durable : ℕ → Type 0) (o : Journal) (t u v w : Option (List Event)) (a b c : SessionView) (from mid to : List (List ℕ)) (text : List ℕ)
-    → HasReplied durable o t u a b [] from mid → Hears u v (asked true ∷ []) → HasConversed durable o v w b c text → to ≡ mid ++ text ∷ []
-    → HasReplied durable o t w a c [] from to
+-- If the gate admits one more connection, the text written to it is of the replies to the bytes
+-- read from it.
+pub replied_on : (durable : ℕ → Type 0) (o : Journal) (t u v w : Option (List Event)) (a b c : SessionView) (from mid to : Written) (bytes text : List ℕ)
+    → HasReplied durable o t u a b [] from mid → Hears u v (asked true ∷ []) → HasConversed durable o v w b c bytes text
+    → GoesOnWith mid to (bytes ∷ []) (text ∷ []) → HasReplied durable o t w a c [] from to
 unfolding worked_on
-replied_on durable o t u v w a b c from mid to text p admitted q is = record {
+replied_on durable o t u v w a b c from mid to bytes text p admitted q since = record {
   worked = worked_on o t u v w a b c p.worked admitted q.answered;
+  read = p.read ++ bytes ∷ [];
   texts = p.texts ++ text ∷ [];
-  written = is ∙ ap (λ (l : List (List ℕ)). l ++ text ∷ []) p.written ∙ append_assoc from p.texts (text ∷ []);
-  replied = replied_then durable p.worked.connections p.texts q.answered.answers text p.replied q.replied;
+  since = goes_on_then from mid to p.read p.texts (bytes ∷ []) (text ∷ []) p.since since;
+  replied = replied_then durable p.worked.connections p.read p.texts q.answered.answers bytes text p.replied q.replied;
 }
 
 -- When the gate admits no more connections, the work ends.
-pub replied_all : (durable : ℕ → Type 0) (o : Journal) (t u v : Option (List Event)) (a b : SessionView) (from to : List (List ℕ))
+pub replied_all : (durable : ℕ → Type 0) (o : Journal) (t u v : Option (List Event)) (a b : SessionView) (from to : Written)
     → HasReplied durable o t u a b [] from to → Hears u v (asked false ∷ []) → HasReplied durable o t v a b (asked false ∷ []) from to
 replied_all durable o t u v a b from to p closed = record {
   worked = record {
@@ -188,26 +203,34 @@ replied_all durable o t u v a b from to p closed = record {
         (hears_then t u v _ _ p.worked.heard closed);
     gives = p.worked.gives;
   };
+  read = p.read;
   texts = p.texts;
-  written = p.written;
+  since = p.since;
   replied = p.replied;
 }
 
 -- A session that did nothing has worked on no connections.
-pub replied_nothing : (durable : ℕ → Type 0) (o : Journal) (t : Option (List Event)) (s : SessionView) (written : List (List ℕ)) → HasReplied durable o t t s s [] written written
+pub replied_nothing : (durable : ℕ → Type 0) (o : Journal) (t : Option (List Event)) (s : SessionView) (written : Written)
+    → HasReplied durable o t t s s [] written written
 replied_nothing durable o t s written = record {
   worked = record { connections = []; heard = hears_nothing t; gives = refl };
+  read = [];
   texts = [];
-  written = sym (append-nil written);
-  replied = refl;
+  since = record { has_read = sym (append-nil written.read); has_written = sym (append-nil written.texts) };
+  replied = (refl, refl);
 }
 
--- If nothing was written before, all that was written is the text of the session's connections.
-pub replied_since : (durable : ℕ → Type 0) (o : Journal) (t u : Option (List Event)) (a b : SessionView) (end : List Event) (from to texts : List (List ℕ)) → from ≡ []
-    → texts ≡ to → HasReplied durable o t u a b end from to → HasReplied durable o t u a b end [] texts
-replied_since durable o t u a b end from to texts none is p = record {
+-- If nothing was read or written before, all that was is of the session's connections.
+pub replied_since : (durable : ℕ → Type 0) (o : Journal) (t u : Option (List Event)) (a b : SessionView) (end : List Event) (from to now : Written)
+    → from.read ≡ [] → from.texts ≡ [] → now.read ≡ to.read → now.texts ≡ to.texts → HasReplied durable o t u a b end from to
+    → HasReplied durable o t u a b end nothing_written now
+replied_since durable o t u a b end from to now unread unwritten read texts p = record {
   worked = p.worked;
+  read = p.read;
   texts = p.texts;
-  written = is ∙ p.written ∙ ap (λ (l : List (List ℕ)). l ++ p.texts) none;
+  since = record {
+    has_read = read ∙ p.since.has_read ∙ ap (λ (l : List (List ℕ)). l ++ p.read) unread;
+    has_written = texts ∙ p.since.has_written ∙ ap (λ (l : List (List ℕ)). l ++ p.texts) unwritten;
+  };
   replied = p.replied;
 }

@@ -1,6 +1,7 @@
 pub mod Faults
 pub mod Following
 pub mod Gate
+pub mod Heard
 pub mod Hold
 pub mod Serving
 pub mod Session

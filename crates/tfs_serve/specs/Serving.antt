@@ -76,13 +76,14 @@ answers_on = flat_map (λ answers. answers)
 
 -- The view of a worker's outcome: the events that its gate heard, whether the listener failed and
 -- with which fault, the position of what the worker has seen, the number of changes that it
--- reported as accepted, and the bytes written to each of its connections.
+-- reported as accepted, and the bytes read from each of its connections and written to it.
 pub record ServedView : Type 0 where
   pub told : Option (List Event)
   pub failed : Bool
   pub fault : Option AcceptFault
   pub seen : ℕ
   pub accepted : ℕ
+  pub read : List (List ℕ)
   pub written : List (List ℕ)
 
 -- The view of an outcome, given the events that gates of its type hear.
@@ -93,15 +94,16 @@ served_view told served = record {
   fault = served.fault;
   seen = served.seen;
   accepted = served.accepted;
+  read = served.written.value.read;
   written = served.written.value.texts;
 }
 
 -- A worker of a run from an opening journal to a last one, which answered on these connections. Its
 -- gate has heard of each connection that it was asked for and of each call and reply on these, in
 -- order, and of nothing else. The replies are those of a session that starts from the opening
--- journal, and each accepted change is in the last journal at the reported position. The bytes
--- written to each connection are those of a conversation with the answers on it, whose written
--- replies are over durable bytes of the journal.
+-- journal, and each accepted change is in the last journal at the reported position. The bytes read
+-- from each connection and written to it are those of a conversation with the answers on it, whose
+-- written replies are over durable bytes of the journal.
 pub record IsServed (durable : ℕ → Type 0) (opening last : Journal) (connections : List (List Answer)) (told : Option (List Event))
     (served : ServedView) : Type 0
   where
@@ -113,7 +115,7 @@ pub record IsServed (durable : ℕ → Type 0) (opening last : Journal) (connect
     pub caused : IsCaused served.fault
     pub seen_is : served.seen ≡ position_of view
     pub accepted_is : served.accepted ≡ accepted_in (answers_on connections)
-    pub replied : AreReplied durable connections served.written
+    pub replied : AreReplied durable connections served.read served.written
 
 -- A run from an opening journal to a last one, with a worker for each gate, given the events that
 -- the gates had heard before. The last journal is lawful and begins with the opening one. Each

@@ -4,6 +4,7 @@ use Rattle.std.specs.Prelude.{◌≡◌, ℕ, All, Bool, true, false, List, [], 
 use Rattle.tfs_calls.specs.declared.call.Call.{Call}
 use Rattle.tfs_calls.specs.Reply.{ReplyValue}
 use Rattle.tfs_conversation.specs.Conversation.{HasSpoken, Said, is_open}
+use Rattle.tfs_connections.specs.declared.written.Written.{Written}
 use Rattle.tfs_records.specs.Journal.{Journal}
 use Rattle.tfs_shared.specs.View.{SessionView}
 use Rattle.tfs_serve.specs.Gate.{Event, asked, before, after, Hears}
@@ -62,37 +63,49 @@ GivesFirst answers call said left = (seen : Journal)
 abbrev pub AreHeld : (ℕ → Type 0) → List Answer → Type 0
 AreHeld durable = All (λ a. a.opened ≡ true → IsDurable durable a.seen)
 
--- The text was written to a connection by a conversation in which the desk gave exactly these
--- answers: for each message in order, the reply of the next answer, or a refusal made without the
--- desk. Nothing of a withheld reply is written. After a fault, the end of the text may be missing.
--- What may be written is durable.
-pub record IsReplied (durable : ℕ → Type 0) (answers : List Answer) (text : List ℕ) : Type 0 where
+-- The bytes were read from a connection, and the text was written to it, by a conversation in which
+-- the desk gave exactly these answers: for each message of the bytes in order, the reply of the
+-- next answer, or a refusal made without the desk. Nothing of a withheld reply is written. After a
+-- fault, the end of the text may be missing. What may be written is durable.
+pub record IsReplied (durable : ℕ → Type 0) (answers : List Answer) (bytes text : List ℕ) : Type 0 where
   pub held : AreHeld durable answers
-  pub bytes : List ℕ
   pub talked : HasSpoken GivesFirst answers [] bytes text
 
--- The texts were written to the connections by conversations with these answers: one text for each
--- connection, in order.
-abbrev pub AreReplied : (ℕ → Type 0) → List (List Answer) → List (List ℕ) → Type 0
-AreReplied durable [] texts = texts ≡ []
-AreReplied durable (answers ∷ connections) [] = ⊥
-AreReplied durable (answers ∷ connections) (text ∷ texts) = IsReplied durable answers text × AreReplied durable connections texts
+-- Conversations with these answers read these bytes from the connections, and wrote these texts to
+-- them: one of each for each connection, in order.
+abbrev pub AreReplied : (ℕ → Type 0) → List (List Answer) → List (List ℕ) → List (List ℕ) → Type 0
+AreReplied durable [] read texts = (read ≡ []) × (texts ≡ [])
+AreReplied durable (answers ∷ connections) [] texts = ⊥
+AreReplied durable (answers ∷ connections) (bytes ∷ read) [] = ⊥
+AreReplied durable (answers ∷ connections) (bytes ∷ read) (text ∷ texts) =
+    IsReplied durable answers bytes text × AreReplied durable connections read texts
 
--- A session has answered calls on a connection, and the text written to it is from a conversation
--- with these answers.
-pub record HasConversed (durable : ℕ → Type 0) (opening : Journal) (told now : Option (List Event)) (old new : SessionView) (text : List ℕ) : Type 0
+-- A session has answered calls on a connection. The bytes read from it and the text written to it
+-- are from a conversation with these answers.
+pub record HasConversed (durable : ℕ → Type 0) (opening : Journal) (told now : Option (List Event)) (old new : SessionView) (bytes text : List ℕ)
+    : Type 0
   where
     pub answered : HasAnswered opening told now old new
-    pub replied : IsReplied durable answered.answers text
+    pub replied : IsReplied durable answered.answers bytes text
 
--- A session has worked. The texts written to its connections are from conversations with its
--- answers, and follow the texts written before.
+-- What was read from connections and written to them goes on with that of more connections.
+pub record GoesOnWith (from to : Written) (read texts : List (List ℕ)) : Type 0 where
+  pub has_read : to.read ≡ from.read ++ read
+  pub has_written : to.texts ≡ from.texts ++ texts
+
+-- No connection was read from or written to.
+abbrev pub nothing_written : Written
+nothing_written = record { read = []; texts = [] }
+
+-- A session has worked. What was read from its connections and written to them is from
+-- conversations with its answers, and follows what was read and written before.
 pub record HasReplied (durable : ℕ → Type 0) (opening : Journal) (told now : Option (List Event)) (old new : SessionView) (end : List Event)
-    (from to : List (List ℕ)) : Type 0 where
+    (from to : Written) : Type 0 where
   pub worked : HasWorked opening told now old new end
+  pub read : List (List ℕ)
   pub texts : List (List ℕ)
-  pub written : to ≡ from ++ texts
-  pub replied : AreReplied durable worked.connections texts
+  pub since : GoesOnWith from to read texts
+  pub replied : AreReplied durable worked.connections read texts
 
 -- The last event of a worker's gate: it was asked for a connection and said no, unless the listener
 -- failed.

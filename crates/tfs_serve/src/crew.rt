@@ -5,7 +5,7 @@ ghost use Rattle.tfs_published.specs.Beginning.{BeginsWith};
 ghost use Rattle.tfs_shared.specs.View.{AreNew, new_session};
 ghost use Rattle.tfs_serve.specs.Faults.{IsCaused};
 ghost use Rattle.tfs_serve.specs.Serving.{IsRun, served_view};
-ghost use Rattle.tfs_serve.specs.Working.{HasReplied, end_of_work};
+ghost use Rattle.tfs_serve.specs.Working.{HasReplied, end_of_work, nothing_written};
 
 use crate::gate::Gate;
 use crate::hold::Hold;
@@ -154,7 +154,7 @@ fn run_members<
     ensures worked { (i : ℕ) (d : _) → i < length members.items
         → HasReplied H.durable J.opening (G.told (slice_index_or members.items i d).gate) (G.told (slice_index_or result.items i d).gate)
         (slice_index_or members.items i d).session (slice_index_or result.items i d).session
-        (end_of_work (is_some (slice_index_or result.items i d).fault)) [] (slice_index_or result.items i d).written.value.texts }
+        (end_of_work (is_some (slice_index_or result.items i d).fault)) nothing_written (slice_index_or result.items i d).written.value }
 {
     let mut members = members;
     work_until(runtime, listener, members.as_mut_slice(), shared);

@@ -1,16 +1,21 @@
 //! The desk of a worker: it answers over a session, and holds replies back until they are durable.
 
-ghost use Rattle.std.specs.Prelude.{◌≡◌, ◌∷◌, [], true};
+ghost use Rattle.std.specs.Prelude.{◌≡◌, ◌∷◌, [], true, false, IfErr, OnOk};
+ghost use Rattle.std.specs.Io.KnownBytes.{Appends};
 ghost use Rattle.tfs_calls.specs.Draft.{CarriesFittingState};
 ghost use Rattle.tfs_calls.specs.Reply.{reply_value};
+ghost use Rattle.tfs_http.specs.Lent.{TellsWriter, WritesPart};
+ghost use Rattle.tfs_http.specs.ReplyText.{reply_text};
+ghost use Rattle.tfs_http.specs.declared.fault.ServeFault.TheVariants.{Write};
 ghost use Rattle.tfs_serve.specs.Gate.{before, after, Hears};
 ghost use Rattle.tfs_serve.specs.Hold.{IsDurable};
 ghost use Rattle.tfs_serve.specs.Session.{CatchesUp, CaughtUpStep};
 
-use crate::gate::Gate;
+use crate::gate::{Gate, Given};
 use crate::hold::Hold;
 use crate::session_desk::{Service, reply_to};
 use json::Scratch;
+use std::snapshot::Snapshot;
 use std::sync::Wait;
 use tfs_calls::{Call, Reply};
 use tfs_conversation::{Outlet, OwedDesk, ReplyBuffer, ServeFault};
@@ -58,10 +63,19 @@ impl<'p, 's, 'm, J: Naming, K: Sink, G: Gate, R: Wait, H: Hold> HeldDesk<
         let post = self.post;
         let synced = post.hold.synced();
         self.gate.before(&call);
+        let asked = Snapshot::of(&call);
+        let before = Snapshot::of(&*self.session);
         let reply = caught_up_reply(post.service, self.session, self.scratch, call, synced);
-        let is_durable = covers(post, self.session, synced);
-        self.gate.after(&reply);
-        (reply, is_durable)
+        let mark = self.session.mark();
+        let is_opened = covers(post, self.session, mark, synced);
+        let given = Given {
+            call: asked,
+            before,
+            after: Snapshot::of(&*self.session),
+            is_opened,
+        };
+        self.gate.after_answer::<J, H>(&given, &reply);
+        (reply, is_opened)
     }
 }
 
@@ -85,11 +99,30 @@ impl<'p, 's, 'm, J: Naming, K: Sink, G: Gate, R: Wait, H: Hold> OwedDesk
         writer: &mut W,
     ) -> Result<(), ServeFault> {
         let (reply, is_durable) = self.answer(call);
-        if !is_durable {
-            return Err(ServeFault::Write);
-        }
-        buffer.send(writer, &reply, form)
+        send_if(is_durable, buffer, writer, &reply, form)
     }
+}
+
+/// Sends a reply if it may be written. Otherwise writes nothing, and returns `Write`.
+fn send_if<W: Outlet>(
+    may: bool,
+    buffer: &mut ReplyBuffer,
+    writer: &mut W,
+    reply: &Reply,
+    form: Form,
+) -> Result<(), ServeFault>
+    ensures may { OnOk result (may ≡ true) }
+    ensures ok { OnOk result (Appends (W.contents writer.old) (W.contents writer.new) (reply_text (reply_value reply.now) form)) }
+    ensures err { IfErr result (λ fault. may ≡ true
+        → WritesPart (W.contents writer.old) (W.contents writer.new) (reply_text (reply_value reply.now) form) fault) }
+    ensures writer { may ≡ true → TellsWriter result (W.failed writer.old) (W.failed writer.new) }
+    ensures withheld { may ≡ false → IfErr result (λ fault. fault ≡ Write) }
+    ensures kept { may ≡ false → (W.contents writer.new ≡ W.contents writer.old) × (W.failed writer.new ≡ W.failed writer.old) }
+{
+    if !may {
+        return Err(ServeFault::Write);
+    }
+    buffer.send(writer, reply, form)
 }
 
 /// Answers a call after catching up.
@@ -133,16 +166,18 @@ fn has_to_hear(call: &Call, synced: u64) -> bool {
     }
 }
 
-/// Waits until the journal that the session has seen is durable, and lets the other sessions hear
-/// of it, since a reply is about to report it. Returns false if it can't become durable.
+/// Waits until as many bytes are durable as the mark says, and lets the other sessions hear of the
+/// journal that the session has seen, since a reply is about to report it. Returns false if they
+/// can't become durable.
 fn covers<J: Naming, K: Sink, R: Wait, H: Hold>(
     post: &Post<'_, '_, J, K, R, H>,
     session: &Session<J>,
+    mark: u64,
     synced: u64,
 ) -> bool
-    ensures { result ≡ true → IsDurable H.durable session.now.journal }
+    ensures { result ≡ true → H.durable mark }
 {
-    if !post.hold.cover(session.mark()) {
+    if !post.hold.cover(mark) {
         return false;
     }
     tell_others(post.service, session, synced);

@@ -4,6 +4,7 @@
 mod crew;
 mod gate;
 mod gated;
+mod heard;
 mod held_desk;
 mod hold;
 mod laws;
@@ -15,8 +16,9 @@ mod serving;
 mod session_desk;
 mod worker;
 
-pub use gate::{Gate, Open};
+pub use gate::{Gate, Given, Open};
 pub use gated::Gated;
+pub use heard::Heard;
 pub use hold::{Hold, NoHold};
 pub use laws::{accepted_changes_stand_in_the_last_journal, all_replies_follow_one_journal};
 pub use run::{Obstacle, Run, Served, Unserved, first_fault, serve, serve_until};

@@ -1,8 +1,8 @@
 //! The members of a run's crew.
 
-ghost use Rattle.std.specs.Prelude.{ℕ, ◌<◌, [], is_some, length, slice_index_or};
+ghost use Rattle.std.specs.Prelude.{ℕ, ◌<◌, is_some, length, slice_index_or};
 ghost use Rattle.tfs_serve.specs.Faults.{IsCaused};
-ghost use Rattle.tfs_serve.specs.Working.{HasReplied, end_of_work};
+ghost use Rattle.tfs_serve.specs.Working.{HasReplied, end_of_work, nothing_written};
 
 use crate::gate::Gate;
 use crate::held_desk::Post;
@@ -21,7 +21,7 @@ use tfs_records::Sink;
 use tfs_shared::{Naming, Session, Shared};
 
 /// A session that works in a run, its gate, the fault of the listener that ended its work, if one
-/// did, and what it has written to each connection.
+/// did, and what it has read from each connection and written to it.
 #[derive(Drop)]
 pub(crate) struct Member<J: Naming, G: Gate> {
     pub(crate) gate: G,
@@ -39,7 +39,7 @@ impl<J: Naming, G: Gate> Member<J, G> {
     )
         ensures caused { IsCaused self.new.fault }
         ensures worked { HasReplied H.durable J.opening (G.told self.old.gate) (G.told self.new.gate) self.old.session self.new.session
-            (end_of_work (is_some self.new.fault)) [] self.new.written.value.texts }
+            (end_of_work (is_some self.new.fault)) nothing_written self.new.written.value }
     {
         let mut reception = Reception::new(listener);
         match work_over(post, &mut reception, &mut self.gate, &mut self.session) {
@@ -64,7 +64,7 @@ pub(crate) fn work_until<
     ensures worked { (i : ℕ) (d : _) → i < length members.old
         → HasReplied H.durable J.opening (G.told (slice_index_or members.old i d).gate) (G.told (slice_index_or members.new i d).gate)
         (slice_index_or members.old i d).session (slice_index_or members.new i d).session
-        (end_of_work (is_some (slice_index_or members.new i d).fault)) [] (slice_index_or members.new i d).written.value.texts }
+        (end_of_work (is_some (slice_index_or members.new i d).fault)) nothing_written (slice_index_or members.new i d).written.value }
 {
     let (rt, alloc, hold) = (runtime.rt, runtime.alloc, runtime.hold);
     let (ended, muted) = (runtime.ended, runtime.muted);
@@ -78,7 +78,7 @@ pub(crate) fn work_until<
         &|number: usize, member: &mut Member<J, G>|
             ensures caused { IsCaused member.exit.now.fault }
             ensures worked { HasReplied H.durable J.opening (G.told member.entry.now.gate) (G.told member.exit.now.gate) member.entry.now.session
-                member.exit.now.session (end_of_work (is_some member.exit.now.fault)) [] member.exit.now.written.value.texts }
+                member.exit.now.session (end_of_work (is_some member.exit.now.fault)) nothing_written member.exit.now.written.value }
         {
             let turn = if number % 2 == 0 { &even } else { &odd };
             let service = Service {

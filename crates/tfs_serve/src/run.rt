@@ -30,7 +30,7 @@ use tfs_table::Table;
 
 /// The outcome of a gate's worker: its gate, whether the listener failed and with which fault, the
 /// position of the journal that the worker has seen, the number of changes that it reported as
-/// accepted, and, for proofs, what it has written to each connection.
+/// accepted, and, for proofs, what it has read from each connection and written to it.
 #[derive(Drop)]
 pub struct Served<G: Gate> {
     pub gate: G,
@@ -104,9 +104,9 @@ struct Blanks {
 /// `JournalFault`; if it was stopped before, no reply is. It is stopped if any reply is
 /// `JournalStopped`. Each reply of a worker is the transition of the model over a prefix of that
 /// journal with all that the worker had seen before, except `NoCopy`. What a worker has written to
-/// each connection are these replies, and the refusals of messages that made no call; if the
-/// connection fails, the end may be missing. A failed worker has the fault of its listener; the
-/// gate of every other worker is closed.
+/// each connection are these replies to the messages that it read from it, and the refusals of
+/// those that made no call; if the connection fails, the end may be missing. A failed worker has
+/// the fault of its listener; the gate of every other worker is closed.
 ///
 /// # Errors
 ///

@@ -1,11 +1,10 @@
 //! The work of one session: one connection after another.
 
-ghost use Rattle.std.specs.Prelude.{◌≡◌, ◌++◌, ℕ, List, OnOk, OnErr, IfErr, [], ◌∷◌, false};
+ghost use Rattle.std.specs.Prelude.{◌≡◌, ℕ, List, OnOk, OnErr, IfErr, [], ◌∷◌, false};
 ghost use Rattle.tfs_connections.specs.Accepting.{IsFinal, error_of};
-ghost use Rattle.tfs_connections.specs.Talking.{written_at};
 ghost use Rattle.tfs_serve.specs.Gate.{IsAdmitted, IsClosed, asked};
 ghost use Rattle.tfs_serve.specs.Session.{IsLater};
-ghost use Rattle.tfs_serve.specs.Working.{HasConversed, HasReplied, HasWorked};
+ghost use Rattle.tfs_serve.specs.Working.{GoesOnWith, HasConversed, HasReplied, HasWorked};
 
 use crate::gate::Gate;
 use crate::held_desk::{HeldDesk, Post};
@@ -48,8 +47,8 @@ pub fn work<L: OpenListener<Stream = TcpStream>, J: Naming, K: Sink, G: Gate, R:
 }
 
 /// Works as [`work`] does, over a listener of any transport. What is written to each connection are
-/// the replies to the messages that came on it, each only if the hold covers the journal that it
-/// was answered over; if the connection fails, the end may be missing.
+/// the replies to the messages that were read from it, each only if the hold covers the journal
+/// that it was answered over; if the connection fails, the end may be missing.
 #[tactic(auto, using(crate::proofs::Later::later_itself, crate::proofs::Later::later_then, crate::proofs::Working::replied_nothing))]
 pub(crate) fn work_over<
     L: OpenListener<Stream = S>,
@@ -70,9 +69,9 @@ pub(crate) fn work_over<
     ensures admitted { OnErr result (IsAdmitted (G.told gate.new)) }
     ensures later { IsLater session.old session.new }
     ensures worked { OnOk result (HasReplied H.durable J.opening (G.told gate.old) (G.told gate.new) session.old session.new (asked false ∷ [])
-        (written_at reception.old) (written_at reception.new)) }
+        reception.old.written reception.new.written) }
     ensures broken { OnErr result (HasReplied H.durable J.opening (G.told gate.old) (G.told gate.new) session.old session.new []
-        (written_at reception.old) (written_at reception.new)) }
+        reception.old.written reception.new.written) }
 {
     let mut scratch = Scratch::new(post.service.alloc);
     for _ in post.service.rt.forever() {
@@ -106,8 +105,8 @@ fn converse_next<
     ensures ends { IfErr result (λ fault. IsFinal (error_of fault)) }
     ensures kept { OnErr result (G.told gate.new ≡ G.told gate.old) }
     ensures later { IsLater session.old session.new }
-    ensures conversed { (text : List ℕ) × (written_at reception.new ≡ written_at reception.old ++ text ∷ [])
-        × HasConversed H.durable J.opening (G.told gate.old) (G.told gate.new) session.old session.new text }
+    ensures conversed { (bytes : List ℕ) × (text : List ℕ) × GoesOnWith reception.old.written reception.new.written (bytes ∷ []) (text ∷ [])
+        × HasConversed H.durable J.opening (G.told gate.old) (G.told gate.new) session.old session.new bytes text }
 {
     let mut desk = HeldDesk {
         post,
@@ -137,8 +136,8 @@ fn converse_over<
     ensures kept { OnErr result (G.told desk.new.gate.now ≡ G.told desk.old.gate.now) }
     ensures loan { (desk.new.session.ghost_name ≡ desk.old.session.ghost_name) × (desk.new.gate.ghost_name ≡ desk.old.gate.ghost_name) }
     ensures later { IsLater desk.old.session.now desk.new.session.now }
-    ensures conversed { (text : List ℕ) × (written_at reception.new ≡ written_at reception.old ++ text ∷ [])
-        × HasConversed H.durable J.opening (G.told desk.old.gate.now) (G.told desk.new.gate.now) desk.old.session.now desk.new.session.now text }
+    ensures conversed { (bytes : List ℕ) × (text : List ℕ) × GoesOnWith reception.old.written reception.new.written (bytes ∷ []) (text ∷ [])
+        × HasConversed H.durable J.opening (G.told desk.old.gate.now) (G.told desk.new.gate.now) desk.old.session.now desk.new.session.now bytes text }
 {
     reception.converse_owed(setting, desk)
 }

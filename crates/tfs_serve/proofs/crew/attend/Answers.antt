@@ -21,7 +21,7 @@ returns-in-Ok g c =
     let grows = c.in-Ok.ensures.counted
     ∙ ap (λ (l : List SessionView). length opening.entries + sum_by (λ (s : SessionView). s.accepted) l) sessions in
     record {
-      run = run_of g.H.Hold.durable (λ m. m.gate) told (λ m. m.session) (λ m. m.fault) (λ m. m.written.value.texts) _ _ opening last c.args.crew.stopped
+      run = run_of g.H.Hold.durable (λ m. m.gate) told (λ m. m.session) (λ m. m.fault) (λ m. m.written.value) _ _ opening last c.args.crew.stopped
           c.in-Ok.table.stopped c.args.crew.gates.items c.make_members-members.result.items
           c.run_members-members.result.items c.split_members-sessions.result.1.items (λ m. refl) c.make_members-members.ensures.gates
           c.split_members-sessions.ensures.served c.requires.some c.in-Ok.ensures.lawful c.in-Ok.ensures.opening

@@ -1,6 +1,6 @@
 -- Several threads may call the closure, since they may use all that it borrows. Each session has
 -- worked.
-use Rattle.std.proofs.Common.{[], slice_index_or, is_some, subst}
+use Rattle.std.proofs.Common.{slice_index_or, is_some, subst}
 use denote.Builtin.{unit}
 use denote.Exit.{no}
 use denote.Param.{param}
@@ -10,7 +10,7 @@ use Rattle.std.proofs.sync.Mutex.TheSendSync as mutex
 use Rattle.std.proofs.alloc.Global.TheSendSync as global
 use Rattle.tfs_shared.proofs.Crossing.{shared_sync}
 use Rattle.tfs_serve.specs.Faults.{IsCaused}
-use Rattle.tfs_serve.specs.Working.{HasReplied, end_of_work}
+use Rattle.tfs_serve.specs.Working.{HasReplied, end_of_work, nothing_written}
 use Rattle.tfs_serve.proofs.Captures.{ten_sync}
 use Rattle.tfs_serve.proofs.Sent.{member_send}
 use Rattle.tfs_connections.proofs.load.Load.TheSendSync as load
@@ -34,10 +34,10 @@ returns g c = record {
       let at = (c.for_each_mut.ensures i d inside).1 in
       let told = g.G.Gate.told in
       let new = slice_index_or c.for_each_mut.new.s i d in
-      subst (λ m. HasReplied g.H.Hold.durable g.J.Naming.opening (told m.gate) (told new.gate) m.session new.session (end_of_work (is_some new.fault)) [] new.written.value.texts)
+      subst (λ m. HasReplied g.H.Hold.durable g.J.Naming.opening (told m.gate) (told new.gate) m.session new.session (end_of_work (is_some new.fault)) nothing_written new.written.value)
       at.argument_is
       (subst (λ m. HasReplied g.H.Hold.durable g.J.Naming.opening (told at.argument.now.gate) (told m.gate) at.argument.now.session m.session (end_of_work (is_some m.fault))
-      [] m.written.value.texts) at.left at.call.1);
+      nothing_written m.written.value) at.left at.call.1);
 }
 
 pub for_each_mut-requires-send-T : goal.for_each_mut-requires-send-T

@@ -19,8 +19,9 @@ returns-clause-later g c = talk_reaches _ (λ a b. IsLater a.session.now b.sessi
 
 pub returns-clause-conversed : goal.returns-clause-conversed
 returns-clause-conversed g c = (
+  c.converse_owed.ensures.talked.0,
   c.converse_owed.ensures.talked.1,
-  c.converse_owed.ensures.talked.3,
+  record { has_read = c.converse_owed.ensures.talked.2; has_written = c.converse_owed.ensures.talked.3 },
   conversed _ g.H.Hold.durable g.J.Naming.opening (λ d. d.session.now) (λ d. g.G.Gate.told d.gate.now)
       (λ old new call said step. (step.2, step.3)) _ _ _ _ c.converse_owed.ensures.talked.4,
 )

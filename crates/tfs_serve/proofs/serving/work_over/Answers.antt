@@ -9,8 +9,8 @@ loop-preserved g c = (
   tt,
   tt,
   later_then _ _ _ c.loop.invariant.2 c.converse_next.ensures.later,
-  replied_on _ _ _ _ _ _ _ _ _ _ _ _ _ c.loop.invariant.3 c.if-not-admit.ensures.heard c.converse_next.ensures.conversed.2
-      c.converse_next.ensures.conversed.1,
+  replied_on _ _ _ _ _ _ _ _ _ _ _ _ _ _ c.loop.invariant.3 c.if-not-admit.ensures.heard c.converse_next.ensures.conversed.3
+      c.converse_next.ensures.conversed.2,
 )
 
 pub loop-init : goal.loop-init
@@ -21,5 +21,5 @@ returns-then-not-admit-clause-worked g c = replied_all _ _ _ _ _ _ _ _ _ c.loop.
 
 pub returns-in-Err-clause-broken : goal.returns-in-Err-clause-broken
 returns-in-Err-clause-broken g c =
-    replied_on _ _ _ _ _ _ _ _ _ _ _ _ _ c.loop.invariant.3 c.if-not-admit.ensures.heard c.converse_next.ensures.conversed.2
-    c.converse_next.ensures.conversed.1
+    replied_on _ _ _ _ _ _ _ _ _ _ _ _ _ _ c.loop.invariant.3 c.if-not-admit.ensures.heard c.converse_next.ensures.conversed.3
+    c.converse_next.ensures.conversed.2

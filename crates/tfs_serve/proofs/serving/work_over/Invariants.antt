@@ -1,6 +1,5 @@
 -- The session has advanced, and the texts are of its replies.
 use Rattle.std.proofs.Common.{[]}
-use Rattle.tfs_connections.specs.Talking.{written_at}
 use Rattle.tfs_serve.specs.Session.{IsLater}
 use Rattle.tfs_serve.specs.Working.{HasReplied}
 use Rattle.tfs_serve.proofs.serving.work_over.Given as goal
@@ -8,5 +7,5 @@ use Rattle.tfs_serve.proofs.serving.work_over.Given as goal
 abbrev pub invariant-loop : goal.invariant-loop
 invariant-loop g l =
     (goal.iterator-loop g).can_next l.iterator' × (goal.iterator-loop g).is_finite l.iterator' × IsLater l.fn.session l.session
-    × HasReplied g.H.Hold.durable g.J.Naming.opening (g.G.Gate.told l.fn.gate) (g.G.Gate.told l.gate) l.fn.session l.session [] (written_at l.fn.reception)
-    (written_at l.reception)
+    × HasReplied g.H.Hold.durable g.J.Naming.opening (g.G.Gate.told l.fn.gate) (g.G.Gate.told l.gate) l.fn.session l.session [] l.fn.reception.written
+    l.reception.written

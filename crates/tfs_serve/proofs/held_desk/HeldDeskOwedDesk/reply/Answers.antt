@@ -1,46 +1,32 @@
 -- A reply that may not be written is withheld; another one is what is said.
-use Rattle.std.proofs.Common.{◌≡◌, true, false, refl}
+use Rattle.std.proofs.Common.{◌≡◌, true, false}
 use Rattle.tfs_calls.specs.Reply.{reply_value}
-use Rattle.tfs_conversation.specs.Conversation.{withheld}
-use Rattle.tfs_conversation.proofs.IoLemmas.{said_whole, said_part}
+use Rattle.tfs_serve.proofs.Holding.{said_open, said_or_withheld}
 use Rattle.tfs_serve.proofs.held_desk.HeldDeskOwedDesk.reply.Goals as goal
-
-pub returns-then-not-is_durable-clause-err : goal.returns-then-not-is_durable-clause-err
-returns-then-not-is_durable-clause-err g c =
-    let answer = c.answer-reply in (
-      withheld (reply_value answer.result.0),
-      (
-        answer.ensures.loans.0,
-        answer.ensures.loans.1,
-        record { step = answer.ensures.step; held = λ may. let wrong : false ≡ true = may in absurd (cc) },
-        answer.ensures.heard,
-      ),
-      (λ may. let wrong : false ≡ true = may in absurd (cc)),
-      (λ shut. (refl, refl, refl)),
-    )
 
 pub returns-clause-ok : goal.returns-clause-ok
 returns-clause-ok g c =
     let answer = c.answer-reply in
-    said_whole c.send.result _ (reply_value answer.result.0) c.args.form _ _ _ _ (
+    let send = c.send_if.ensures in
+    said_open c.send_if.result _ (reply_value answer.result.0) c.args.form answer.result.1 _ _ _ _ (λ may. (
       answer.ensures.loans.0,
       answer.ensures.loans.1,
-      record {
-        step = answer.ensures.step;
-        held = λ may. answer.ensures.held c.if-not-is_durable.false;
-      },
+      record { step = answer.ensures.step; held = λ _. answer.ensures.held may },
       answer.ensures.heard,
-    ) c.send.ensures.ok c.send.ensures.writer
+    )) send.may send.ok send.writer
 
 pub returns-clause-err : goal.returns-clause-err
 returns-clause-err g c =
     let answer = c.answer-reply in
-    said_part c.send.result _ (reply_value answer.result.0) c.args.form _ _ _ _ (
+    let send = c.send_if.ensures in
+    said_or_withheld c.send_if.result _ (reply_value answer.result.0) c.args.form answer.result.1 _ _ _ _ (λ may. (
       answer.ensures.loans.0,
       answer.ensures.loans.1,
-      record {
-        step = answer.ensures.step;
-        held = λ may. answer.ensures.held c.if-not-is_durable.false;
-      },
+      record { step = answer.ensures.step; held = λ _. answer.ensures.held may },
       answer.ensures.heard,
-    ) c.send.ensures.err c.send.ensures.writer
+    )) (λ shut. (
+      answer.ensures.loans.0,
+      answer.ensures.loans.1,
+      record { step = answer.ensures.step; held = λ may. let wrong : false ≡ true = may in absurd (cc) },
+      answer.ensures.heard,
+    )) send.err send.writer send.withheld send.kept
