@@ -1,6 +1,6 @@
 -- Lemmas about successive runs.
 use mathlib.Core.List.{IsPrefix}
-use Rattle.std.proofs.Common.{◌≡◌, ◌+◌, ◌≤◌, ◌<◌, ℕ, suc, length, length-append, get_or, map, List, sum_by, [], ◌∷◌, ◌++◌, append-nil, Option, refl, sym, ◌∙◌, ap, subst, inl, inr, arith}
+use Rattle.std.proofs.Common.{◌≡◌, ◌+◌, ◌≤◌, ◌<◌, ℕ, All, suc, length, length-append, get_or, map, List, sum_by, [], ◌∷◌, ◌++◌, append-nil, Option, refl, sym, ◌∙◌, ap, subst, inl, inr, arith}
 use Rattle.std.proofs.lemmas.Grind.{flat_map-append}
 use Rattle.std.proofs.lemmas.List.Sums.{sum_by-cons, sum_by_push}
 use Rattle.tfs_records.specs.Journal.{Journal, position_of}
@@ -34,7 +34,7 @@ some_told (a ∷ more) =
 
 -- The opening journal of the next run has the position of the last journal.
 leads_stays : (last next : TableModel) → LeadsTo last next → position_of next.journal ≡ position_of last.journal
-leads_stays last next (inl compact) = compact.rebased.position
+leads_stays last next (inl compact) = compact.compacted.position
 leads_stays last next (inr same) = ap (λ (m : TableModel). position_of m.journal) same
 
 -- The positions of one more run follow the earlier positions.
@@ -78,8 +78,9 @@ pub counts_then : (before accepted more added now mid after : ℕ) → now ≡ b
     → after ≡ before + (accepted + more)
 counts_then before accepted more added now mid after counts counted same stays = omega (arith, counts, counted, same, stays)
 
--- Runs whose replies are held back until the journal is durable.
-module _ (durable : ℕ → Type 0) where
+-- Runs whose replies are held back until the journal is durable. This is known of the events that
+-- their gates had heard before.
+module _ (durable : ℕ → Type 0) (heard_before : Option (List Event) → Type 0) where
   -- The workers of a run report as many positions as accepted changes.
   all_told : (opening last : Journal) (workers : List (List (List Answer))) (told : List (Option (List Event))) (served : List ServedView)
       → length workers ≡ length told → length served ≡ length told
@@ -100,24 +101,24 @@ module _ (durable : ℕ → Type 0) where
       let sums = sum_by-cons (λ (v : ServedView). v.accepted) s served in omega (arith, one, more, here, lengths, sums)
 
   -- A run reports as many positions as accepted changes.
-  term_told : (opening : TableModel) (t : ReturnedRun) → IsReturnedRun durable opening t → length t.positions ≡ accepted_of t.served
+  term_told : (opening : TableModel) (t : ReturnedRun) → IsReturnedRun durable heard_before opening t → length t.positions ≡ accepted_of t.served
   term_told opening t run =
       let its = run.run in
       ap length run.positions ∙ all_told opening.journal t.last.journal its.connections run.told t.served its.each.0 its.each.1 its.workers
 
   -- The last journal of a run is at the opening position plus the number of accepted changes.
-  term_grows : (opening : TableModel) (t : ReturnedRun) → IsReturnedRun durable opening t
+  term_grows : (opening : TableModel) (t : ReturnedRun) → IsReturnedRun durable heard_before opening t
       → position_of t.last.journal ≡ position_of opening.journal + accepted_of t.served
   term_grows opening t run =
       let base = ap (λ b. b.position) run.run.begins.base in
       let grows = run.run.grows in omega (arith, base, grows)
 
   -- A run reports each of its positions once.
-  term_once : (opening : TableModel) (t : ReturnedRun) → IsReturnedRun durable opening t → AreToldOnce opening.journal t.last.journal t.positions
+  term_once : (opening : TableModel) (t : ReturnedRun) → IsReturnedRun durable heard_before opening t → AreToldOnce opening.journal t.last.journal t.positions
   term_once opening t run p above within = ap (times p) run.positions ∙ run.run.once p above within
 
   -- Successive runs advance the position by the number of accepted changes.
-  goes_by_grows : (first now : TableModel) (runs : List ReturnedRun) → GoesBy durable first runs now
+  goes_by_grows : (first now : TableModel) (runs : List ReturnedRun) → GoesBy durable heard_before first runs now
       → position_of now.journal ≡ position_of first.journal + accepted_by_all runs
   goes_by_grows first now [] goes = let same = ap (λ (m : TableModel). position_of m.journal) goes in omega (arith, same)
   goes_by_grows first now (t ∷ runs) goes =
@@ -127,7 +128,7 @@ module _ (durable : ℕ → Type 0) where
       let all = sum_by-cons (λ (u : ReturnedRun). accepted_of u.served) t runs in omega (arith, grows, stays, more, all)
 
   -- Successive runs report as many positions as accepted changes.
-  goes_by_told : (first now : TableModel) (runs : List ReturnedRun) → GoesBy durable first runs now → length (positions_of_all runs) ≡ accepted_by_all runs
+  goes_by_told : (first now : TableModel) (runs : List ReturnedRun) → GoesBy durable heard_before first runs now → length (positions_of_all runs) ≡ accepted_by_all runs
   goes_by_told first now [] goes = refl
   goes_by_told first now (t ∷ runs) goes =
       let one = term_told first t goes.1 in
@@ -136,22 +137,22 @@ module _ (durable : ℕ → Type 0) where
       let all = sum_by-cons (λ (u : ReturnedRun). accepted_of u.served) t runs in omega (arith, one, more, lengths, all)
 
   -- The difference of the two positions is the number of accepted changes.
-  pub goes_on_grows : (first now : TableModel) (accepted : ℕ) → GoesOn durable first now accepted
+  pub goes_on_grows : (first now : TableModel) (accepted : ℕ) → GoesOn durable heard_before first now accepted
       → position_of now.journal ≡ position_of first.journal + accepted
   goes_on_grows first now accepted goes =
       let counts = goes.counts in
       let grows = goes_by_grows first now goes.runs goes.goes in omega (arith, counts, grows)
 
   -- Successive runs and one more are successive runs.
-  goes_by_then : (first opening next : TableModel) (t : ReturnedRun) (runs : List ReturnedRun) → GoesBy durable first runs opening → IsReturnedRun durable opening t → LeadsTo t.last next
-      → GoesBy durable first (runs ++ t ∷ []) next
+  goes_by_then : (first opening next : TableModel) (t : ReturnedRun) (runs : List ReturnedRun) → GoesBy durable heard_before first runs opening → IsReturnedRun durable heard_before opening t → LeadsTo t.last next
+      → GoesBy durable heard_before first (runs ++ t ∷ []) next
   goes_by_then first opening next t [] goes run leads =
-      (next, subst (λ (m : TableModel). IsReturnedRun durable m t) goes run, leads, refl)
+      (next, subst (λ (m : TableModel). IsReturnedRun durable heard_before m t) goes run, leads, refl)
   goes_by_then first opening next t (u ∷ runs) goes run leads =
       (goes.0, goes.1, goes.2, goes_by_then goes.0 opening next t runs goes.3 run leads)
 
   -- No runs lead from the first journal to an equal one.
-  pub goes_not_yet : (first now : TableModel) → now ≡ first → GoesOn durable first now 0
+  pub goes_not_yet : (first now : TableModel) → now ≡ first → GoesOn durable heard_before first now 0
   goes_not_yet first now same = record {
     runs = [];
     goes = same;
@@ -160,12 +161,12 @@ module _ (durable : ℕ → Type 0) where
   }
 
   -- Without a run, a journal leads to itself.
-  pub goes_nowhere : (m : TableModel) → GoesOn durable m m 0
+  pub goes_nowhere : (m : TableModel) → GoesOn durable heard_before m m 0
   goes_nowhere m = goes_not_yet m m refl
 
   -- A run after others adds its accepted changes.
-  pub goes_on_then : (first opening next : TableModel) (accepted : ℕ) (t : ReturnedRun) → GoesOn durable first opening accepted → IsReturnedRun durable opening t → LeadsTo t.last next
-      → GoesOn durable first next (accepted + accepted_of t.served)
+  pub goes_on_then : (first opening next : TableModel) (accepted : ℕ) (t : ReturnedRun) → GoesOn durable heard_before first opening accepted → IsReturnedRun durable heard_before opening t → LeadsTo t.last next
+      → GoesOn durable heard_before first next (accepted + accepted_of t.served)
   goes_on_then first opening next accepted t goes run leads =
       let counts = goes.counts in
       let more = sum_by_push (λ (u : ReturnedRun). accepted_of u.served) goes.runs t in
@@ -183,13 +184,13 @@ module _ (durable : ℕ → Type 0) where
       }
 
   -- The last journal of a run begins with what its opening journal begins with.
-  pub term_begins : (placed : Journal) (opening last : TableModel) (served : List ServedView) → IsReturnedRunOf durable opening last served
+  pub term_begins : (placed : Journal) (opening last : TableModel) (served : List ServedView) → IsReturnedRunOf durable heard_before opening last served
       → BeginsWith opening.journal placed → BeginsWith last.journal placed
   term_begins placed opening last served run begins = begins_with_earlier last.journal opening.journal placed run.1.run.begins begins
 
   -- Runs may end with a journal that begins with the opening journal of the next run.
-  pub ends_at : (first opening : TableModel) (end : Journal) (accepted before after : ℕ) → GoesOn durable first opening accepted
-      → BeginsWith end opening.journal → after ≡ before + accepted → EndsOn durable first end before after
+  pub ends_at : (first opening : TableModel) (end : Journal) (accepted before after : ℕ) → GoesOn durable heard_before first opening accepted
+      → BeginsWith end opening.journal → after ≡ before + accepted → EndsOn durable heard_before first end before after
   ends_at first opening end accepted before after goes begins counts = record {
     opening = opening;
     accepted = accepted;
@@ -199,14 +200,14 @@ module _ (durable : ℕ → Type 0) where
   }
 
   -- The last journal has positions for all changes that were reported as accepted.
-  pub holds_all : (first : TableModel) (end : Journal) (before after : ℕ) → EndsOn durable first end before after → HoldsAll first.journal end before after
+  pub holds_all : (first : TableModel) (end : Journal) (before after : ℕ) → EndsOn durable heard_before first end before after → HoldsAll first.journal end before after
   holds_all first end before after ends =
       let counts = ends.counts in
       let grows = goes_on_grows first ends.opening ends.accepted ends.goes in
       let below = begins_below end ends.opening.journal ends.begins in omega (arith, counts, grows, below)
 
   -- If the end is the opening journal of the next run, it has positions for no other changes.
-  pub holds_just : (first opening : TableModel) (end : Journal) (accepted before after : ℕ) → GoesOn durable first opening accepted
+  pub holds_just : (first opening : TableModel) (end : Journal) (accepted before after : ℕ) → GoesOn durable heard_before first opening accepted
       → end ≡ opening.journal → after ≡ before + accepted → HoldsJust first.journal end before after
   holds_just first opening end accepted before after goes same counts =
       let grows = goes_on_grows first opening accepted goes in
@@ -214,9 +215,9 @@ module _ (durable : ℕ → Type 0) where
 
   -- After one more run, the journals lead to the next one, and the count includes its changes.
   pub grows_then : (first opening last next : TableModel) (served : List ServedView) (accepted before added now mid after : ℕ)
-      → GoesOn durable first opening accepted → IsReturnedRunOf durable opening last served → LeadsTo last next → now ≡ before + accepted → mid ≡ now + added
+      → GoesOn durable heard_before first opening accepted → IsReturnedRunOf durable heard_before opening last served → LeadsTo last next → now ≡ before + accepted → mid ≡ now + added
       → accepted_of served ≡ added → after ≡ mid
-      → (all : ℕ) × GoesOn durable first next all × (after ≡ before + all)
+      → (all : ℕ) × GoesOn durable heard_before first next all × (after ≡ before + all)
   grows_then first opening last next served accepted before added now mid after goes run leads counts counted same stays = (
     accepted + accepted_of served,
     goes_on_then first opening next accepted _ goes run.1 leads,
@@ -224,16 +225,16 @@ module _ (durable : ℕ → Type 0) where
   )
 
   -- Runs may end with the journal to which they lead.
-  pub ends_now : (first now : TableModel) (before after : ℕ) → ((all : ℕ) × GoesOn durable first now all × (after ≡ before + all))
-      → EndsOn durable first now.journal before after
+  pub ends_now : (first now : TableModel) (before after : ℕ) → ((all : ℕ) × GoesOn durable heard_before first now all × (after ≡ before + all))
+      → EndsOn durable heard_before first now.journal before after
   ends_now first now before after grown = ends_at first now now.journal grown.0 before after grown.1 (begins_with_itself now.journal) grown.2
 
   -- The journal to which runs lead has positions for exactly the changes that they reported.
-  pub holds_now : (first now : TableModel) (before after : ℕ) → ((all : ℕ) × GoesOn durable first now all × (after ≡ before + all))
+  pub holds_now : (first now : TableModel) (before after : ℕ) → ((all : ℕ) × GoesOn durable heard_before first now all × (after ≡ before + all))
       → HoldsJust first.journal now.journal before after
   holds_now first now before after grown = holds_just first now now.journal grown.0 before after grown.1 refl grown.2
 
   -- A run, as it returns, is a returned run with its last journal and outcomes.
-  pub term_of : (opening last : TableModel) (told : List (Option (List Event))) (served : List ServedView)
-      → IsRun durable opening.journal last.journal opening.stopped last.stopped told served → IsReturnedRunOf durable opening last served
-  term_of opening last told served run = (positions_on run.connections, record { told = told; run = run; positions = refl })
+  pub term_of : (opening last : TableModel) (told : List (Option (List Event))) (served : List ServedView) → All heard_before told
+      → IsRun durable opening.journal last.journal opening.stopped last.stopped told served → IsReturnedRunOf durable heard_before opening last served
+  term_of opening last told served new run = (positions_on run.connections, record { told = told; new = new; run = run; positions = refl })

@@ -1,4 +1,4 @@
-//! Successive runs of workers. Between two runs the journal is rebased into a new sink.
+//! Successive runs of workers. Between two runs the journal is compacted into a new sink.
 #![tactic(auto)]
 
 mod runs;

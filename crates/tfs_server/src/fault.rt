@@ -38,7 +38,10 @@ pub(crate) fn fault_of_opening(fault: OpenFault) -> CompactionFault {
     match fault {
         OpenFault::NoMemory => CompactionFault::NoMemory,
         OpenFault::TooFar => CompactionFault::TooFar,
-        _ => CompactionFault::CannotWrite,
+        OpenFault::SinkFault
+        | OpenFault::Damaged(_)
+        | OpenFault::Unlawful(_)
+        | OpenFault::TornBase => CompactionFault::CannotWrite,
     }
 }
 

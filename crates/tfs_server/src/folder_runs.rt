@@ -1,6 +1,7 @@
 //! The files, the listener and the gates of a folder's runs.
 
-ghost use Rattle.std.specs.Prelude.{◌≡◌, ◌<◌, length, IfOk};
+ghost use Rattle.std.specs.Prelude.{◌≡◌, ◌<◌, All, [], Some, length, map, IfOk};
+ghost use Rattle.tfs_serve.specs.Heard.{events_of};
 
 use crate::fault::{CompactionFault, fault_of, fault_of_opening};
 use crate::gate::Watching;
@@ -18,7 +19,7 @@ use std::sync::{Arc, Mutex, Wait};
 use tfs_durable::{Durable, FileDevice};
 use tfs_files::{DurableJournal, JournalSink, PositionFile, ServedJournal};
 use tfs_runs::{NotCompacted, Runs, Tally};
-use tfs_serve::{AcceptFault, AnyListener, AnyStream, Served, first_fault};
+use tfs_serve::{AcceptFault, AnyListener, AnyStream, Heard, Served, first_fault};
 use tfs_table::Table;
 
 /// The runs of a folder: what they share, what to report when the next one starts, and the journal
@@ -62,7 +63,7 @@ impl<'t, 'w, R: AllocGlobal + Wait> FolderRuns<'t, 'w, R> {
 }
 
 impl<'t, 'w, R: AllocGlobal + Wait + Sync> Runs for FolderRuns<'t, 'w, R> {
-    ghost use Rattle.std.specs.Prelude.{◌≡◌, ◌≤◌, ◌<◌, ◌+◌, [], false, length, sum_by, IfOk, OnOk, OnErr, IfSome};
+    ghost use Rattle.std.specs.Prelude.{◌≡◌, ◌≤◌, ◌<◌, ◌+◌, All, [], Some, false, length, map, sum_by, IfOk, OnOk, OnErr, IfSome};
     ghost use Rattle.tfs_runs.specs.declared.runs.NotCompacted.TheVariants.{Failed};
     ghost use Rattle.tfs_server.specs.declared.fault.CompactionFault.TheVariants.{Replaced, Unsynced};
 
@@ -81,6 +82,9 @@ impl<'t, 'w, R: AllocGlobal + Wait + Sync> Runs for FolderRuns<'t, 'w, R> {
     ghost placed = { λ t. t.placed.value.journal };
 
     ghost reported = { λ t. t.reported.count };
+
+    // A new gate has heard of nothing.
+    ghost heard_before = { λ told. told ≡ Some [] };
 
     fn gates(
         &self,
@@ -199,6 +203,7 @@ fn gates_of<'t, 'w, R: AllocGlobal + Wait>(
     durable: &Arc<Durable<FileDevice>>,
 ) -> Result<Vec<Watching<'t, 'w, R>>, AllocError>
     ensures as_many { IfOk result (λ gates. length gates.items ≡ folder_runs.now.plan.now.workers) }
+    ensures new { IfOk result (λ gates. All (λ gate. events_of gate.heard ≡ []) gates.items) }
 {
     let alloc = folder_runs.rt.alloc();
     let number = folder_runs.plan.workers;
@@ -209,11 +214,13 @@ fn gates_of<'t, 'w, R: AllocGlobal + Wait>(
     Ok(gates)
 }
 
-/// Makes the gate of a worker.
+/// Makes the gate of a worker, which has heard of nothing.
 fn gate_of<'t, 'w, R: AllocGlobal + Wait>(
     folder_runs: &FolderRuns<'t, 'w, R>,
     durable: Arc<Durable<FileDevice>>,
-) -> Result<Watching<'t, 'w, R>, AllocError> {
+) -> Result<Watching<'t, 'w, R>, AllocError>
+    ensures new { IfOk result (λ gate. events_of gate.heard ≡ []) }
+{
     Ok(Watching {
         rt: folder_runs.rt,
         watch: folder_runs.watch,
@@ -221,5 +228,6 @@ fn gate_of<'t, 'w, R: AllocGlobal + Wait>(
         journal: folder_runs.journal.clone()?,
         least: folder_runs.least,
         serves_reads: folder_runs.plan.serves_reads,
+        heard: Heard::new(),
     })
 }

@@ -6,7 +6,7 @@ use crate::watch::Watch;
 use std::sync::{Arc, Mutex, MutexGuard, Wait};
 use tfs_durable::{Durable, FileDevice};
 use tfs_files::{PositionFile, ServedJournal};
-use tfs_serve::Gate;
+use tfs_serve::{Gate, Heard};
 use tfs_table::{Call, Refusal, Reply};
 
 /// A gate that admits every connection until conversations are to end. It does nothing more once
@@ -26,6 +26,8 @@ pub(crate) struct Watching<'g, 'w, R: AllocGlobal + Wait> {
     pub(crate) journal: Arc<ServedJournal>,
     pub(crate) least: &'g Mutex<Option<PositionFile>>,
     pub(crate) serves_reads: bool,
+    /// What it has heard. Only proofs use it.
+    pub(crate) heard: Heard,
 }
 
 impl<'g, 'w, R: AllocGlobal + Wait> Watching<'g, 'w, R> {
@@ -37,21 +39,9 @@ impl<'g, 'w, R: AllocGlobal + Wait> Watching<'g, 'w, R> {
         }
         MutexGuard::unlock(guard);
     }
-}
 
-impl<'g, 'w, R: AllocGlobal + Wait> Gate for Watching<'g, 'w, R> {
-    ghost use Rattle.std.specs.Prelude.{None};
-
-    ghost told = { λ gate. None };
-
-    fn admit(&mut self) -> bool {
-        self.watch.look_between(&self.journal);
-        !self.watch.is_ended()
-    }
-
-    fn before(&mut self, _call: &Call) {}
-
-    fn after(&mut self, reply: &Reply) {
+    /// Acts on a reply, unless nothing is to be written to any client.
+    fn heed(&self, reply: &Reply) {
         if self.watch.is_muted() {
             return;
         }
@@ -70,5 +60,28 @@ impl<'g, 'w, R: AllocGlobal + Wait> Gate for Watching<'g, 'w, R> {
             Reply::State(_) | Reply::Impact(_) | Reply::Refused(_) => {}
         }
         self.watch.look_between(&self.journal);
+    }
+}
+
+impl<'g, 'w, R: AllocGlobal + Wait> Gate for Watching<'g, 'w, R> {
+    ghost use Rattle.std.specs.Prelude.{Some};
+    ghost use Rattle.tfs_serve.specs.Heard.{events_of};
+
+    ghost told = { λ gate. Some (events_of gate.heard) };
+
+    fn admit(&mut self) -> bool {
+        self.watch.look_between(&self.journal);
+        let admits = !self.watch.is_ended();
+        self.heard.record_answer(admits);
+        admits
+    }
+
+    fn before(&mut self, call: &Call) {
+        self.heard.record_call(call);
+    }
+
+    fn after(&mut self, reply: &Reply) {
+        self.heard.record_reply(reply);
+        self.heed(reply);
     }
 }

@@ -1,6 +1,6 @@
 //! Serving a folder in runs, with a compaction between two of them.
 
-ghost use Rattle.std.specs.Prelude.{◌≡◌, ◌≤◌};
+ghost use Rattle.std.specs.Prelude.{◌≡◌, ◌≤◌, [], Some};
 ghost use Rattle.tfs_durable.specs.Counts.{Covers};
 ghost use Rattle.tfs_table.specs.Table.{model_of};
 ghost use Rattle.tfs_runs.specs.Runs.{EndsOn, HoldsAll};
@@ -70,8 +70,9 @@ pub struct Left {
 }
 
 /// Serves a folder in runs, with a compaction between two of them, until an error ends it. In each
-/// run that returned, before a byte of a reply was written, the file was synced after the bytes of
-/// the journal that the reply was answered over were written.
+/// run that returned, each worker's gate heard of exactly the worker's calls and replies, in order,
+/// and before a byte of a reply was written, the file was synced after the bytes of the journal that
+/// the reply was answered over were written.
 pub fn serve_folder<R: AllocGlobal + Threads + Wait + Clock + Sync>(
     rt: &R,
     host: &HostRuntime,
@@ -79,7 +80,7 @@ pub fn serve_folder<R: AllocGlobal + Threads + Wait + Clock + Sync>(
     plan: &Plan<'_>,
     begun: StartedFolder<'_>,
 ) -> Left
-    ensures ends { EndsOn (Covers ⟦<FileDevice as Device>⟧.synced) (model_of begun.entry.table) result.table.journal 0 result.reported.count }
+    ensures ends { EndsOn (Covers ⟦<FileDevice as Device>⟧.synced) (λ told. told ≡ Some []) (model_of begun.entry.table) result.table.journal 0 result.reported.count }
     ensures holds { HoldsAll begun.entry.table.journal result.table.journal 0 result.reported.count }
 {
     let StartedFolder {

@@ -1,9 +1,28 @@
--- If the folder isn't read, there are no runs.
+-- If the folder isn't read, there are no runs. The gates of a run may move to other threads.
+use denote.Exit.{no}
+use denote.Param.Send.{IsSend, IsSync, sendable, param_send, arg_send}
+use denote.RattleType.{RattleType}
+use denote.Ref.{NamedLft}
+use Rattle.std.proofs.Crossing.{crosses}
 use Rattle.std.proofs.Common.{ℕ, refl, ap}
 use Rattle.tfs_table.specs.Table.{model_of}
 use Rattle.tfs_published.proofs.Beginnings.{begins_with_itself}
 use Rattle.tfs_runs.proofs.Going.{goes_nowhere, ends_at, holds_all, same_begins}
+use Rattle.tfs_durable.proofs.file.FileDevice.TheSendSync as device
+use Rattle.tfs_files.proofs.guard.ServedJournal.TheSendSync as journal
+use Rattle.tfs_serve.specs.contracts.heard.Heard as Heard
+use Rattle.tfs_server.proofs.watch.Watch.TheSendSync as watch
+use Rattle.tfs_server.specs.contracts.gate.Watching as Watching
 use Rattle.tfs_server.proofs.serve.serve_folder.Goals as goal
+
+heard_send : IsSend Heard.the_row
+heard_send = search sendable depth 20
+
+watching_send : (a b : NamedLft) (R : RattleType) → IsSync R → IsSend (Watching.the_row a b R)
+watching_send a b R s = search (sendable, crosses, heard_send, watch.the_sync, device.the_send, journal.the_send, journal.the_sync) depth 40
+
+pub serve_runs-table-requires-send-T-Gate : goal.serve_runs-table-requires-send-T-Gate
+serve_runs-table-requires-send-T-Gate g c κs within = param_send _ _ (arg_send _ no _ (watching_send _ _ _ c.type_bounds.sync-R))
 
 pub returns-in_default : goal.returns-in_default
 returns-in_default g c =
@@ -11,7 +30,7 @@ returns-in_default g c =
     let last = c.unread.result.table.journal in
     let begins = same_begins first.journal last first.journal first.journal (ap (λ t. t.journal) c.unread.ensures.table) refl
     (begins_with_itself first.journal) in record {
-      ends = ends_at _ first first last 0 0 _ (goes_nowhere _ first) begins c.unread.ensures.reported;
-      holds = holds_all (λ (n : ℕ). Unit {0}) first last 0 _
-          (ends_at _ first first last 0 0 _ (goes_nowhere _ first) begins c.unread.ensures.reported);
+      ends = ends_at _ _ first first last 0 0 _ (goes_nowhere _ _ first) begins c.unread.ensures.reported;
+      holds = holds_all (λ (n : ℕ). Unit {0}) (λ told. Unit {0}) first last 0 _
+          (ends_at _ _ first first last 0 0 _ (goes_nowhere _ _ first) begins c.unread.ensures.reported);
     }
