@@ -10,6 +10,7 @@ use std::alloc::{AllocError, Global};
 use std::time::SystemTime;
 use std::{fs, io};
 use tfs_files::{journal_path, numbers_in};
+use tfs_table::MAX_NAMES;
 use tfs_versions::Measures;
 
 /// A metric: its name, and its help text.
@@ -125,6 +126,11 @@ fn add_numbers(alloc: Global, text: &mut String, of: &Measures) -> Result<(), Al
             of.entries,
         ),
         ("tfstated_workspaces", "Names of workspaces.", of.names),
+        (
+            "tfstated_workspaces_limit",
+            "The greatest number of names of workspaces.",
+            MAX_NAMES,
+        ),
         (
             "tfstated_instances",
             "Resource instances of the newest states.",

@@ -2,7 +2,7 @@
 
 ghost use Rattle.std.specs.Prelude.{◌≡◌, ◌++◌, filter, map, slice_get, string_bytes, IfOk, OnOk};
 ghost use Rattle.std.specs.Cmp.Lexicographic.{slice_cmp};
-ghost use Rattle.std.specs.List.Sorted.{IsSortedByKey};
+ghost use Rattle.std.specs.List.Sorted.{IsPermutation, IsSortedByKey};
 ghost use Rattle.std.specs.Option.{option_to_list};
 ghost use Rattle.std.specs.Ordering.{nat_cmp};
 ghost use Rattle.tfs_records.specs.Journal.{names_of};
@@ -25,8 +25,16 @@ pub(crate) fn names_of<K: Sink>(
         names.items) }
 {
     let mut names = names_numbered(alloc, table, is_held_only)?;
-    names.sort_unstable();
+    sort(&mut names);
     Ok(names)
+}
+
+/// Sorts names by their bytes.
+fn sort(names: &mut Vec<String>)
+    ensures same { IsPermutation names.old.items names.new.items }
+    ensures rise { IsSortedByKey string_bytes (slice_cmp nat_cmp) names.new.items }
+{
+    names.sort_unstable();
 }
 
 /// Returns the listed names in the table's order.

@@ -6,6 +6,6 @@ use Rattle.tfs_reports.proofs.names.names_of.Goals as goal
 
 pub returns-clause-all : goal.returns-clause-all
 returns-clause-all g c =
-    subst (λ (names : List (List ℕ)). IsPermutation names (map string_bytes c.sort_unstable.new.self.items))
+    subst (λ (names : List (List ℕ)). IsPermutation names (map string_bytes c.sort.new.names.items))
     c.in_ok-names.ensures
-    (IsPermutation-map string_bytes _ _ c.sort_unstable.ensures.permutation)
+    (IsPermutation-map string_bytes _ _ c.sort.ensures.same)
