@@ -1,0 +1,3 @@
+pub mod Across
+pub mod Address
+pub mod Reads

@@ -1,0 +1,5 @@
+mod ChainLemmas
+mod FilterLemmas
+mod FindLemmas
+mod PlanLemmas
+mod ReachLemmas
