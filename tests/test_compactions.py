@@ -1,6 +1,7 @@
 """Runs `tfstatectl serve` with compactions: many in a row under clients, requested ones,
 compactions on full disks, kills inside them, and Terraform. No acknowledged change may be missing,
 and clients that retry as Terraform does see no error."""
+import functools
 import http.client
 import json
 import os
@@ -19,7 +20,7 @@ from checking import S1, STARTED, expect
 from folder_program import STATUSES, limit_files, run
 from folders import A, B, LOOPBACK, all_of, at_once, fresh, journals, named
 from programs import preloaded
-from pushers import SECONDS, TRIES, Pusher, has_come, newest, serials_of, serving
+from pushers import GONE, SECONDS, TRIES, Pusher, has_come, newest, serials_of, serving
 from serve_program import reply_of
 from stdio_program import request_text
 
@@ -216,13 +217,25 @@ def test_a_journal_that_fails_in_a_later_run_ends_the_server():
     reads.kill()
 
 
-def killed_at(turn):
+class Freeing(Pusher):
+    """A client that makes and deletes a name before each push, so that compactions free names."""
+
+    def push(self):
+        for method, body in (("POST", S1), ("DELETE", None)):
+            try:
+                self.server.ask(method, f"/state/gone-{self.acknowledged}", body)
+            except GONE:
+                pass
+        return super().push()
+
+
+def killed_at(client, turn):
     """Kills a server before the call with this number, while a client pushes, and checks that the
     next start has all that was acknowledged. Returns the number of retired journals."""
     folder = fresh()
     how = {"env": {**os.environ, "LD_PRELOAD": SHIM, "TURN": str(turn)}}
     server = serving(folder, "--compact-entries", "3", **how)
-    pusher = Pusher(server, "a")
+    pusher = client(server, "a")
     pusher.push_until_gone()
     expect(server.end()[0], -signal.SIGKILL, f"turn {turn}")
     again = serving(folder)
@@ -232,11 +245,12 @@ def killed_at(turn):
     return len(journals(folder / "old"))
 
 
-def test_a_kill_at_each_call_of_compactions_loses_nothing():
+@pytest.mark.parametrize("client", [Pusher, Freeing])
+def test_a_kill_at_each_call_of_compactions_loses_nothing(client):
     count = fresh() / "count"
     serving(fresh(), env={**os.environ, "LD_PRELOAD": SHIM, "TURN": "0", "COUNT": str(count)}).kill()
     first = len(count.read_bytes())
-    olds = at_once(killed_at, range(first + 1, first + 49))
+    olds = at_once(functools.partial(killed_at, client), range(first + 1, first + 49))
     expect(max(olds) > 2, True, "some kills came after turns")
 
 

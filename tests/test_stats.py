@@ -30,7 +30,8 @@ def short(text):
 
 
 def wanted(size, entries, position, workspaces, instances, locks):
-    return {"journal_bytes": size, "journal_entries": entries, "changes_total": position, "workspaces": workspaces, "instances": instances, "locks": locks}
+    return {"journal_bytes": size, "journal_entries": entries, "changes_total": position, "workspaces": workspaces, "workspaces_limit": 1024,
+            "instances": instances, "locks": locks}
 
 
 def lock(name, created):

@@ -8,7 +8,7 @@ from repository import TOP, chosen
 from screen import Screen, run, script
 
 TESTS = ["deploy_pages.py", "deploy_package.py", "deploy_release.py", "deploy_front.py", "deploy_nginx.py", "deploy_users.py", "deploy_page.py"]
-OF_TERRAFORM = ["deploy_terraform.py", "deploy_commands.py", "deploy_impact.py"]
+OF_TERRAFORM = ["deploy_terraform.py", "deploy_commands.py", "deploy_impact.py", "deploy_diff.py"]
 
 
 def main(wanted):

@@ -41,6 +41,13 @@ def started(number, data):
     return b"TFJ2\n" + base_text(position, rows)
 
 
+def compacted(number, data):
+    """Returns the text that a compaction writes to continue a journal: without the names that have
+    neither a state nor a holder."""
+    position, rows = opened(number, data)
+    return b"TFJ2\n" + base_text(position, [row for row in rows if any(row[1:])])
+
+
 def chosen(files, least=0):
     """Returns the number and the bytes of the journal that a start continues, and the number of a
     journal that a failed start left, or None."""
@@ -49,9 +56,9 @@ def chosen(files, least=0):
         raise Fault("NoJournal", None)
     own, left = journals[-1], None
     for before, after in zip(journals, journals[1:]):
-        text = started(*before)
-        if not after[1].startswith(text):
-            if after != own or not text.startswith(after[1]):
+        texts = started(*before), compacted(*before)
+        if not after[1].startswith(texts):
+            if after != own or not any(text.startswith(after[1]) for text in texts):
                 opened(*after)
                 raise Fault("Diverged", after[0])
             own, left = before, after[0]

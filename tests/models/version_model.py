@@ -230,7 +230,7 @@ def counts(here):
     table, size = journal.table, len(journal.entries)
     names = {row[0] for row in journal.rows} | {entry[1] for entry in journal.entries}
     found = {"tfstated_journal_bytes": journal.bytes, "tfstated_journal_entries": size, "tfstated_changes_total": journal.base + size,
-             "tfstated_workspaces": len(names), "tfstated_instances": sum(numbers_of(state[2])["instances"] for state in table.states.values()),
+             "tfstated_workspaces": len(names), "tfstated_workspaces_limit": 1024, "tfstated_instances": sum(numbers_of(state[2])["instances"] for state in table.states.values()),
              "tfstated_locks": len(table.holders)}
     return found, (fault, number) if fault else None
 

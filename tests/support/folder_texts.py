@@ -2,7 +2,7 @@
 cut, grown, swapped or renamed."""
 from hypothesis import strategies as st
 
-from folder_model import Fault, started
+from folder_model import Fault, compacted, started
 from folders import named
 from journal_texts import RECORDS, journal_texts, one_in, up_to
 
@@ -13,6 +13,7 @@ SOME = [
     st.lists(st.integers(1, 29), unique=True, min_size=count, max_size=count) for count in range(5)]
 MORE = st.sampled_from([0, 0, 1, 2])
 KINDS = st.sampled_from(["none", "none", "cut", "cut last", "grow", "swap", "rename"])
+WRITERS = st.sampled_from([started, compacted])
 OTHER_NAMES = st.sampled_from([f"{named(31)}.tfj.part", "copy", f"{named(31)}.tfj"])
 
 
@@ -43,7 +44,7 @@ def followed_files(draw):
         if not is_sound(journal):
             journal = sound(draw, JOURNALS)
         elif not draw(one_in(20)):
-            journal = started(number, journal)
+            journal = draw(WRITERS)(number, journal)
     return files
 
 

@@ -31,9 +31,10 @@ fn read_gated<J: Naming, K: Sink, R: Wait + Abort + Alloc<A = Global>>(
     service: &Service<'_, J, K, R>,
     session: &mut Session<J>,
 ) -> Reply {
+    let mut gate = Shut::new();
     let mut gated = Gated {
         desk: SessionDesk { service, session },
-        gate: &mut Shut,
+        gate: &mut gate,
     };
     gated.answer(Call::Read(name_of(rt)))
 }
@@ -64,7 +65,7 @@ fn works<J: Naming, K: Sink, R: Wait + Clock + Abort + Alloc<A = Global>>(
         load: &load,
     };
     is_no_state(rt, read_gated(rt, &service, session));
-    assert!(rt; work(&service, listener, &mut Shut, session) == Ok(()));
+    assert!(rt; work(&service, listener, &mut Shut::new(), session) == Ok(()));
 }
 
 /// Runs sessions, alone and as workers, with gates that admit nobody. Returns the sessions.
@@ -82,7 +83,7 @@ pub(crate) fn work_shut<
     for mut session in sessions {
         works(rt, shared, listener, &mut session);
         let worker = Worker {
-            gate: Shut,
+            gate: Shut::new(),
             session,
             failed: true,
         };

@@ -6,6 +6,8 @@
 #[cfg(test)]
 mod closed;
 #[cfg(test)]
+mod compacted;
+#[cfg(test)]
 mod connections;
 #[cfg(test)]
 mod conversations;
@@ -63,6 +65,8 @@ mod syncs_in_order;
 mod texts;
 #[cfg(test)]
 mod waiting;
+#[cfg(test)]
+mod withheld;
 #[cfg(test)]
 mod within;
 #[cfg(test)]

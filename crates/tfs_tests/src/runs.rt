@@ -1,6 +1,7 @@
 //! A run that doesn't begin, and a gate that admits nobody.
 
-ghost use Rattle.std.specs.Prelude.{◌≡◌, length};
+ghost use Rattle.std.specs.Prelude.{◌≡◌, [], length};
+ghost use Rattle.tfs_serve.specs.Heard.{events_of};
 
 use crate::shared::table_of;
 use std::net::TcpListener;
@@ -8,29 +9,48 @@ use std::process::Abort;
 use std::test::Fail;
 use tfs_calls::{Call, Reply};
 use tfs_records::Discard;
-use tfs_serve::{Gate, Obstacle, Unserved, serve};
+use tfs_serve::{Gate, Heard, Obstacle, Unserved, serve};
 
-/// A gate that admits nobody.
+/// A gate that admits nobody, and records what it hears for proofs.
 #[derive(Drop)]
-pub(crate) struct Shut;
+pub(crate) struct Shut {
+    pub(crate) heard: Heard,
+}
+
+impl Shut {
+    /// Returns a gate that has heard of nothing.
+    pub(crate) fn new() -> Shut
+        ensures { events_of result.heard ≡ [] }
+    {
+        Shut {
+            heard: Heard::new(),
+        }
+    }
+}
 
 impl Gate for Shut {
-    ghost use Rattle.std.specs.Prelude.{None};
+    ghost use Rattle.std.specs.Prelude.{Some};
+    ghost use Rattle.tfs_serve.specs.Heard.{events_of};
 
-    ghost told = { λ gate. None };
+    ghost told = { λ gate. Some (events_of gate.heard) };
 
     fn admit(&mut self) -> bool {
+        self.heard.record_answer(false);
         false
     }
 
-    fn before(&mut self, _call: &Call) {}
+    fn before(&mut self, call: &Call) {
+        self.heard.record_call(call);
+    }
 
-    fn after(&mut self, _reply: &Reply) {}
+    fn after(&mut self, reply: &Reply) {
+        self.heard.record_reply(reply);
+    }
 }
 
 #[test]
 fn a_table_without_a_listener_comes_back(rt: HostRuntime) -> Result<(), Fail> {
-    let gates = vec![in rt.alloc(); Shut]?;
+    let gates = vec![in rt.alloc(); Shut::new()]?;
     let table = table_of(&rt, Discard, 1);
     let made = serve(&rt, rt.alloc(), table, gates, || Err::<TcpListener, u8>(7));
     is_unserved(&rt, made.err());

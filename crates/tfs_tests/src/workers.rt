@@ -13,7 +13,7 @@ use std::thread::Threads;
 use std::time::{Clock, Duration};
 use tfs_calls::{Call, Reply};
 use tfs_records::{Discard, Sink};
-use tfs_serve::{Gate, Worker, work_all};
+use tfs_serve::{Gate, Heard, Worker, work_all};
 use tfs_shared::{Naming, Session, Shared};
 
 /// A query for what `t.a` reaches, after which the connection ends.
@@ -30,6 +30,7 @@ struct Meeting<'m, R: Clock> {
     come: &'m AtomicU64,
     is_open: bool,
     met: bool,
+    heard: Heard,
 }
 
 impl<'m, R: Clock> Meeting<'m, R> {
@@ -40,33 +41,44 @@ impl<'m, R: Clock> Meeting<'m, R> {
             come,
             is_open: true,
             met: false,
+            heard: Heard::new(),
         }
+    }
+
+    /// Waits for another gate's request, for 10 seconds. Returns true if there are two requests.
+    fn wait_for_other(&self) -> bool {
+        self.come.fetch_add(1, Ordering::SeqCst);
+        for _turn in 0..10_000 {
+            if 2 <= self.come.load(Ordering::SeqCst) {
+                return true;
+            }
+            thread::sleep(self.rt, Duration::from_millis(1));
+        }
+        false
     }
 }
 
 impl<'m, R: Clock> Gate for Meeting<'m, R> {
-    ghost use Rattle.std.specs.Prelude.{None};
+    ghost use Rattle.std.specs.Prelude.{Some};
+    ghost use Rattle.tfs_serve.specs.Heard.{events_of};
 
-    ghost told = { λ gate. None };
+    ghost told = { λ gate. Some (events_of gate.heard) };
 
     fn admit(&mut self) -> bool {
         let admits = self.is_open;
         self.is_open = false;
+        self.heard.record_answer(admits);
         admits
     }
 
-    fn before(&mut self, _call: &Call) {
-        self.come.fetch_add(1, Ordering::SeqCst);
-        for _turn in 0..10_000 {
-            if 2 <= self.come.load(Ordering::SeqCst) {
-                self.met = true;
-                return;
-            }
-            thread::sleep(self.rt, Duration::from_millis(1));
-        }
+    fn before(&mut self, call: &Call) {
+        self.heard.record_call(call);
+        self.met = self.wait_for_other();
     }
 
-    fn after(&mut self, _reply: &Reply) {}
+    fn after(&mut self, reply: &Reply) {
+        self.heard.record_reply(reply);
+    }
 }
 
 #[test]
