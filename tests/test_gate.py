@@ -1,5 +1,6 @@
 """Tests the gate itself: what collecting the tests does, which of them count as failed, which
-packages it needs, and that a program older than its sources is built again."""
+packages it needs, that a program older than its sources is built again, and that a proof cites a
+trusted lemma only if it is listed."""
 import ast
 import os
 import re
@@ -15,6 +16,7 @@ import checks
 from checking import expect
 from packages import COMMANDS, FILES, MODULES
 from repository import TOP
+from trusted_lemmas import wrong_citations
 
 COLLECTING_SECONDS = 5
 REPORT = """<testsuites><testsuite>
@@ -124,3 +126,36 @@ def test_an_older_program_is_built_again(tmp_path, monkeypatch, capsys, built_at
     monkeypatch.delenv("TFS_PROBE", raising=False)
     expect((built.program("tfs_probe"), builds), (str(program), ["tfs_probe"] * is_built))
     expect("the variable TFS_PROBE" in capsys.readouterr().err, is_built, "a notice before")
+
+
+FACTS = """pub IsDone : Nat -> Type 0
+IsDone n = Unit {0}
+
+pub done : (n : Nat)
+    -> IsDone n
+unfolding IsDone
+done n = tt
+"""
+ACT = "#[tactic(auto, using(low::specs::Facts::done))]\nfn act() {}\n"
+
+
+@pytest.mark.parametrize("path, text, wrong", [
+    ("low/src/lib.rt", "// done\n" + ACT, 0),
+    ("low/src/lib.rt", ACT + ACT, 1),
+    ("low/src/lib.rt", ACT.replace("auto, ", "auto,\n"), 2),
+    ("low/src/lib.rt", ACT.replace("fn", "impl A for B {\nfn"), 2),
+    ("low/src/lib.rt", "fn act() {}\n", 1),
+    ("low/proofs/lib/act/Answers.antt", "use Rattle.low.specs.Facts.{done}\n", 1),
+    ("high/proofs/Lemmas.antt", "use Rattle.low.specs.Facts as facts\nmade n = facts.done n\n", 1),
+    ("high/src/lib.rt", ACT, 1),
+    ("high/proofs/Lemmas.antt", "-- It is done.\nmade n = undone n\n", 0),
+    ("low/specs/Facts.antt", FACTS.replace("pub IsDone", "abbrev pub IsDone"), 1),
+    ("low/specs/Facts.antt", FACTS + "\npub made : IsDone 0\nmade = done 0\n", 0)])
+def test_a_proof_cites_only_the_trusted_lemmas_that_are_listed(tmp_path, path, text, wrong):
+    places = tmp_path / "places.txt"
+    places.write_text("Facts.done low/src/lib.rt act 1: it is done\n")
+    for name, content in (("low/specs/Facts.antt", FACTS), ("low/src/lib.rt", ACT), (path, text)):
+        file = tmp_path / "crates" / name
+        file.parent.mkdir(parents=True, exist_ok=True)
+        file.write_text(content)
+    expect(len(list(wrong_citations(tmp_path / "crates", places))), wrong, path)

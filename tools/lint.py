@@ -1,6 +1,7 @@
 """Checks all Python and shell files of the repository without running them, and the library's code:
-its faults of memory and of sinks, and its requests for room. The last line is `N passed, M failed`,
-out of four: Python, shell, these faults, and these requests."""
+its faults of memory and of sinks, its requests for room, and the trusted lemmas that its proofs
+cite. The last line is `N passed, M failed`, out of five: Python, shell, these faults, these
+requests, and these lemmas."""
 import os
 import shutil
 import subprocess
@@ -11,6 +12,7 @@ from pathlib import Path
 from fault_places import unlisted
 from repository import TOP
 from room_requests import wrong_requests
+from trusted_lemmas import wrong_citations
 
 MADE = {".git", "out", "__pycache__"}
 
@@ -80,9 +82,16 @@ def asks_for_plain_room():
     return not wrong
 
 
+def cites_listed_lemmas():
+    wrong = list(wrong_citations())
+    print("lint: trusted lemmas, by tools/trusted_lemmas.txt", *wrong, sep="\n", flush=True)
+    return not wrong
+
+
 def main():
     found = files()
-    results = [is_good_python(found[".py"]), is_good_shell(found[".sh"]), makes_listed_faults(), asks_for_plain_room()]
+    code = [makes_listed_faults(), asks_for_plain_room(), cites_listed_lemmas()]
+    results = [is_good_python(found[".py"]), is_good_shell(found[".sh"]), *code]
     print(f"{results.count(True)} passed, {results.count(False)} failed", flush=True)
     return 0 if all(results) else 1
 
