@@ -12,6 +12,7 @@ use tfs_folder::{
     choose_beside, name_of, number_of, plan,
 };
 use tfs_records::MemorySink;
+use tfs_stream::Watched;
 use tfs_table::{OpenFault, Table};
 
 /// Returns the file of a word.
@@ -65,11 +66,11 @@ fn readers_of<'f>(
     files: &'f [FolderFile],
     most: usize,
     failing: u64,
-) -> Vec<JournalReader<Pieces<'f>>> {
+) -> Vec<JournalReader<Watched<Pieces<'f>>>> {
     let mut readers = Vec::new(rt.alloc());
     for file in files {
         if let Some(number) = number_of(file.name()) {
-            let reader = Pieces::new(file.bytes(), most, number == failing);
+            let reader = Watched::new(Pieces::new(file.bytes(), most, number == failing));
             let reader = JournalReader { number, reader };
             readers.push(reader).ok().expect(rt, "memory");
         }
@@ -80,7 +81,7 @@ fn readers_of<'f>(
 /// Returns the choice among these readers, in words.
 fn choice_beside(
     alloc: Global,
-    readers: Vec<JournalReader<Pieces<'_>>>,
+    readers: Vec<JournalReader<Watched<Pieces<'_>>>>,
     least: u64,
 ) -> Result<String, AllocError> {
     match choose_beside(alloc, readers, least) {
