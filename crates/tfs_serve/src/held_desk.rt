@@ -11,8 +11,9 @@ ghost use Rattle.tfs_serve.specs.Gate.{before, after, Hears};
 ghost use Rattle.tfs_serve.specs.Hold.{IsDurable};
 ghost use Rattle.tfs_serve.specs.Session.{CatchesUp, CaughtUpStep};
 
-use crate::gate::{Gate, Given};
+use crate::gate::Given;
 use crate::hold::Hold;
+use crate::reports::Reports;
 use crate::session_desk::{Service, reply_to};
 use json::Scratch;
 use std::snapshot::Snapshot;
@@ -34,14 +35,14 @@ pub(crate) struct Post<'p, 's, J: Naming, K: Sink, R: Wait, H: Hold> {
 /// each call before the session is asked, and of the reply. States are read with borrowed memory,
 /// which is reused by all changes.
 #[derive(Drop)]
-pub(crate) struct HeldDesk<'p, 's, 'm, J: Naming, K: Sink, G: Gate, R: Wait, H: Hold> {
+pub(crate) struct HeldDesk<'p, 's, 'm, J: Naming, K: Sink, G: Reports, R: Wait, H: Hold> {
     pub(crate) post: &'p Post<'p, 's, J, K, R, H>,
     pub(crate) session: &'m mut Session<J>,
     pub(crate) gate: &'m mut G,
     pub(crate) scratch: &'m mut Scratch,
 }
 
-impl<'p, 's, 'm, J: Naming, K: Sink, G: Gate, R: Wait, H: Hold> HeldDesk<
+impl<'p, 's, 'm, J: Naming, K: Sink, G: Reports, R: Wait, H: Hold> HeldDesk<
     'p,
     's,
     'm,
@@ -58,11 +59,11 @@ impl<'p, 's, 'm, J: Naming, K: Sink, G: Gate, R: Wait, H: Hold> HeldDesk<
         ensures loans { (self.new.session.ghost_name ≡ self.old.session.ghost_name) × (self.new.gate.ghost_name ≡ self.old.gate.ghost_name) }
         ensures step { CaughtUpStep J.opening self.old.session.now call (reply_value result.0) self.new.session.now }
         ensures held { result.1 ≡ true → IsDurable H.durable self.new.session.now.journal }
-        ensures heard { Hears (G.told self.old.gate.now) (G.told self.new.gate.now) (before call ∷ after (reply_value result.0) ∷ []) }
+        ensures heard { Hears (G.heard self.old.gate.now) (G.heard self.new.gate.now) (before call ∷ after (reply_value result.0) ∷ []) }
     {
         let post = self.post;
         let synced = post.hold.synced();
-        self.gate.before(&call);
+        self.gate.report_call(&call);
         let asked = Snapshot::of(&call);
         let before = Snapshot::of(&*self.session);
         let reply = caught_up_reply(post.service, self.session, self.scratch, call, synced);
@@ -74,12 +75,12 @@ impl<'p, 's, 'm, J: Naming, K: Sink, G: Gate, R: Wait, H: Hold> HeldDesk<
             after: Snapshot::of(&*self.session),
             is_opened,
         };
-        self.gate.after_answer::<J, H>(&given, &reply);
+        self.gate.report_reply::<J, H>(&given, &reply);
         (reply, is_opened)
     }
 }
 
-impl<'p, 's, 'm, J: Naming, K: Sink, G: Gate, R: Wait, H: Hold> OwedDesk
+impl<'p, 's, 'm, J: Naming, K: Sink, G: Reports, R: Wait, H: Hold> OwedDesk
     for HeldDesk<'p, 's, 'm, J, K, G, R, H> {
     ghost use Rattle.std.specs.Prelude.{◌≡◌, ◌∷◌, []};
     ghost use Rattle.tfs_serve.specs.Gate.{before, after, Hears};
@@ -89,7 +90,7 @@ impl<'p, 's, 'm, J: Naming, K: Sink, G: Gate, R: Wait, H: Hold> OwedDesk
     // the call and the reply.
     ghost step = { λ old call said new. (new.session.ghost_name ≡ old.session.ghost_name) × (new.gate.ghost_name ≡ old.gate.ghost_name)
         × HeldStep H.durable J.opening old.session.now call said new.session.now
-        × Hears (G.told old.gate.now) (G.told new.gate.now) (before call ∷ after (reply_said said) ∷ []) };
+        × Hears (G.heard old.gate.now) (G.heard new.gate.now) (before call ∷ after (reply_said said) ∷ []) };
 
     fn reply<W: Outlet>(
         &mut self,

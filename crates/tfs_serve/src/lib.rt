@@ -10,6 +10,7 @@ mod hold;
 mod laws;
 mod leaving;
 mod member;
+mod reports;
 mod run;
 mod runtime;
 mod serving;
