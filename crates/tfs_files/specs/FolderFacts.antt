@@ -15,6 +15,8 @@ pub data Call : Type 0 where
   sync_names : Call
   remove_part : ℕ → Call
   retire : ℕ → ℕ → Call
+  move_aside : ℕ → Call
+  mark_discarded : ℕ → Call
 
 -- The call failed.
 pub HasFailed : List ℕ → Call → Type 0
@@ -55,6 +57,18 @@ IsRemoved folder part = Unit {0}
 -- The journal of this number is in `old/`, durably.
 pub IsRetired : List ℕ → ℕ → Type 0
 IsRetired folder number = Unit {0}
+
+-- The journal of this number was renamed to `failed-start`.
+pub WasMovedAside : List ℕ → ℕ → Type 0
+WasMovedAside folder number = Unit {0}
+
+-- The journal of this number was renamed to `failed-start`, durably.
+pub IsAside : List ℕ → ℕ → Type 0
+IsAside folder number = Unit {0}
+
+-- The journal of this number is marked in `old/` as discarded.
+pub IsDiscarded : List ℕ → ℕ → Type 0
+IsDiscarded folder number = Unit {0}
 
 -- The journal has the bytes of the part file.
 pub HasBytesOf : List ℕ → ℕ → ℕ → Type 0
@@ -113,6 +127,18 @@ host_removed folder part = tt
 pub host_retired : (folder : List ℕ) (number : ℕ) → IsRetired folder number
 unfolding IsRetired
 host_retired folder number = tt
+
+pub host_moved_aside : (folder : List ℕ) (number : ℕ) → WasMovedAside folder number
+unfolding WasMovedAside
+host_moved_aside folder number = tt
+
+pub host_aside : (folder : List ℕ) (number : ℕ) → IsAside folder number
+unfolding IsAside
+host_aside folder number = tt
+
+pub host_discarded : (folder : List ℕ) (number : ℕ) → IsDiscarded folder number
+unfolding IsDiscarded
+host_discarded folder number = tt
 
 pub host_has_bytes : (folder : List ℕ) (number part : ℕ) → HasBytesOf folder number part
 unfolding HasBytesOf

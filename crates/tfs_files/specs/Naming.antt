@@ -1,6 +1,6 @@
 -- How journals get their names, how older ones are retired, and why that fails.
 use Rattle.std.specs.Prelude.{◌≡◌, ◌<◌, ◌⊎◌, ℕ, List, length, slice_index_or}
-use Rattle.tfs_files.specs.FolderFacts.{sync_part, mark_part, look_for, name_part, name_copy, name_new, sync_names, retire, HasFailed, Had, IsNamed, IsRetired}
+use Rattle.tfs_files.specs.FolderFacts.{sync_part, mark_part, look_for, name_part, name_copy, name_new, sync_names, retire, move_aside, HasFailed, Had, IsNamed, IsRetired, WasMovedAside, WasListed}
 use Rattle.tfs_files.specs.declared.naming.NamingFault.{NamingFault}
 use Rattle.tfs_files.specs.declared.naming.NamingFault.TheVariants.{Unnamed, Unsynced}
 use Rattle.tfs_files.specs.declared.fault.CommandEnd.{CommandEnd}
@@ -29,10 +29,19 @@ abbrev pub HasCause : List ℕ → ℕ → ℕ → Type 0 → NamingFault → Ty
 HasCause folder part number cause (Unnamed error) = cause
 HasCause folder part number cause (Unsynced error) = IsNamed folder part number × HasFailed folder sync_names
 
+-- Why a journal isn't set aside durably: it wasn't renamed, or it was, and the sync of the folder's
+-- names failed.
+abbrev pub IsNotAside : List ℕ → ℕ → Type 0
+IsNotAside folder number = HasFailed folder (move_aside number) ⊎ (WasMovedAside folder number × HasFailed folder sync_names)
+
 -- Among the first `count` numbers, each journal before `next` is retired.
 abbrev pub AreRetired : List ℕ → List ℕ → ℕ → ℕ → Type 0
 AreRetired folder numbers next count =
     (k : ℕ) → k < count → slice_index_or numbers k 0 < next → IsRetired folder (slice_index_or numbers k 0)
+
+-- The journals before this one, among all that the folder was found to have, are retired.
+abbrev pub HasTidied : List ℕ → ℕ → Type 0
+HasTidied folder number = (here : List ℕ) × (old : List ℕ) × WasListed folder here old × AreRetired folder here number (length here)
 
 -- The journal of one of the numbers couldn't be retired, although it is before `next`. Those earlier
 -- in the list are retired.

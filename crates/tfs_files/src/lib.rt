@@ -17,6 +17,7 @@ mod old;
 mod own;
 mod past;
 mod position_file;
+mod readers;
 mod retention;
 mod stack;
 mod start;
@@ -24,7 +25,10 @@ mod start;
 pub use copies::{Gap, Originals, below, name_parts, old_file, read_originals, write_parts};
 pub use fault::{CommandEnd, CommandFault, FaultPlace, end_by, status_of};
 pub use first::{FIRST_NUMBER, make_first};
-pub use folder::{files_of, journal_path, numbers_here, numbers_in, old_numbers, refuse_served};
+pub use folder::{
+    Numbers, files_of, journal_path, numbers_here, numbers_in, numbers_of, old_numbers,
+    refuse_served,
+};
 pub use guard::{FolderLock, ServedJournal, lock_folder};
 pub use marks::MOST_MARKED;
 pub use naming::{DurableJournal, FolderFiles, NamingFault, place, place_copy, place_new, retire};
