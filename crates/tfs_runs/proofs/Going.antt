@@ -9,6 +9,7 @@ use Rattle.tfs_calls.specs.Transition.{TableModel}
 use Rattle.tfs_published.specs.Beginning.{BeginsWith}
 use Rattle.tfs_published.proofs.Beginnings.{begins_with_itself, begins_with_earlier}
 use Rattle.tfs_serve.specs.Gate.{Event}
+use Rattle.tfs_serve.specs.Hold.{IsDurable}
 use Rattle.tfs_serve.specs.Serving.{ServedView, IsServed, IsRun, accepted_in, answers_on}
 use Rattle.tfs_serve.specs.Session.{accepted_by}
 use Rattle.tfs_serve.specs.Told.{AreToldOnce, position_told, positions_told, times}
@@ -33,9 +34,9 @@ some_told (a ∷ more) =
     let sums = sum_by-cons (λ (b : Answer). accepted_by b.reply) a more in omega (arith, one, rest, lengths, sums)
 
 -- The opening journal of the next run has the position of the last journal.
-leads_stays : (last next : TableModel) → LeadsTo last next → position_of next.journal ≡ position_of last.journal
-leads_stays last next (inl compact) = compact.compacted.position
-leads_stays last next (inr same) = ap (λ (m : TableModel). position_of m.journal) same
+leads_stays : (durable : ℕ → Type 0) (last next : TableModel) → LeadsTo durable last next → position_of next.journal ≡ position_of last.journal
+leads_stays durable last next (inl compact) = compact.compacted.position
+leads_stays durable last next (inr same) = ap (λ (m : TableModel). position_of m.journal) same
 
 -- The positions of one more run follow the earlier positions.
 positions_then : (t : ReturnedRun) (runs : List ReturnedRun) → positions_of_all (runs ++ t ∷ []) ≡ positions_of_all runs ++ t.positions
@@ -123,7 +124,7 @@ module _ (durable : ℕ → Type 0) (heard_before : Option (List Event) → Type
   goes_by_grows first now [] goes = let same = ap (λ (m : TableModel). position_of m.journal) goes in omega (arith, same)
   goes_by_grows first now (t ∷ runs) goes =
       let grows = term_grows first t goes.1 in
-      let stays = leads_stays t.last goes.0 goes.2 in
+      let stays = leads_stays durable t.last goes.0 goes.2 in
       let more = goes_by_grows goes.0 now runs goes.3 in
       let all = sum_by-cons (λ (u : ReturnedRun). accepted_of u.served) t runs in omega (arith, grows, stays, more, all)
 
@@ -144,7 +145,7 @@ module _ (durable : ℕ → Type 0) (heard_before : Option (List Event) → Type
       let grows = goes_by_grows first now goes.runs goes.goes in omega (arith, counts, grows)
 
   -- Successive runs and one more are successive runs.
-  goes_by_then : (first opening next : TableModel) (t : ReturnedRun) (runs : List ReturnedRun) → GoesBy durable heard_before first runs opening → IsReturnedRun durable heard_before opening t → LeadsTo t.last next
+  goes_by_then : (first opening next : TableModel) (t : ReturnedRun) (runs : List ReturnedRun) → GoesBy durable heard_before first runs opening → IsReturnedRun durable heard_before opening t → LeadsTo durable t.last next
       → GoesBy durable heard_before first (runs ++ t ∷ []) next
   goes_by_then first opening next t [] goes run leads =
       (next, subst (λ (m : TableModel). IsReturnedRun durable heard_before m t) goes run, leads, refl)
@@ -165,7 +166,7 @@ module _ (durable : ℕ → Type 0) (heard_before : Option (List Event) → Type
   goes_nowhere m = goes_not_yet m m refl
 
   -- A run after others adds its accepted changes.
-  pub goes_on_then : (first opening next : TableModel) (accepted : ℕ) (t : ReturnedRun) → GoesOn durable heard_before first opening accepted → IsReturnedRun durable heard_before opening t → LeadsTo t.last next
+  pub goes_on_then : (first opening next : TableModel) (accepted : ℕ) (t : ReturnedRun) → GoesOn durable heard_before first opening accepted → IsReturnedRun durable heard_before opening t → LeadsTo durable t.last next
       → GoesOn durable heard_before first next (accepted + accepted_of t.served)
   goes_on_then first opening next accepted t goes run leads =
       let counts = goes.counts in
@@ -174,7 +175,7 @@ module _ (durable : ℕ → Type 0) (heard_before : Option (List Event) → Type
       let told = goes_by_told first opening goes.runs goes.goes in
       let grows = term_grows opening t run in
       let here = term_told opening t run in
-      let stays = leads_stays t.last next leads in record {
+      let stays = leads_stays durable t.last next leads in record {
         runs = goes.runs ++ t ∷ [];
         goes = goes_by_then first opening next t goes.runs goes.goes run leads;
         counts = omega (arith, counts, more);
@@ -215,7 +216,7 @@ module _ (durable : ℕ → Type 0) (heard_before : Option (List Event) → Type
 
   -- After one more run, the journals lead to the next one, and the count includes its changes.
   pub grows_then : (first opening last next : TableModel) (served : List ServedView) (accepted before added now mid after : ℕ)
-      → GoesOn durable heard_before first opening accepted → IsReturnedRunOf durable heard_before opening last served → LeadsTo last next → now ≡ before + accepted → mid ≡ now + added
+      → GoesOn durable heard_before first opening accepted → IsReturnedRunOf durable heard_before opening last served → LeadsTo durable last next → now ≡ before + accepted → mid ≡ now + added
       → accepted_of served ≡ added → after ≡ mid
       → (all : ℕ) × GoesOn durable heard_before first next all × (after ≡ before + all)
   grows_then first opening last next served accepted before added now mid after goes run leads counts counted same stays = (
@@ -236,5 +237,6 @@ module _ (durable : ℕ → Type 0) (heard_before : Option (List Event) → Type
 
   -- A run, as it returns, is a returned run with its last journal and outcomes.
   pub term_of : (opening last : TableModel) (told : List (Option (List Event))) (served : List ServedView) → All heard_before told
-      → IsRun durable opening.journal last.journal opening.stopped last.stopped told served → IsReturnedRunOf durable heard_before opening last served
-  term_of opening last told served new run = (positions_on run.connections, record { told = told; new = new; run = run; positions = refl })
+      → IsDurable durable opening.journal → IsRun durable opening.journal last.journal opening.stopped last.stopped told served → IsReturnedRunOf durable heard_before opening last served
+  term_of opening last told served new held run =
+      (positions_on run.connections, record { told = told; new = new; held = held; run = run; positions = refl })

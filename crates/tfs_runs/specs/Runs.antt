@@ -5,6 +5,7 @@ use Rattle.tfs_calls.specs.Transition.{TableModel}
 use Rattle.tfs_table.specs.Compact.{IsCompacted}
 use Rattle.tfs_published.specs.Beginning.{BeginsWith}
 use Rattle.tfs_serve.specs.Gate.{Event}
+use Rattle.tfs_serve.specs.Hold.{IsDurable}
 use Rattle.tfs_serve.specs.Serving.{ServedView, IsRun, answers_on}
 use Rattle.tfs_serve.specs.Told.{positions_told, AreToldOnce}
 use Rattle.tfs_serve.specs.Working.{Answer}
@@ -20,12 +21,13 @@ pub record ReturnedRun : Type 0 where
 abbrev pub positions_on : List (List (List Answer)) → List ℕ
 positions_on = flat_map (λ answers. positions_told (answers_on answers))
 
--- A run from an opening journal. This was known of the events that the gates of its workers had
--- heard before. Before a byte of a reply was written, the bytes of the journal that it was answered
--- over were durable.
+-- A run from an opening journal, whose bytes were durable before it. This was known of the events
+-- that the gates of its workers had heard before. Before a byte of a reply was written, the bytes of
+-- the journal that it was answered over were durable.
 pub record IsReturnedRun (durable : ℕ → Type 0) (heard_before : Option (List Event) → Type 0) (opening : TableModel) (t : ReturnedRun) : Type 0 where
   pub told : List (Option (List Event))
   pub new : All heard_before told
+  pub held : IsDurable durable opening.journal
   pub run : IsRun durable opening.journal t.last.journal opening.stopped t.last.stopped told t.served
   pub positions : t.positions ≡ positions_on run.connections
 
@@ -34,22 +36,24 @@ abbrev pub IsReturnedRunOf : (ℕ → Type 0) → (Option (List Event) → Type 
 IsReturnedRunOf durable heard_before opening last served =
     (positions : List ℕ) × IsReturnedRun durable heard_before opening (record { last = last; served = served; positions = positions })
 
--- A compaction of a journal that hasn't stopped into one that hasn't.
-pub record IsCompaction (last next : TableModel) : Type 0 where
+-- A compaction of a journal that hasn't stopped into one that hasn't, whose bytes were durable before
+-- it was put in place.
+pub record IsCompaction (durable : ℕ → Type 0) (last next : TableModel) : Type 0 where
   pub compacted : IsCompacted last.journal next.journal
+  pub held : IsDurable durable next.journal
   pub ran : last.stopped ≡ false
   pub runs : next.stopped ≡ false
 
 -- The journal with which the next run opens: the compacted last journal or, if that wasn't put in
 -- place, the last journal itself.
-abbrev pub LeadsTo : TableModel → TableModel → Type 0
-LeadsTo last next = IsCompaction last next ⊎ (next ≡ last)
+abbrev pub LeadsTo : (ℕ → Type 0) → TableModel → TableModel → Type 0
+LeadsTo durable last next = IsCompaction durable last next ⊎ (next ≡ last)
 
 -- Runs lead from one journal to another.
 abbrev pub GoesBy : (ℕ → Type 0) → (Option (List Event) → Type 0) → TableModel → List ReturnedRun → TableModel → Type 0
 GoesBy durable heard_before first [] now = now ≡ first
 GoesBy durable heard_before first (t ∷ more) now =
-    (next : TableModel) × IsReturnedRun durable heard_before first t × LeadsTo t.last next × GoesBy durable heard_before next more now
+    (next : TableModel) × IsReturnedRun durable heard_before first t × LeadsTo durable t.last next × GoesBy durable heard_before next more now
 
 -- The number of changes that the workers of a run reported as accepted.
 abbrev pub accepted_of : List ServedView → ℕ
