@@ -1,0 +1,4 @@
+pub mod Answers
+pub mod Durations
+pub mod Kind
+pub mod Scrape
