@@ -16,7 +16,7 @@ pub(crate) enum CompactionFault {
     TooFar,
     /// The next journal couldn't be made, or couldn't get its name.
     CannotWrite,
-    /// The next journal has its name, but the name may not be durable.
+    /// The journal of a run, or the name that the next one has got, may not be durable.
     Unsynced,
     /// The folder, its journal or its lock file was replaced.
     Replaced,

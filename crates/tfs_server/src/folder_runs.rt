@@ -5,7 +5,7 @@ ghost use Rattle.tfs_serve.specs.Heard.{events_of};
 
 use crate::fault::{CompactionFault, fault_of, fault_of_opening};
 use crate::gate::Watching;
-use crate::hold::SyncHold;
+use crate::hold::{SyncHold, is_synced};
 use crate::listening::Listening;
 use crate::notice::{Compaction, Notice};
 use crate::placing::{journal_of, length_of, name_new, remove, sink_of};
@@ -16,8 +16,9 @@ use std::cell::Cell;
 use std::snapshot::Snapshot;
 use std::sync::atomic::AtomicBool;
 use std::sync::{Arc, Mutex, Wait};
-use tfs_durable::{Durable, FileDevice};
+use tfs_durable::{Device, Durable, FileDevice};
 use tfs_files::{DurableJournal, JournalSink, PositionFile, ServedJournal};
+use tfs_metrics::{Journal, Meter};
 use tfs_runs::{NotCompacted, Runs, Tally};
 use tfs_serve::{AcceptFault, AnyListener, AnyStream, Heard, Served, first_fault};
 use tfs_table::Table;
@@ -36,6 +37,7 @@ pub(crate) struct FolderRuns<'t, 'w, R: AllocGlobal + Wait> {
     pub(crate) listener: &'t AnyListener,
     pub(crate) notice: Cell<Notice>,
     pub(crate) placed: Snapshot<Table<JournalSink>>,
+    pub(crate) meter: Option<&'t Meter>,
     pub(crate) accepting: Option<AcceptFault>,
     pub(crate) reported: Tally,
 }
@@ -51,10 +53,25 @@ impl<'t, 'w, R: AllocGlobal + Wait> FolderRuns<'t, 'w, R> {
         }
     }
 
+    /// Counts a compaction for which requests waited this many milliseconds, if the notice reports
+    /// one and there is a meter.
+    fn measure(&self, notice: &Notice, waited: u64) {
+        if let (Notice::Compaction(made), Some(meter)) = (notice, self.meter) {
+            meter.compact(self.rt, waited);
+            meter.grow(Journal {
+                position: made.position,
+                bytes: made.after,
+            });
+        }
+    }
+
     /// Keeps the old journal, because the next one couldn't be made: removes its unfinished file,
     /// and has the next attempt wait.
     fn stay(&self, fault: CompactionFault) {
         self.watch.rest();
+        if let Some(meter) = self.meter {
+            meter.fail(self.rt);
+        }
         if let Ok(number) = self.next_number() {
             let _ = remove(self.host, self.plan.folder, number);
             self.notice.set(Notice::Stayed(number, fault_of(fault)));
@@ -64,7 +81,9 @@ impl<'t, 'w, R: AllocGlobal + Wait> FolderRuns<'t, 'w, R> {
 
 impl<'t, 'w, R: AllocGlobal + Wait + Sync> Runs for FolderRuns<'t, 'w, R> {
     ghost use Rattle.std.specs.Prelude.{◌≡◌, ◌≤◌, ◌<◌, ◌+◌, All, [], Some, false, length, map, sum_by, IfOk, OnOk, OnErr, IfSome};
+    ghost use Rattle.tfs_durable.specs.Counts.{Covers};
     ghost use Rattle.tfs_runs.specs.declared.runs.NotCompacted.TheVariants.{Failed};
+    ghost use Rattle.tfs_serve.specs.Hold.{IsDurable};
     ghost use Rattle.tfs_server.specs.declared.fault.CompactionFault.TheVariants.{Replaced, Unsynced};
 
     type Gate = Watching<'t, 'w, R>;
@@ -97,6 +116,10 @@ impl<'t, 'w, R: AllocGlobal + Wait + Sync> Runs for FolderRuns<'t, 'w, R> {
     }
 
     fn hold(&self, table: &Table<JournalSink>) -> Result<SyncHold<'t, 'w, R>, CompactionFault> {
+        if !is_synced(self.rt, table) {
+            self.watch.mute();
+            return Err(CompactionFault::Unsynced);
+        }
         match table.sink().durable().clone() {
             Ok(durable) => Ok(SyncHold {
                 rt: self.rt,
@@ -110,6 +133,7 @@ impl<'t, 'w, R: AllocGlobal + Wait + Sync> Runs for FolderRuns<'t, 'w, R> {
     fn listen(&self) -> Result<Listening<'t, 'w>, CompactionFault> {
         let waited = self.watch.go_on();
         let notice = self.notice.replace(Notice::Nothing);
+        self.measure(&notice, waited);
         if notice.tell(self.host, self.plan, waited).is_err() {
             return Err(CompactionFault::Write);
         }
@@ -151,15 +175,19 @@ impl<'t, 'w, R: AllocGlobal + Wait + Sync> Runs for FolderRuns<'t, 'w, R> {
     }
 
     fn replace(&mut self, next: &Table<JournalSink>) -> Result<(), CompactionFault>
+        ensures durable { OnOk result (IsDurable (Covers ⟦<FileDevice as Device>⟧.synced) next.now.journal) }
         ensures placed { OnOk result (self.new.placed.value.journal ≡ next.now.journal) }
         ensures kept { OnErr result (self.new.placed.value.journal ≡ self.old.placed.value.journal) }
         ensures reported { self.new.reported.count ≡ self.old.reported.count }
-        ensures durable { OnOk result (self.old.in_place.number < self.new.in_place.number) }
+        ensures newer { OnOk result (self.old.in_place.number < self.new.in_place.number) }
     {
         let (folder, number) = (self.plan.folder, self.next_number()?);
         let journal = journal_of(self.host, folder, number)?;
         if !self.watch.holds(&self.journal) {
             return Err(CompactionFault::Replaced);
+        }
+        if !is_synced(self.rt, next) {
+            return Err(CompactionFault::CannotWrite);
         }
         let before = length_of(self.host, folder, self.in_place.number()).unwrap_or(0);
         self.in_place = name_new(self.host, folder, number)?;
@@ -228,6 +256,8 @@ fn gate_of<'t, 'w, R: AllocGlobal + Wait>(
         journal: folder_runs.journal.clone()?,
         least: folder_runs.least,
         serves_reads: folder_runs.plan.serves_reads,
+        meter: folder_runs.meter,
+        begun: None,
         heard: Heard::new(),
     })
 }

@@ -8,8 +8,10 @@ mod hold;
 mod listening;
 mod moments;
 mod notice;
+mod numbers;
 mod placing;
 mod serve;
 mod watch;
 
+pub use numbers::serve_numbers;
 pub use serve::{Bounds, Left, Plan, StartedFolder, serve_folder};

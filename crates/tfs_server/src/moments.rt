@@ -12,6 +12,15 @@ pub(crate) fn now(rt: &impl Clock) -> u64 {
     }
 }
 
+/// Returns the microseconds since a start that is fixed while the program runs, or 0 if the clock
+/// fails.
+pub(crate) fn micros(rt: &impl Clock) -> u64 {
+    match rt.monotonic() {
+        Ok(now) => u64::try_from(now.as_micros()).unwrap_or(u64::MAX),
+        Err(_) => 0,
+    }
+}
+
 /// A moment that threads share.
 #[derive(Drop)]
 pub(crate) struct Moment(AtomicU64);

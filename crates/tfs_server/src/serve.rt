@@ -18,6 +18,7 @@ use tfs_durable::{Device, FileDevice};
 use tfs_files::{
     CommandFault, DurableJournal, FolderLock, JournalSink, PositionFile, Retention, ServedJournal,
 };
+use tfs_metrics::{Journal, Meter};
 use tfs_runs::{Tally, serve_runs};
 use tfs_serve::{AcceptFault, AnyListener};
 use tfs_table::Table;
@@ -49,13 +50,15 @@ pub struct Plan<'p> {
 }
 
 /// What a start has made: the listener, whose waits time out; the file of the least position; the
-/// folder's newest journal; and the table over it.
+/// folder's newest journal; the table over it; and the meter that counts answers and compactions,
+/// if there is one.
 #[derive(Drop)]
 pub struct StartedFolder<'f> {
     pub listener: AnyListener,
     pub least: Option<PositionFile>,
     pub journal: DurableJournal<'f>,
     pub table: Table<JournalSink>,
+    pub meter: Option<&'f Meter>,
 }
 
 /// What the runs of a folder leave: the last run's table, the error that ended the runs, and the
@@ -88,6 +91,7 @@ pub fn serve_folder<R: AllocGlobal + Threads + Wait + Clock + Sync>(
         least,
         journal: in_place,
         table,
+        meter,
     } = begun;
     let Some(journal) = served_journal(host, plan.folder, in_place.number()) else {
         return unread(table);
@@ -95,6 +99,7 @@ pub fn serve_folder<R: AllocGlobal + Threads + Wait + Clock + Sync>(
     let least = Mutex::new(least);
     let watch = Watch::new(host, lock, plan, in_place);
     watch.open(rt, in_place, table.base().position());
+    measure(meter, table.position(), watch.bytes());
     let mut folder_runs = FolderRuns {
         rt,
         host,
@@ -106,6 +111,7 @@ pub fn serve_folder<R: AllocGlobal + Threads + Wait + Clock + Sync>(
         listener: &listener,
         notice: Cell::new(Notice::First),
         placed: Snapshot::of(&table),
+        meter,
         accepting: None,
         reported: Tally::new(),
     };
@@ -121,6 +127,13 @@ pub fn serve_folder<R: AllocGlobal + Threads + Wait + Clock + Sync>(
         fault,
         accepting,
         reported,
+    }
+}
+
+/// Records the journal that is served first, if there is a meter.
+fn measure(meter: Option<&Meter>, position: u64, bytes: u64) {
+    if let Some(meter) = meter {
+        meter.grow(Journal { position, bytes });
     }
 }
 

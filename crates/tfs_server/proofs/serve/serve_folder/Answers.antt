@@ -13,13 +13,14 @@ use Rattle.tfs_files.proofs.guard.ServedJournal.TheSendSync as journal
 use Rattle.tfs_serve.specs.contracts.heard.Heard as Heard
 use Rattle.tfs_server.proofs.watch.Watch.TheSendSync as watch
 use Rattle.tfs_server.specs.contracts.gate.Watching as Watching
+use Rattle.tfs_metrics.proofs.meter.Meter.TheSendSync as meter
 use Rattle.tfs_server.proofs.serve.serve_folder.Goals as goal
 
 heard_send : IsSend Heard.the_row
 heard_send = search sendable depth 20
 
 watching_send : (a b : NamedLft) (R : RattleType) → IsSync R → IsSend (Watching.the_row a b R)
-watching_send a b R s = search (sendable, crosses, heard_send, watch.the_sync, device.the_send, journal.the_send, journal.the_sync) depth 40
+watching_send a b R s = search (sendable, crosses, heard_send, meter.the_sync, watch.the_sync, device.the_send, journal.the_send, journal.the_sync) depth 40
 
 pub serve_runs-table-requires-send-T-Gate : goal.serve_runs-table-requires-send-T-Gate
 serve_runs-table-requires-send-T-Gate g c κs within = param_send _ _ (arg_send _ no _ (watching_send _ _ _ c.type_bounds.sync-R))
