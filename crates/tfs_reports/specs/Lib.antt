@@ -1,3 +1,4 @@
+pub mod Across
 pub mod Acts
 pub mod Clock
 pub mod Comparison

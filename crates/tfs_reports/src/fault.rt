@@ -6,6 +6,8 @@ ghost use Rattle.tfs_reports.specs.Status.{status_of};
 use std::alloc::AllocError;
 use std::io;
 use std::process::ExitCode;
+use tfs_plan::PlanFault;
+use tfs_state::StateFault;
 use tfs_stream::ReadFault;
 use tfs_versions::RestoreFault;
 use thiserror::Error;
@@ -46,6 +48,18 @@ pub enum ReportFault {
     BadTime,
     #[error("NoTime: no act of the workspace has this time or an earlier one. `history` prints when locks were taken")]
     NoTime,
+    #[error("NoFile: the file doesn't exist. Write the plan with `terraform show -json`, and the state with `terraform state pull`")]
+    NoFile,
+    #[error("BadPlan: {0}")]
+    BadPlan(PlanFault),
+    #[error("BadState: {0}. Give what `terraform state pull` prints")]
+    BadState(StateFault),
+    #[error("LargeState: the state has more than 16777216 bytes. The server accepts no such state")]
+    LargeState,
+    #[error("OneInput: both the plan and the state are to be read from standard input. Write one of them to a file")]
+    OneInput,
+    #[error("NoSource: no state was given. Give --state FILE, or --folder FOLDER NAME")]
+    NoSource,
     #[error("NotLocked: nobody holds the lock of the workspace")]
     NotLocked,
 }
@@ -68,7 +82,11 @@ pub fn status_of(fault: ReportFault) -> u8
         ReportFault::NoAddress | ReportFault::TooManyAddresses | ReportFault::UnknownAddress(_) =>
             35,
         ReportFault::NotLocked => 36,
-        ReportFault::BadTime => 21,
+        ReportFault::BadTime | ReportFault::OneInput | ReportFault::NoSource => 21,
+        ReportFault::NoFile
+        | ReportFault::BadPlan(_)
+        | ReportFault::BadState(_)
+        | ReportFault::LargeState => 37,
     }
 }
 
@@ -91,6 +109,10 @@ pub enum ReportPlace {
     Copies,
     /// The newest journal of the copies, which has this number.
     Copy(u64),
+    /// The plan.
+    Plan,
+    /// The state.
+    State,
 }
 
 /// The fault that ended a command, and what it is about.
@@ -104,6 +126,13 @@ impl ReportEnd {
     /// Returns the end by a fault, and what it is about.
     pub fn at(place: ReportPlace, fault: ReportFault) -> ReportEnd {
         ReportEnd { place, fault }
+    }
+
+    /// Returns the fault.
+    pub fn fault(&self) -> ReportFault
+        ensures value { result ≡ self.now.fault }
+    {
+        self.fault
     }
 
     /// Returns the end by a fault that all commands share.
@@ -172,6 +201,8 @@ pub fn end_by(rt: &impl Eprint, folder: &str, name: &str, end: ReportEnd) -> Exi
         ReportPlace::Name => eprintln!(rt; "tfstatectl: {folder}: {name}: {fault}"),
         ReportPlace::Copies => tell(rt, name, "", fault),
         ReportPlace::Copy(number) => tell_journal(rt, name, "", number, fault),
+        ReportPlace::Plan => eprintln!(rt; "tfstatectl: --plan: {fault}"),
+        ReportPlace::State => eprintln!(rt; "tfstatectl: --state: {fault}"),
     };
     ExitCode::from(status_of(fault))
 }

@@ -81,7 +81,7 @@ fn report_of(
     let mut report = Report::new(alloc, COLUMNS, Layout::of(listing.is_json))?;
     for text in names_of(alloc, table, listing.is_held_only)? {
         if let Some(name) = Name::read(text) {
-            let row = with_kept_from(alloc, row_of(alloc, table, &name, now)?, from)?;
+            let row = with_kept_from(alloc, workspace_row(alloc, table, &name, now)?, from)?;
             report.add(alloc, &row)?;
         }
     }
@@ -113,7 +113,7 @@ fn times_of(
 }
 
 /// Returns the row of a workspace at this time: its state, its last change and its lock holder.
-fn row_of(
+pub fn workspace_row(
     alloc: Global,
     table: &Table<Discard>,
     name: &Name,

@@ -79,7 +79,7 @@ fn texts_of(alloc: Global, addresses: &[&str]) -> Result<Vec<Text>, AllocError> 
 }
 
 /// Returns the fault for a refused query.
-fn fault_of(refusal: &Refusal) -> ReportFault {
+pub fn fault_of(refusal: &Refusal) -> ReportFault {
     match refusal {
         Refusal::NoState => ReportFault::NoState,
         Refusal::NoAddress => ReportFault::NoAddress,

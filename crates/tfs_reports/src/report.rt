@@ -1,6 +1,8 @@
 //! Reports: rows with named members, as a table for people or as JSON for programs. A report keeps
 //! only the text of its rows.
 
+ghost use Rattle.std.specs.Prelude.{◌≡◌};
+
 use crate::fault::ReportEnd;
 use crate::output::write;
 use crate::texts::cell;
@@ -79,6 +81,13 @@ impl Report {
     pub(crate) fn keep_newest(&mut self, most: usize) {
         self.rows.reverse();
         self.rows.truncate(most);
+    }
+
+    /// Returns the texts of the rows.
+    pub(crate) fn into_rows(self) -> Vec<String>
+        ensures value { result.items ≡ self.rows.items }
+    {
+        self.rows
     }
 
     /// Prints the report.

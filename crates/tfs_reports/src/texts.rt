@@ -25,7 +25,7 @@ pub(crate) fn id_text(alloc: Global, id: &Option<Id>) -> Result<Value, AllocErro
 }
 
 /// Returns the text of a member; null if it is absent or isn't a text.
-pub(crate) fn member(alloc: Global, members: &Value, name: &str) -> Result<Value, AllocError>
+pub fn member(alloc: Global, members: &Value, name: &str) -> Result<Value, AllocError>
     ensures { IfOk result (λ value. view value ≡ text_or_null (text_at name.now (view members.now))) }
 {
     match members.get(name).and_then(Value::as_str) {

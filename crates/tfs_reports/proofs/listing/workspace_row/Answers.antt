@@ -3,7 +3,7 @@ use Rattle.std.proofs.Common.{ap, ◌∙◌}
 use Rattle.std.proofs.lemmas.Result.{IfOk-weaker}
 use Rattle.serde_json.specs.View.{view}
 use Rattle.tfs_reports.specs.Rows.{IsListed, name_row}
-use Rattle.tfs_reports.proofs.listing.row_of.Goals as goal
+use Rattle.tfs_reports.proofs.listing.workspace_row.Goals as goal
 
 pub returns : goal.returns
 returns c =
