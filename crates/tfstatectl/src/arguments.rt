@@ -1,54 +1,7 @@
-//! The arguments of the program's commands, and their conversion for the command line parser.
+//! The arguments of the program's commands.
 
+use crate::argument::{Argument, Takes, Value};
 use clap::builder::ValueParser;
-use clap::{Arg, ArgAction};
-use std::alloc::{AllocError, Global};
-
-/// An argument of a command: its name, its values, and its help text.
-#[derive(Clone, Copy)]
-pub(crate) struct Argument {
-    name: &'static str,
-    takes: Takes,
-    help: &'static str,
-}
-
-/// The values of an argument.
-#[derive(Clone, Copy)]
-enum Takes {
-    /// One word, by its position.
-    Word,
-    /// One word, by its position, or instead of it this flag.
-    WordUnless(&'static str),
-    /// One of these words, by its position.
-    OneOf(&'static [&'static str]),
-    /// One or more words, by their position.
-    Words,
-    /// One word, by its position, with this name in the help.
-    Called(&'static str),
-    /// None: the argument is a flag.
-    Nothing,
-    /// The value of an option, with this name in the help.
-    Value(&'static str, Value),
-}
-
-/// Whether the value of an option must be given.
-#[derive(Clone, Copy)]
-enum Value {
-    /// An optional value.
-    Optional(ValueParser<'static>),
-    /// A required value.
-    Required(ValueParser<'static>),
-    /// An optional value with a default.
-    Default(ValueParser<'static>, &'static str),
-    /// An optional value that is one of these words.
-    Among(&'static [&'static str]),
-    /// An option whose value may be omitted after its name.
-    Perhaps,
-    /// An optional value that excludes this other option.
-    Unless(&'static str),
-    /// An optional value that excludes these other options.
-    UnlessAny(ValueParser<'static>, &'static [&'static str]),
-}
 
 /// Any number of 64 bits.
 const NUMBER: ValueParser<'static> = ValueParser::Unsigned(0, u64::MAX);
@@ -171,15 +124,29 @@ pub(crate) const LINES: Argument = Argument {
 /// Whether to print a picture.
 pub(crate) const DOT: Argument = Argument {
     name: "dot",
-    takes: Takes::Nothing,
+    takes: Takes::NothingUnless(&["across", "json"]),
     help: "Prints a graph for Graphviz, with the answer filled",
 };
 
 /// Whether to print a picture of the answer alone.
 pub(crate) const ANSWER_ONLY: Argument = Argument {
     name: "answer-only",
-    takes: Takes::Nothing,
+    takes: Takes::NothingUnless(&["across", "plan", "json"]),
     help: "Prints a graph of the answer alone",
+};
+
+/// Whether to list the readers of the workspace.
+pub(crate) const ACROSS: Argument = Argument {
+    name: "across",
+    takes: Takes::NothingUnless(&["plan"]),
+    help: "Lists the workspaces that read outputs of this one, directly or through others, instead",
+};
+
+/// The address or socket of the server's numbers.
+pub(crate) const METRICS: Argument = Argument {
+    name: "metrics",
+    takes: Takes::Value("ADDRESS", Value::Optional(ValueParser::String)),
+    help: "Answers GET /metrics at HOST:PORT or unix:PATH with the server's numbers for Prometheus",
 };
 
 /// Whether to answer reads after the journal can't be written any more.
@@ -331,46 +298,85 @@ pub(crate) const LEAST_OF_COPIES: Argument = Argument {
 /// Whether to combine the answers for the addresses by `any` or `all`.
 pub(crate) const QUERY: Argument = Argument {
     name: "QUERY",
-    takes: Takes::OneOf(&["any", "all"]),
+    takes: Takes::OneOfUnless(&["any", "all"], &["across", "plan"]),
     help: "any: what a change of at least one address reaches; all: what a change of each address reaches",
 };
 
 /// The addresses that a change concerns.
 pub(crate) const ADDRESSES: Argument = Argument {
     name: "ADDRESS",
-    takes: Takes::Words,
+    takes: Takes::WordsUnless(&["across", "plan"]),
     help: "Addresses of instances, or of resources for all their instances",
 };
 
-impl Argument {
-    /// Returns the argument for the parser.
-    pub(crate) fn to_arg<'a>(&self, alloc: Global) -> Result<Arg<'a>, AllocError> {
-        let arg = Arg::new(alloc, self.name).help(self.help);
-        match self.takes {
-            Takes::Word => Ok(arg.required(true)),
-            Takes::WordUnless(flag) => { arg.required_unless_present(flag)?.conflicts_with(flag) }
-            Takes::OneOf(words) => Ok(arg.required(true).value_parser(words)),
-            Takes::Words => Ok(arg.required(true).num_args(1..)),
-            Takes::Called(called) => Ok(arg.required(true).value_name(called)),
-            Takes::Nothing => Ok(arg.long(self.name).action(ArgAction::SetTrue)),
-            Takes::Value(called, value) => value.with_value(arg.long(self.name).value_name(called)),
-        }
-    }
-}
+/// The folder of a workspace, unless a plan is given.
+pub(crate) const SERVED_UNLESS_PLAN: Argument = Argument {
+    name: "FOLDER",
+    takes: Takes::WordUnless("plan"),
+    help: "The folder of the journals; a server may use it meanwhile",
+};
 
-impl Value {
-    /// Returns the option with this value.
-    fn with_value<'a>(self, option: Arg<'a>) -> Result<Arg<'a>, AllocError> {
-        match self {
-            Value::Optional(parser) => Ok(option.value_parser(parser)),
-            Value::Required(parser) => Ok(option.value_parser(parser).required(true)),
-            Value::Default(parser, value) => Ok(option.value_parser(parser).default_value(value)),
-            Value::Among(words) => Ok(option.value_parser(words)),
-            Value::Perhaps => Ok(option.num_args(0..=1).default_missing_value("")),
-            Value::Unless(other) => option.conflicts_with(other),
-            Value::UnlessAny(parser, others) => {
-                option.value_parser(parser).conflicts_with_all(others)
-            }
-        }
-    }
-}
+/// The name of a workspace, unless a plan is given.
+pub(crate) const WORKSPACE_UNLESS_PLAN: Argument = Argument {
+    name: "NAME",
+    takes: Takes::WordUnless("plan"),
+    help: "The name of the workspace. After -- it may begin with a hyphen",
+};
+
+/// The file of a plan.
+pub(crate) const PLAN: Argument = Argument {
+    name: "plan",
+    takes: Takes::Value("FILE", Value::Optional(ValueParser::String)),
+    help: "Asks about the changes of a plan instead of addresses: what `terraform show -json` prints; - for standard input",
+};
+
+/// The file of a state.
+pub(crate) const STATE: Argument = Argument {
+    name: "state",
+    takes: Takes::Value(
+        "FILE",
+        Value::UnlessAny(ValueParser::String, &["QUERY", "across"]),
+    ),
+    help: "With --plan: the state, as `terraform state pull` prints it; - for standard input",
+};
+
+/// The folder and the name of the workspace whose newest state to use.
+pub(crate) const WORKSPACE_OF_FOLDER: Argument = Argument {
+    name: "folder",
+    takes: Takes::Value(
+        "FOLDER",
+        Value::PairUnless(&["FOLDER", "NAME"], &["QUERY", "across", "state"]),
+    ),
+    help: "With --plan: the newest state of a workspace in a folder of journals",
+};
+
+/// The attributes whose updates to leave out.
+pub(crate) const IGNORE: Argument = Argument {
+    name: "ignore",
+    takes: Takes::Value("NAMES", Value::ListUnless(&["QUERY", "across"])),
+    help: "With --plan: leaves out updates of only these attributes, as in tags,tags_all",
+};
+
+/// The maximum length of the output.
+pub(crate) const BYTES: Argument = Argument {
+    name: "bytes",
+    takes: Takes::Value(
+        "NUMBER",
+        Value::Default(ValueParser::Unsigned(1_000, u64::MAX), "60000"),
+    ),
+    help: "With --plan: leaves out the last rows if the output would be longer, and prints how many",
+};
+
+/// Whether to print Markdown.
+pub(crate) const MARKDOWN: Argument = Argument {
+    name: "markdown",
+    takes: Takes::NothingUnless(&["QUERY", "across", "mermaid", "json", "dot"]),
+    help: "With --plan: prints a comment in Markdown",
+};
+
+/// Whether to print a picture for Mermaid.
+pub(crate) const MERMAID: Argument = Argument {
+    name: "mermaid",
+    takes: Takes::NothingUnless(&["QUERY", "across", "json", "dot"]),
+    help: "With --plan: prints a picture for Mermaid",
+};

@@ -23,6 +23,8 @@ pub(crate) struct Serving<'a> {
     pub(crate) workers: usize,
     /// The file of the least position, which applies in addition to the argument's.
     pub(crate) least_file: Option<&'a str>,
+    /// The address where to answer requests for the server's numbers.
+    pub(crate) metrics: Option<&'a str>,
     /// Whether to answer reads after the journal can't be written any more.
     pub(crate) serve_reads: bool,
     /// How much a journal may grow before it is compacted.
@@ -39,6 +41,7 @@ impl<'a> Serving<'a> {
             listen: given.get_str("listen").unwrap_or("127.0.0.1:8080"),
             workers: workers_in(given.get_one::<usize>("workers")),
             least_file: given.get_str("at-least-file"),
+            metrics: given.get_str("metrics"),
             serve_reads: given.get_flag("serve-reads"),
             bounds: bounds_of(given),
         }

@@ -1,11 +1,13 @@
 //! The program's commands, and their conversion for the command line parser.
 
+use crate::argument::Argument;
 use crate::arguments::{
-    ACT, ADDRESSES, ALL, ANSWER_ONLY, Argument, COMPACT_BYTES, COMPACT_ENTRIES, COPIES, DOT, FIRST,
-    FIRST_POSITION, FROM, HELD, JOURNALS, JSON, KEEP, KEEP_BYTES, KEEP_DAYS, LAST, LEAST,
-    LEAST_FILE, LEAST_OF_COPIES, LINES, LISTEN, NEW, PAST, POSITION, QUERY, SECOND_POSITION,
-    SERVE_READS, SERVED, SINCE, SOME_POSITION, TO, UNTIL, VALUES, WHO, WORKERS, WORKSPACE,
-    WORKSPACE_OR_ALL,
+    ACROSS, ACT, ADDRESSES, ALL, ANSWER_ONLY, BYTES, COMPACT_BYTES, COMPACT_ENTRIES, COPIES, DOT,
+    FIRST, FIRST_POSITION, FROM, HELD, IGNORE, JOURNALS, JSON, KEEP, KEEP_BYTES, KEEP_DAYS, LAST,
+    LEAST, LEAST_FILE, LEAST_OF_COPIES, LINES, LISTEN, MARKDOWN, MERMAID, METRICS, NEW, PAST, PLAN,
+    POSITION, QUERY, SECOND_POSITION, SERVE_READS, SERVED, SERVED_UNLESS_PLAN, SINCE,
+    SOME_POSITION, STATE, TO, UNTIL, VALUES, WHO, WORKERS, WORKSPACE, WORKSPACE_OF_FOLDER,
+    WORKSPACE_OR_ALL, WORKSPACE_UNLESS_PLAN,
 };
 use clap::{Arg, Command};
 use std::alloc::{AllocError, Global};
@@ -17,7 +19,7 @@ const VERSION: &str = "0.2.0 (rattle-kit-13f logic dac8208d650f15bf)";
 const STATUSES: &str =
     "Status: 0 success; 20 temporary fault: try again; 21 invalid arguments; 22 torn base; 23 damaged; 24 unlawful; 25 no journal, or \
 diverged journals; 26 below the least position; 27 no folder, or permission denied; 28 out of memory; 29 the journal can't be written: try again; \
-30 no such workspace; 31 no state; 32 no such position; 33 another lineage; 34 no next serial; 35 unknown address; 36 not locked. 22 to 28 need a \
+30 no such workspace; 31 no state; 32 no such position; 33 another lineage; 34 no next serial; 35 unknown address; 36 not locked; 37 no valid plan or state. 22 to 28 need a \
 person.";
 
 /// A command: its name, what it does, and its arguments.
@@ -28,8 +30,8 @@ struct Form {
     arguments: &'static [Argument],
 }
 
-/// The commands, in the order of the help.
-static COMMANDS: [Form; 12] = [
+/// The commands that make, serve, check and copy a folder, in the order of the help.
+static OF_FOLDERS: [Form; 4] = [
     Form {
         name: "init",
         about: "Creates a folder with its first, empty journal",
@@ -42,6 +44,7 @@ static COMMANDS: [Form; 12] = [
             JOURNALS,
             LISTEN,
             WORKERS,
+            METRICS,
             SERVE_READS,
             COMPACT_BYTES,
             COMPACT_ENTRIES,
@@ -64,6 +67,10 @@ static COMMANDS: [Form; 12] = [
         about: "Copies the journals of a folder to another one, which can be served instead",
         arguments: &[FROM, TO, KEEP, KEEP_DAYS, KEEP_BYTES, LEAST_OF_COPIES],
     },
+];
+
+/// The commands that report on a folder, in the order of the help.
+static OF_REPORTS: [Form; 8] = [
     Form {
         name: "list",
         about: "Lists the workspaces by name: the state of each, and who holds its lock and for how long",
@@ -113,8 +120,24 @@ static COMMANDS: [Form; 12] = [
     },
     Form {
         name: "impact",
-        about: "Lists the instances of the newest state that depend on the given ones",
-        arguments: &[SERVED, WORKSPACE, QUERY, ADDRESSES, JSON, DOT, ANSWER_ONLY],
+        about: "Lists the instances of a state that depend on given ones, or on the changes of a plan",
+        arguments: &[
+            SERVED_UNLESS_PLAN,
+            WORKSPACE_UNLESS_PLAN,
+            QUERY,
+            ADDRESSES,
+            ACROSS,
+            PLAN,
+            STATE,
+            WORKSPACE_OF_FOLDER,
+            IGNORE,
+            BYTES,
+            MARKDOWN,
+            MERMAID,
+            JSON,
+            DOT,
+            ANSWER_ONLY,
+        ],
     },
     Form {
         name: "stats",
@@ -125,8 +148,18 @@ static COMMANDS: [Form; 12] = [
 
 /// Returns the program's command with its subcommands.
 pub(crate) fn program<'a>(alloc: Global) -> Result<Command<'a>, AllocError> {
-    let commands = commands(alloc, &COMMANDS)?;
-    top(alloc).subcommands(commands)
+    let program = top(alloc).subcommands(of_folders(alloc)?)?;
+    program.subcommands(of_reports(alloc)?)
+}
+
+/// Returns the commands that make, serve, check and copy a folder.
+fn of_folders<'a>(alloc: Global) -> Result<Vec<Command<'a>>, AllocError> {
+    commands(alloc, &OF_FOLDERS)
+}
+
+/// Returns the commands that report on a folder.
+fn of_reports<'a>(alloc: Global) -> Result<Vec<Command<'a>>, AllocError> {
+    commands(alloc, &OF_REPORTS)
 }
 
 /// Returns the program's command without subcommands.

@@ -3,6 +3,7 @@
 //! `impact`, `stats`), and copies it (`copy`).
 #![tactic(auto)]
 
+mod argument;
 mod arguments;
 mod check;
 mod command;
@@ -16,12 +17,14 @@ mod serve;
 mod start;
 
 use crate::command::{Copying, Serving, folder_of, matches_of, words_of};
+use crate::listening::listen;
 use clap::{ArgMatches, Error};
 use std::process::ExitCode;
 use std::sync::Wait;
 use std::thread::Threads;
 use std::time::Clock;
 use tfs_files::{CommandEnd, CommandFault, FaultPlace, end_by, status_of};
+use tfs_serve::AnyListener;
 
 fn main(rt: HostRuntime) -> ExitCode {
     match words_of(&rt) {
@@ -83,9 +86,24 @@ fn run_server<R: AllocGlobal + Threads + Wait + Clock + Sync>(
     host: &HostRuntime,
     asked: &Serving<'_>,
 ) -> ExitCode {
+    let numbers = match listen_for_numbers(host, asked) {
+        Ok(numbers) => numbers,
+        Err(end) => return end_by(host, asked.metrics.unwrap_or(""), end),
+    };
     match start::start(host, asked) {
-        Ok(ready) => serve::run(rt, host, asked, ready),
+        Ok(ready) => serve::run(rt, host, asked, ready, numbers),
         Err(end) => end_by(host, asked.name_at(end.place()), end),
+    }
+}
+
+/// Listens at the address of the server's numbers, if the arguments have one.
+fn listen_for_numbers(
+    host: &HostRuntime,
+    asked: &Serving<'_>,
+) -> Result<Option<AnyListener>, CommandEnd> {
+    match asked.metrics {
+        Some(place) => Ok(Some(listen(host, place)?)),
+        None => Ok(None),
     }
 }
 

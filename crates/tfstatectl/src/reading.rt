@@ -4,22 +4,31 @@
 use crate::command::folder_of;
 use clap::ArgMatches;
 use std::process::ExitCode;
+use tfs_plan_reports::PlanForm;
 use tfs_reports::{
-    Asked, At, Comparison, Form, Listing, Printing, ReportEnd, end_by, history, list, print_diff,
-    print_holder, print_impact, query_of, restore, show, stats,
+    Asked, At, Comparison, Form, Listing, PlanAsked, Printing, ReportEnd, ReportFault, ReportPlace,
+    StateSource, end_by, history, list, print_across, print_diff, print_holder, print_impact,
+    print_plan_impact, query_of, restore, show, stats,
 };
 
 /// Runs a command that reads a folder. Returns the program's exit status.
 pub(crate) fn run(rt: &HostRuntime, command: &str, given: &ArgMatches<'_>) -> ExitCode {
-    let folder = folder_of(given);
-    let name = given
-        .get_str("NAME")
-        .or(given.get_str("copies"))
-        .unwrap_or("");
+    let (folder, name) = match given.get_strs("folder") {
+        Some([folder, name]) => (*folder, *name),
+        _ => (folder_of(given), name_of(given)),
+    };
     match report(rt, command, folder, name, given) {
         Ok(()) => ExitCode::SUCCESS,
         Err(end) => end_by(rt, folder, name, end),
     }
+}
+
+/// Returns what a command is about in addition to a folder: a workspace, or a folder of copies.
+fn name_of<'a>(given: &ArgMatches<'a>) -> &'a str {
+    given
+        .get_str("NAME")
+        .or(given.get_str("copies"))
+        .unwrap_or("")
 }
 
 /// Prints what a command requests.
@@ -97,13 +106,56 @@ fn printing_of(given: &ArgMatches<'_>) -> Printing {
     }
 }
 
-/// Prints what a change reaches.
+/// Prints what the changes of a plan reach.
+fn report_plan(rt: &HostRuntime, plan: &str, given: &ArgMatches<'_>) -> Result<(), ReportEnd> {
+    let asked = PlanAsked {
+        plan,
+        state: state_source_of(given)?,
+        form: plan_form_of(given),
+        bytes: given.get_one::<usize>("bytes").unwrap_or(60_000),
+    };
+    print_plan_impact(rt, asked, given.get_strs("ignore").unwrap_or(&[]))
+}
+
+/// Returns where to read the state of `impact --plan`.
+fn state_source_of<'a>(given: &ArgMatches<'a>) -> Result<StateSource<'a>, ReportEnd> {
+    if let Some([folder, name]) = given.get_strs("folder") {
+        return Ok(StateSource::Workspace(folder, name));
+    }
+    match given.get_str("state") {
+        Some(path) => Ok(StateSource::File(path)),
+        None => Err(ReportEnd::at(ReportPlace::State, ReportFault::NoSource)),
+    }
+}
+
+/// Returns the form of `impact --plan`.
+fn plan_form_of(given: &ArgMatches<'_>) -> PlanForm {
+    if given.get_flag("markdown") {
+        PlanForm::Markdown
+    } else if given.get_flag("mermaid") {
+        PlanForm::Mermaid
+    } else if given.get_flag("dot") {
+        PlanForm::Dot
+    } else if given.get_flag("json") {
+        PlanForm::Json
+    } else {
+        PlanForm::Lines
+    }
+}
+
+/// Prints what a change reaches, or which workspaces read the workspace.
 fn report_impact(
     rt: &HostRuntime,
     folder: &str,
     name: &str,
     given: &ArgMatches<'_>,
 ) -> Result<(), ReportEnd> {
+    if given.get_flag("across") {
+        return print_across(rt, folder, name, given.get_flag("json"));
+    }
+    if let Some(plan) = given.get_str("plan") {
+        return report_plan(rt, plan, given);
+    }
     let is_all = given.get_str("QUERY") == Some("all");
     let addresses = given.get_strs("ADDRESS").unwrap_or(&[]);
     let form = if given.get_flag("answer-only") {

@@ -5,11 +5,13 @@ use crate::command::Serving;
 use crate::start::Ready;
 use std::process::ExitCode;
 use std::sync::Wait;
-use std::thread::Threads;
+use std::sync::atomic::{AtomicBool, Ordering};
+use std::thread::{self, Threads};
 use std::time::Clock;
 use tfs_files::{CommandEnd, CommandFault, FaultPlace, FolderLock, Made, end_by, status_of};
-use tfs_serve::AcceptFault;
-use tfs_server::{Left, Plan, StartedFolder, serve_folder};
+use tfs_metrics::Meter;
+use tfs_serve::{AcceptFault, AnyListener};
+use tfs_server::{Left, Plan, StartedFolder, serve_folder, serve_numbers};
 
 /// Serves a folder until an error ends the server. Returns the program's exit status.
 pub(crate) fn run<R: AllocGlobal + Threads + Wait + Clock + Sync>(
@@ -17,6 +19,7 @@ pub(crate) fn run<R: AllocGlobal + Threads + Wait + Clock + Sync>(
     host: &HostRuntime,
     asked: &Serving<'_>,
     ready: Ready<'_>,
+    numbers: Option<AnyListener>,
 ) -> ExitCode {
     let Ready {
         lock,
@@ -29,20 +32,43 @@ pub(crate) fn run<R: AllocGlobal + Threads + Wait + Clock + Sync>(
         least,
         journal,
         table,
+        meter: None,
     };
-    serve_begun(rt, host, &lock, asked, begun)
+    let left = match numbers {
+        None => serve_folder(rt, host, &lock, &plan_of(asked), begun),
+        Some(numbers) => serve_with_numbers(rt, host, &plan_of(asked), (&lock, begun), &numbers),
+    };
+    end_of(host, asked.start.folder, left.fault, left.accepting)
 }
 
-/// Serves what a start has made until an error ends the server. Returns the program's exit status.
-fn serve_begun<R: AllocGlobal + Threads + Wait + Clock + Sync>(
+/// Serves what a start has made until an error ends the server, and answers requests for the
+/// server's numbers meanwhile.
+fn serve_with_numbers<R: AllocGlobal + Threads + Wait + Clock + Sync>(
     rt: &R,
     host: &HostRuntime,
-    lock: &FolderLock,
-    asked: &Serving<'_>,
-    begun: StartedFolder<'_>,
-) -> ExitCode {
-    let left = serve_folder(rt, host, lock, &plan_of(asked), begun);
-    end_of(host, asked.start.folder, left.fault, left.accepting)
+    plan: &Plan<'_>,
+    begun: (&FolderLock, StartedFolder<'_>),
+    numbers: &AnyListener,
+) -> Left {
+    let (lock, begun) = begun;
+    let meter = Meter::new(rt.alloc());
+    let begun = StartedFolder {
+        meter: Some(&meter),
+        ..begun
+    };
+    let ended = AtomicBool::new(false);
+    let (meter, ended) = (&meter, &ended);
+    thread::scope(thread::scope_env(), rt, move |scope| {
+        let thread = scope.spawn(move || serve_numbers(rt, host, numbers, meter, ended));
+        if thread.is_err() {
+            let _ = eprintln!(host;
+                "tfstatectl: no thread could be started for the server's numbers"
+            );
+        }
+        let left = serve_folder(rt, host, lock, plan, begun);
+        ended.store(true, Ordering::SeqCst);
+        left
+    })
 }
 
 /// Reports the error that ended the server. Returns the program's exit status.
