@@ -1,6 +1,6 @@
 # What a developer runs. `make` alone lists it.
 
-ifneq ($(filter-out help lint $(if $(TFSTATECTL),serve failover-test $(if $(TFSTATED),package release package-test deploy-test)),$(MAKECMDGOALS)),)
+ifneq ($(filter-out help lint stand-in-test $(if $(TFSTATECTL),serve failover-test $(if $(TFSTATED),package release package-test deploy-test)),$(MAKECMDGOALS)),)
 ifeq ($(shell command -v rt 2>/dev/null),)
 $(error the command rt of the Rattle kit is missing: put the kit's folder bin on the PATH)
 endif
@@ -12,7 +12,7 @@ crate = $(if $(and $(CRATE),$(wildcard crates/$(CRATE)/src)),,$(error name a cra
 # What the scripts of tools/ and tests/ import from one another.
 export PYTHONPATH := $(CURDIR)/tools:$(CURDIR)/tests/support:$(CURDIR)/tests/models:$(CURDIR)/tests/deploy
 
-.PHONY: help try run serve package release test check edits blackbox deploy-test package-test failover-test bench stress lint
+.PHONY: help try run serve package release test check edits blackbox deploy-test package-test failover-test stand-in-test bench stress lint
 
 help:
 	@echo 'make try                       look at the program in a minute or two, without any proof, and leave it running; ONCE=1 ends it'
@@ -27,6 +27,7 @@ help:
 	@echo 'make deploy-test               test the package, nginx in front of the server, and each command of its pages; nginx has to be installed'
 	@echo 'make package-test              install the package into a fresh Debian under systemd, and use, upgrade, downgrade and remove it; needs root and a mirror'
 	@echo 'make failover-test             cut off, lose and bring back a server among three hosts in network namespaces; needs root'
+	@echo 'make stand-in-test             compare the stand-in for etcd with etcd itself; needs Debian'\''s etcd-server'
 	@echo 'make bench                     run all benchmarks, and print docs/PERFORMANCE.md of them; one of them with BENCH=planes'
 	@echo 'make stress                    have 16 sessions ask a server for a minute, and check each answer; SECONDS=10 for less'
 	@echo 'make lint                      look for faults in Python and shell files, without running them'
@@ -67,6 +68,9 @@ package-test:
 
 failover-test:
 	@python3 tests/deploy/try_failover.py
+
+stand-in-test:
+	@python3 tests/deploy/try_etcd.py
 
 bench:
 	@python3 tools/bench.py $(BENCH)

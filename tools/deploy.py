@@ -1,6 +1,6 @@
 """Runs the tests of deploy/: of its pages and of the package, of nginx, which must be installed, of
-its users, of each command of its pages, and of Terraform, if it is installed; or the named ones
-(`page` for tests/deploy/deploy_page.py). The last line is `N passed, M failed`."""
+its users, of each command of its pages, and of Prometheus and Terraform, if they are installed; or
+the named ones (`page` for tests/deploy/deploy_page.py). The last line is `N passed, M failed`."""
 import shutil
 import sys
 
@@ -8,6 +8,7 @@ from repository import TOP, chosen
 from screen import Screen, run, script
 
 TESTS = ["deploy_pages.py", "deploy_package.py", "deploy_release.py", "deploy_front.py", "deploy_nginx.py", "deploy_users.py", "deploy_page.py"]
+OF_PROMETHEUS = ["deploy_metrics.py"]
 OF_TERRAFORM = ["deploy_terraform.py", "deploy_commands.py", "deploy_impact.py", "deploy_diff.py"]
 
 
@@ -16,10 +17,11 @@ def main(wanted):
     if missing:
         sys.exit(f"deploy-test: not installed: {', '.join(missing)}")
     screen, tests = Screen(), list(TESTS)
-    if shutil.which("terraform"):
-        tests += OF_TERRAFORM
-    else:
-        screen.show(f"terraform isn't installed: {', '.join(OF_TERRAFORM)} are left out")
+    for program, own in (("prometheus", OF_PROMETHEUS), ("terraform", OF_TERRAFORM)):
+        if shutil.which(program):
+            tests += own
+        else:
+            screen.show(f"{program} isn't installed: {', '.join(own)} are left out")
     named = {name[len("deploy_"):-len(".py")]: name for name in tests}
     tests = [named[name] for name in chosen(wanted, named, "test of deploy/")]
     passed, failed = map(sum, zip(*(run(script(TOP / "tests" / "deploy" / name), screen)[0] for name in tests)))

@@ -1,5 +1,5 @@
-"""Makes the manual pages of both programs, in mdoc. Commands and options are those of `tfstatectl
---help`, files and statuses those of docs/FOLDER.md, and what `tfstated` does is from
+"""Makes the manual pages of both programs and of each command of `tfstatectl`, in mdoc. Commands
+and options are those of `tfstatectl --help`, files and statuses those of docs/FOLDER.md, and what `tfstated` does is from
 docs/PROTOCOL.md and docs/JOURNAL.md. So no page has a text of its own that could differ from
 these."""
 import datetime
@@ -74,6 +74,11 @@ def rows_of(page, header):
     return [[cell.strip() for cell in re.split(r"(?<!\\)\|", row)[1:-1]] for row in table.splitlines()[1:]]
 
 
+def begun_low(about):
+    """Returns a purpose as a manual page begins with it: a small letter first, and no full stop."""
+    return about[0].lower() + about[1:].rstrip(".")
+
+
 def head(name, section, about, version, day):
     day = datetime.datetime.fromtimestamp(day, datetime.timezone.utc)
     date = f"{day:%B} {day.day}, {day.year}"
@@ -89,7 +94,13 @@ def commands(program):
 def synopsis(name, parts):
     """Returns the line of a command, as its help text has it after `Usage:`."""
     usage = next(part for part in parts[""] if part.startswith("Usage: ")).split(f" {name}", 1)[1].strip()
-    return f".Nm\n.Cm {name} {macro(usage.replace('[OPTIONS]', '[options]'))}".rstrip()
+    return f".Nm tfstatectl\n.Cm {name} {macro(usage.replace('[OPTIONS]', '[options]'))}".rstrip()
+
+
+def about_command(parts):
+    """Returns what the help text of a command says: its purpose, its arguments and its options."""
+    listed = [row for title in ("Arguments", "Options") for row in parts.get(title, [])]
+    return [plain(parts[""][0] + "."), tagged([(macro(term), meaning) for term, meaning in listed])]
 
 
 def statuses():
@@ -102,15 +113,20 @@ def statuses():
 
 def page_of_tfstatectl(program, version, day):
     top, known = sections(told(program, "--help")), commands(program)
-    about = top[""][0]
-    lines = [head("tfstatectl", 8, about[0].lower() + about[1:].rstrip("."), version, day), ".Sh SYNOPSIS"]
+    lines = [head("tfstatectl", 8, begun_low(top[""][0]), version, day), ".Sh SYNOPSIS"]
     lines += [synopsis(name, parts) for name, parts in known.items()] + [".Nm", ".Fl \\-version", ".Sh DESCRIPTION"]
     for name, parts in known.items():
-        listed = [row for title in ("Arguments", "Options") for row in parts.get(title, [])]
-        lines += [f".Ss {name}", plain(parts[""][0] + "."), tagged([(macro(term), meaning) for term, meaning in listed])]
+        lines += [f".Ss {name}", *about_command(parts)]
     lines += [".Sh FILES", tagged([(f"Pa {plain(file)}", meaning) for file, meaning in rows_of(FOLDER, "| File | What it is |")])]
     lines += [".Sh EXIT STATUS", tagged([("0", "it is done"), *statuses()])]
     return "\n".join([*lines, ".Sh SEE ALSO", ".Xr tfstated 1 ,", ".Pa /usr/share/doc/tfstated/README.md"]) + "\n"
+
+
+def page_of_command(name, parts, version, day):
+    """Returns the page of a command of `tfstatectl`."""
+    lines = [head(f"tfstatectl-{name}", 8, begun_low(parts[""][0]), version, day), ".Sh SYNOPSIS", synopsis(name, parts)]
+    lines += [".Sh DESCRIPTION", *about_command(parts), ".Sh EXIT STATUS", "The statuses of all commands are in", ".Xr tfstatectl 8 ."]
+    return "\n".join([*lines, ".Sh SEE ALSO", ".Xr tfstatectl 8"]) + "\n"
 
 
 def described(command):
@@ -149,4 +165,5 @@ def macro_of_usage(usage):
 def manuals(program, version, day):
     """Returns each manual page by the name of its file. The program is `tfstatectl`; the day is in
     seconds."""
-    return {"tfstatectl.8": page_of_tfstatectl(program, version, day), "tfstated.1": page_of_tfstated(version, day)}
+    pages = {f"tfstatectl-{name}.8": page_of_command(name, parts, version, day) for name, parts in commands(program).items()}
+    return {"tfstatectl.8": page_of_tfstatectl(program, version, day), "tfstated.1": page_of_tfstated(version, day), **pages}

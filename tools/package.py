@@ -14,6 +14,7 @@ import tempfile
 from pathlib import Path
 
 from built import program
+from completion import completions
 from manual import manuals
 from repository import TOP
 
@@ -25,7 +26,7 @@ PAGES = [*(f"deploy/{name}.md" for name in ("README", "INSTALL", "OPERATE", "REC
          *(f"docs/{name}.md" for name in ("FOLDER", "SERVING", "COPIES", "VERSIONS", "UPGRADING", "PERFORMANCE", "PROTOCOL", "JOURNAL", "MODEL"))]
 TEXTS = {
     "usr/share/doc/tfstated": [*PAGES, "LICENSE"],
-    "usr/share/tfstated": ["deploy/nginx.conf", "deploy/nginx-access.conf", "deploy/impact_comment.py", "deploy/impact-gitlab.yml", "deploy/impact-github.yml"],
+    "usr/share/tfstated": ["deploy/nginx.conf", "deploy/nginx-access.conf", "deploy/alerts.yml", "deploy/dashboard.json", "deploy/impact-gitlab.yml", "deploy/impact-github.yml"],
 }
 CONTROL = """Package: tfstated
 Version: {version}
@@ -108,6 +109,8 @@ def fill(root, programs, when):
     for name, text in manuals(programs["tfstatectl"], VERSION, when).items():
         section = name.rpartition(".")[2]
         put(root, f"usr/share/man/man{section}/{name}.gz", gzip.compress(text.encode(), mtime=0))
+    for path, text in completions(programs["tfstatectl"]).items():
+        put(root, path, text.encode())
     sums = [f"{hashlib.sha256(path.read_bytes()).hexdigest()}  {path.relative_to(root)}\n" for path in files_of(root)]
     put(root, "usr/share/doc/tfstated/SHA256SUMS", "".join(sums).encode())
 

@@ -1,5 +1,5 @@
 """Makes the package and checks it without installing it: its files and their sums, the contents of
-its control file and of its manual pages, and its units."""
+its control file and of its manual pages, what its files for bash and zsh complete, and its units."""
 import hashlib
 import re
 import shutil
@@ -27,7 +27,10 @@ usr/share/doc/tfstated/picture.svg usr/share/doc/tfstated/UPGRADING.md usr/share
 usr/share/doc/tfstated/IMPACT.md usr/share/doc/tfstated/FOLDER.md usr/share/doc/tfstated/SERVING.md
 usr/share/doc/tfstated/COPIES.md usr/share/doc/tfstated/VERSIONS.md usr/share/doc/tfstated/PERFORMANCE.md usr/share/doc/tfstated/copyright
 usr/share/doc/tfstated/SHA256SUMS usr/share/tfstated/nginx.conf usr/share/tfstated/nginx-access.conf
-usr/share/tfstated/postinst usr/share/tfstated/impact_comment.py usr/share/tfstated/impact-gitlab.yml usr/share/tfstated/impact-github.yml"""
+usr/share/tfstated/alerts.yml usr/share/tfstated/dashboard.json usr/share/tfstated/postinst usr/share/tfstated/impact-gitlab.yml usr/share/tfstated/impact-github.yml
+usr/share/bash-completion/completions/tfstatectl usr/share/zsh/vendor-completions/_tfstatectl"""
+COMMANDS = "init serve check copy list holder history show diff restore impact stats".split()
+WANTED = {*WANTED.split(), *(f"usr/share/man/man8/tfstatectl-{name}.8.gz" for name in COMMANDS)}
 
 
 def made(ending):
@@ -42,10 +45,10 @@ def tool(*words):
 
 def check_both_archives_have_the_same_files():
     expect(tool("dpkg-deb", "--extract", made(".deb"), ROOT)[0], 0)
-    expect({str(path.relative_to(ROOT)) for path in package.files_of(ROOT)}, set(WANTED.split()))
+    expect({str(path.relative_to(ROOT)) for path in package.files_of(ROOT)}, WANTED)
     with tarfile.open(made(".tar.gz")) as archive:
         members = {member.name[2:]: member for member in archive.getmembers() if member.isfile()}
-        expect(set(members), set(WANTED.split()))
+        expect(set(members), WANTED)
         tops = {member.name.split("/")[1] for member in archive.getmembers()}
         expect(tops, {"usr"}, "a folder `lib` would take the place of Debian's link of this name")
         for name, member in members.items():
@@ -62,7 +65,7 @@ def check_each_link_of_the_pages_leads_to_a_file_of_the_package():
 def check_the_sums_are_those_of_the_files():
     for sums, folder in ((made(".sha256"), package.DIST), (ROOT / "usr/share/doc/tfstated/SHA256SUMS", ROOT)):
         lines = [line.split("  ") for line in sums.read_text().splitlines()]
-        expect(len(lines) in (2, len(WANTED.split()) - 1), True, sums)
+        expect(len(lines) in (2, len(WANTED) - 1), True, sums)
         expect([hashlib.sha256((folder / name).read_bytes()).hexdigest() for _, name in lines], [told for told, _ in lines])
 
 
@@ -85,7 +88,7 @@ def check_the_manual_pages_have_no_fault():
     tools = [("mandoc", ("mandoc", "-T", "lint", "-W", "warning")), ("man", ("man", "--warnings=w", "-E", "UTF-8", "-l", "-Tutf8", "-Z"))]
     there = [words for name, words in tools if shutil.which(name)]
     expect(there != [], True, "mandoc or man is there")
-    for page in ("man8/tfstatectl.8", "man1/tfstated.1"):
+    for page in ("man8/tfstatectl.8", "man1/tfstated.1", *(f"man8/tfstatectl-{name}.8" for name in COMMANDS)):
         text = subprocess.run(["gzip", "-dc", ROOT / f"usr/share/man/{page}.gz"], stdout=subprocess.PIPE, check=True).stdout
         path = ROOT.parent / Path(page).name
         path.write_bytes(text)
@@ -95,13 +98,55 @@ def check_the_manual_pages_have_no_fault():
             expect((ran.returncode, told), (0, ""), words)
 
 
+def options_of(name):
+    """Returns the options that the help text of a command lists."""
+    return re.findall(r"^ +(?:-h, )?(--[a-z-]+)", tool(package.program("tfstatectl"), name, "--help")[1], re.M)
+
+
 def check_the_manual_has_each_option_and_each_status():
     text = (ROOT.parent / "tfstatectl.8").read_text().replace("\\-", "-")
-    told = tool(package.program("tfstatectl"), "serve", "--help")[1]
-    options = re.findall(r"--([a-z-]+)", told)
-    expect(len(options) > 6, True, options)
-    expect([option for option in options if f"Fl -{option}" not in text], [])
+    expect(len(options_of("serve")) > 6, True)
+    for name in COMMANDS:
+        own = (ROOT.parent / f"tfstatectl-{name}.8").read_text().replace("\\-", "-")
+        expect([option for option in options_of(name) if f"Fl {option[1:]}" not in text or f"Fl {option[1:]}" not in own], [], name)
     expect([status for status in (0, *range(20, 30)) if not re.search(rf"^\.It (?:\d+, )*{status}\b", text, re.M)], [])
+
+
+def completed(*words):
+    """Returns what bash offers for the last of some words of a command."""
+    path = ROOT / "usr/share/bash-completion/completions/tfstatectl"
+    script = f'source {path}; COMP_WORDS=("$@"); COMP_CWORD=$(($# - 1)); _tfstatectl; for reply in "${{COMPREPLY[@]}}"; do echo "$reply"; done'
+    ran = subprocess.run(["bash", "-ec", script, "bash", "tfstatectl", *words], cwd=ROOT, capture_output=True, timeout=SECONDS, check=False)
+    expect((ran.returncode, ran.stderr), (0, b""), words)
+    return ran.stdout.decode().splitlines()
+
+
+def check_bash_completes_commands_options_and_values():
+    expect(completed(""), [*COMMANDS, "help", "--help", "--version"])
+    expect((completed("h"), completed("hi"), completed("help", "hi")), (["holder", "history", "help"], ["history"], ["history"]))
+    for name in COMMANDS:
+        expect([option for option in completed(name, "-") if option != "-h"], options_of(name), name)
+    expect(completed("history", "--act", ""), ["push", "lock", "unlock", "force-unlock", "delete"])
+    expect((completed("history", "--act", "f"), completed("history", "folder", "--ac")), (["force-unlock"], ["--act"]))
+    expect((completed("serve", "--workers", ""), completed("serve", "us"), completed("init", "")), ([], ["usr"], ["usr"]))
+    expect(completed("serve", "--at-least-file", "usr/bin/tfstatect"), ["usr/bin/tfstatectl"])
+    expect(completed("serve", "usr/bin/tfstatect"), [], "a file is no folder")
+    expect(completed("impact", "folder", "name", "a"), ["any", "all"])
+
+
+def check_zsh_gets_the_options_and_words_of_each_command():
+    if not shutil.which("zsh"):
+        print("zsh isn't there: its file isn't run")
+        return
+    path = ROOT / "usr/share/zsh/vendor-completions/_tfstatectl"
+    script = f"_arguments() {{ print -rl -- $@ }}; _describe() {{ print -rl -- ${{(P)2}} }}; words=(tfstatectl $1 ''); CURRENT=$(($# + 2)); shift $#; source {path}"
+    listed = tool("zsh", "-fc", script, "zsh")[1].splitlines()
+    expect([line.split(":")[0] for line in listed], COMMANDS)
+    for name in COMMANDS:
+        lines = tool("zsh", "-fc", script, "zsh", name)[1].splitlines()
+        expect([line.split("[")[0] for line in lines if line.startswith("--")], options_of(name), name)
+        expect(any(line.startswith("1:FOLDER:_files -/") or line.startswith("1:FROM:_files -/") for line in lines), True, lines)
+    expect("--act[Lists only acts of this kind]:ACT:(push lock unlock force-unlock delete)" in tool("zsh", "-fc", script, "zsh", "history")[1], True)
 
 
 def check_a_start_that_a_person_has_to_look_at_is_not_tried_again():
