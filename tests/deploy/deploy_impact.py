@@ -1,10 +1,20 @@
-"""Runs deploy/impact_comment.py over plans that Terraform makes, and compares what they reach
-beyond themselves with a search over the state."""
+"""Runs the commands of deploy/IMPACT.md over plans that Terraform makes, and compares what they
+reach beyond themselves with a search over the state; runs the steps that comment against a stand-in
+for each host."""
+import contextlib
+import http.server
 import json
+import os
 import shutil
 import subprocess
 import sys
+import tempfile
+import textwrap
+import threading
+import urllib.parse
+from pathlib import Path
 
+from built import program
 from checking import SECONDS, checks_in, expect, run_checks
 from deploy_nginx import PASSWORD, USER, make_secrets, served
 from deploy_terraform import Project, ended
@@ -13,13 +23,14 @@ from impact_model import impact, instances_of
 from page_blocks import IMPACT, blocks_in, commands_in
 from repository import TOP
 
-SCRIPT = TOP / "deploy" / "impact_comment.py"
+FILES = ("impact-github.yml", "impact-gitlab.yml")
+MARKER = "<!-- tfstatectl impact -->"
 NETWORK = """resource "terraform_data" "network" { input = "1" }
 resource "terraform_data" "subnet" {
-  for_each = toset(["a \\"quoted\\"", "b]"])
+  for_each = toset(["a \\"quoted\\"", "b]", "$${x}"])
   input    = terraform_data.network.output
 }
-resource "terraform_data" "machine" { input = terraform_data.subnet }
+resource "terraform_data" "machine" { depends_on = [terraform_data.subnet] }
 resource "terraform_data" "other" {}
 """
 MANY = """resource "terraform_data" "part" {
@@ -30,101 +41,164 @@ resource "terraform_data" "last" { depends_on = [terraform_data.part] }
 """
 
 
-def comment(project, backend, password=PASSWORD):
-    """Returns the status of the page's commands over the plan of a project, the script's output,
-    and its text on standard error."""
-    shutil.copy(SCRIPT, project.folder)
-    plan, show = blocks_in(IMPACT)[0].replace("https://tfstated.example.com/state/network.prod", backend).splitlines()
+def comment(project, form="--markdown", password=PASSWORD):
+    """Returns the status of the page's commands in a project, the last one with another form, and
+    its output and its text on standard error."""
+    plan, show, ask = blocks_in(IMPACT)[0].splitlines()
     good, text = ended(project.popen("bash", "-c", plan))
     expect(good, True, text)
-    project.variables = {"TF_HTTP_USERNAME": USER, "TF_HTTP_PASSWORD": password}
-    ran = project.popen("bash", "-c", show, stderr=subprocess.PIPE)
+    folder = os.path.dirname(program("tfstatectl"))
+    project.variables = {"TF_HTTP_USERNAME": USER, "TF_HTTP_PASSWORD": password, "PATH": f"{folder}:{os.environ['PATH']}"}
+    ran = project.popen("bash", "-o", "pipefail", "-ec", "\n".join([show, ask.replace("--markdown", form)]), stderr=subprocess.PIPE)
     text, errors = ran.communicate(timeout=SECONDS)
     project.variables = {}
     return ran.returncode, text, errors
 
 
-def listed_in(text, title):
-    """Returns the addresses of a list of a comment."""
-    part = text.split(f"<summary>{title}: ", 1)[1].split("</details>")[0]
-    return [line[3:-1] for line in part.splitlines() if line.startswith("- `")]
+def rows_in(text):
+    """Returns the effect and the address of each row of JSON."""
+    return [(row["effect"], row["instance"]) for row in json.loads(text)["instances"]]
 
 
 def applied(proxy, text, name):
+    """Returns a project whose resources are in the state of this name."""
     project = Project(text).name_backend(proxy.port, name)
     project.do("init")
     project.do("apply", "-auto-approve")
-    return project, f"https://{LOOPBACK}:{proxy.port}/state/{name}"
+    return project
 
 
-def check_what_a_plan_reaches_beyond_itself():
+def beyond(server, name, changed):
+    """Returns what these instances reach beyond themselves, by a search over the state."""
+    instances = instances_of(json.loads(server.ask("GET", f"/state/{name}")[1]))
+    return [address for address in impact("any", changed, instances) if address not in changed]
+
+
+def check_a_plan_reaches_what_a_search_finds():
     with served() as (server, proxy):
-        project, backend = applied(proxy, NETWORK, "net")
-        instances = instances_of(json.loads(server.ask("GET", "/state/net")[1]))
+        project = applied(proxy, NETWORK, "net")
         (project.folder / "main.tf").write_text(NETWORK.replace('"other" {}', '"other" { input = 1 }') + 'resource "terraform_data" "new" {}\n')
-        status, text, _ = comment(project, backend)
-        expect((status, "1 changed, 1 new, and 0 beyond the plan" in text, "Beyond the plan" in text), (0, True, False), text)
-        changed = NETWORK.replace('for_each = toset(["a', 'triggers_replace = 1\n  for_each = toset(["a')
-        (project.folder / "main.tf").write_text(changed.replace("input = terraform_data.subnet }", "input = keys(terraform_data.subnet) }"))
-        status, text, _ = comment(project, backend)
-        named = listed_in(text, "Changed")
-        expect((status, 'terraform_data.subnet["a \\"quoted\\""]' in named, 'terraform_data.subnet["b]"]' in named), (0, True, True), text)
-        wanted = [address for address in impact("any", named, instances) if address not in named]
-        expect(listed_in(text, "Beyond the plan") if wanted else [], wanted, text)
-        expect("serial 1 at position" in text or "By the state of serial" in text, True, text)
+        status, text, errors = comment(project)
+        expect((status, errors, text.splitlines()[0]), (0, "", MARKER), text)
+        expect("0 destroyed or replaced, 1 updated, 1 created; 0 beyond the plan" in text, True, text)
+        (project.folder / "main.tf").write_text(NETWORK.replace("for_each", "triggers_replace = 1\n  for_each"))
+        status, text, errors = comment(project, "--json")
+        rows = rows_in(text)
+        changed = [address for effect, address in rows if effect == "replaced"]
+        wanted = sorted(f"terraform_data.subnet[{json.dumps(key)}]" for key in ('a "quoted"', "b]", "${x}"))
+        expect((status, errors, sorted(changed)), (0, "", wanted))
+        expect([address for effect, address in rows if effect == "reached"], beyond(server, "net", changed), text)
 
 
-def check_a_destroyed_network_reaches_what_stays():
+def check_a_moved_and_destroyed_network_reaches_what_stays():
     with served() as (server, proxy):
-        project, backend = applied(proxy, NETWORK.replace("input = terraform_data.subnet }", "depends_on = [terraform_data.subnet] }"), "net")
-        instances = instances_of(json.loads(server.ask("GET", "/state/net")[1]))
-        (project.folder / "main.tf").write_text(NETWORK.replace("input = terraform_data.subnet }", "depends_on = [terraform_data.subnet] }").replace('"1"', '"2"'))
-        status, text, _ = comment(project, backend)
-        named = listed_in(text, "Changed")
-        expect(status, 0)
-        expect(listed_in(text, "Beyond the plan"), [address for address in impact("any", named, instances) if address not in named], text)
-        expect(listed_in(text, "Beyond the plan"), ["terraform_data.machine"])
+        project = applied(proxy, NETWORK, "net")
+        moved = NETWORK.replace('"network"', '"core"').replace("terraform_data.network", "terraform_data.core").replace('"1"', '"2"')
+        (project.folder / "main.tf").write_text(moved + "moved {\n  from = terraform_data.network\n  to = terraform_data.core\n}\n")
+        status, text, _ = comment(project, "--json")
+        wanted = {("updated", "terraform_data.core"), ("reached", "terraform_data.machine")}
+        expect((status, wanted - set(rows_in(text))), (0, set()), text)
 
 
-def check_more_than_64_addresses_are_asked_in_groups():
-    with served() as (server, proxy):
-        project, backend = applied(proxy, MANY, "many")
+def check_150_changes_are_one_comment():
+    with served() as (_, proxy):
+        project = applied(proxy, MANY, "many")
         (project.folder / "main.tf").write_text(MANY.replace('"1"', '"2"'))
-        status, text, _ = comment(project, backend)
-        expect((status, "150 changed, 0 new, and 1 beyond the plan" in text), (0, True), text)
-        expect(listed_in(text, "Beyond the plan"), ["terraform_data.last"])
+        status, text, _ = comment(project)
+        expect((status, "150 updated, 0 created; 1 beyond the plan" in text, text.count("\n- ")), (0, True, 151), text)
 
 
-def check_what_goes_wrong_is_told():
-    with served() as (server, proxy):
-        project, backend = applied(proxy, NETWORK, "net")
-        (project.folder / "main.tf").write_text(NETWORK.replace('"1"', '"2"'))
-        status, text, told = comment(project, backend, "wrong")
-        expect((status, text, "answers 401" in told), (1, "", True), told)
-        status, text, told = comment(project, backend.replace("/state/", "/"))
-        expect((status, text, "doesn't end in /state/NAME" in told), (1, "", True), told)
-        project.do("plan", "-out=plan.bin")
-        server.ask("DELETE", "/state/net")
-        ran = subprocess.run([sys.executable, str(SCRIPT)], capture_output=True, check=False)
-        expect(ran.returncode, 2)
+def check_a_state_that_can_not_be_pulled_is_no_comment():
+    with served() as (_, proxy):
+        project = applied(proxy, NETWORK, "net")
+        status, text, errors = comment(project, password="wrong")
+        expect((status == 0, text, errors != ""), (False, "", True), errors)
+
+
+class Host(http.server.BaseHTTPRequestHandler):
+    """A stand-in for the part of the two hosts' APIs that their files use: comments of one merge
+    request, each with an identifier."""
+    comments, asked = {}, []
+
+    def reply(self, value):
+        text = json.dumps(value).encode()
+        self.send_response(200)
+        self.send_header("Content-Length", str(len(text)))
+        self.end_headers()
+        self.wfile.write(text)
+
+    def take(self):
+        """Returns the body of a comment, as JSON or as a form."""
+        type(self).asked.append((self.command, self.path, self.headers["Authorization"] or self.headers["PRIVATE-TOKEN"]))
+        data = self.rfile.read(int(self.headers["Content-Length"] or 0)).decode()
+        if data.startswith("{"):
+            return json.loads(data)["body"]
+        return urllib.parse.parse_qs(data)["body"][0] if data else ""
+
+    def do_GET(self):
+        self.take()
+        self.reply([{"id": number, "body": body, "user": {"type": kind}} for number, (body, kind) in self.comments.items()])
+
+    def do_POST(self):
+        self.comments[len(self.comments) + 1] = (self.take(), "Bot")
+        self.reply({})
+
+    def do_PATCH(self):
+        self.comments[int(self.path.rsplit("/", 1)[1])] = (self.take(), "Bot")
+        self.reply({})
+
+    do_PUT = do_PATCH
+
+    def log_message(self, *words):
+        pass
+
+
+@contextlib.contextmanager
+def host():
+    """Runs a stand-in with a comment of a person, which is about the marker."""
+    Host.comments, Host.asked = {1: (f"What is {MARKER}?", "User")}, []
+    server = http.server.ThreadingHTTPServer((LOOPBACK, 0), Host)
+    threading.Thread(target=server.serve_forever, daemon=True).start()
+    try:
+        yield f"http://{LOOPBACK}:{server.server_port}"
+    finally:
+        server.shutdown()
+        server.server_close()
+
+
+def last_step(name):
+    """Returns the commands of the last step of a file."""
+    return textwrap.dedent((TOP / "deploy" / name).read_text().rsplit("- |\n" if "gitlab" in name else "run: |\n", 1)[1])
+
+
+def check_a_later_run_edits_the_comment():
+    variables = {"impact-github.yml": {"GITHUB_REPOSITORY": "o/r", "NUMBER": "7", "GH_TOKEN": "secret"},
+                 "impact-gitlab.yml": {"CI_PROJECT_ID": "3", "CI_MERGE_REQUEST_IID": "7", "IMPACT_TOKEN": "secret"}}
+    for name in FILES:
+        with host() as url, tempfile.TemporaryDirectory() as folder:
+            own = {**os.environ, **variables[name], "GITHUB_API_URL": url, "CI_API_V4_URL": url}
+            for run, text in enumerate((f"{MARKER}\nfirst & \"é\"\n", f"{MARKER}\nsecond\n", f"{MARKER}\nthird\n")):
+                (Path(folder) / "comment.md").write_text(text)
+                subprocess.run(["bash", "-ec", last_step(name)], cwd=folder, env=own, check=True, timeout=SECONDS)
+                expect(Host.comments, {1: (f"What is {MARKER}?", "User"), 2: (text, "Bot")}, f"{name}: run {run}")
+            expect({"secret" in token for _, _, token in Host.asked}, {True}, name)
 
 
 def check_the_page_has_no_other_commands():
-    expect((len(blocks_in(IMPACT)), commands_in(IMPACT)), (1, set()))
+    expect((len(blocks_in(IMPACT)), commands_in(IMPACT)), (1, {"terraform state pull"}))
 
 
-def check_the_files_to_copy_run_the_script_as_its_page_does():
-    line = "terraform show -json plan.bin | python3 impact_comment.py"
-    for name in ("impact-gitlab.yml", "impact-github.yml", "IMPACT.md"):
-        expect(line in (TOP / "deploy" / name).read_text(), True, name)
-    for name in ("impact-gitlab.yml", "impact-github.yml"):
+def check_the_files_to_copy_run_the_commands_of_their_page():
+    for name in FILES:
         text = (TOP / "deploy" / name).read_text()
+        for line in blocks_in(IMPACT)[0].splitlines()[1:]:
+            expect(text.count(line), 1, f"{name}: {line}")
         expect(text.count("terraform init") == text.count("terraform plan") == 1, True, name)
         expect("\t" in text, False, f"{name}: no tab in YAML")
 
 
 if __name__ == "__main__":
-    missing = [name for name in ("nginx", "openssl", "terraform") if not shutil.which(name)]
+    missing = [name for name in ("nginx", "openssl", "terraform", "curl", "jq") if not shutil.which(name)]
     if missing:
         sys.exit(f"not installed: {', '.join(missing)}")
     make_secrets()

@@ -15,6 +15,7 @@ import urllib.parse
 
 from checking import SECONDS, STARTED, checks_in, expect, run_checks
 from deploy_nginx import Nginx, PASSWORD, ROOM, USER, make_secrets, replaced, served, serving, site
+from folder_program import FOLDER_PROGRAM
 from folders import LOOPBACK, ask_over, free_port, fresh, goes_on_alone
 from impact_model import impact, instances_of
 from page_blocks import configuration
@@ -59,6 +60,14 @@ resource "terraform_data" "high" {
   count = 2
   input = terraform_data.low
 }
+"""
+
+# Reads outputs of another workspace.
+READING = """data "terraform_remote_state" "other" {{
+  backend = "http"
+  config  = {{ address = "{address}", username = "{user}" }}
+}}
+output "a" {{ value = data.terraform_remote_state.other.outputs.a }}
 """
 
 
@@ -284,6 +293,19 @@ def check_an_impact_of_each_odd_address_is_what_a_search_finds():
         expect(len(listed), 1 + len(KEYS) * (len(KEYS) + 2))
         listed = [asked(address) for address in listed]
         expect(impacts(server, "odd", listed), {address: impact("any", [address], instances) for address in listed})
+
+
+def check_a_workspace_that_reads_outputs_of_another_is_listed():
+    with served() as (server, proxy):
+        texts = {"network": RESOURCES + 'output "a" { value = terraform_data.a.output }\n'}
+        for name, other in (("app", "network"), ("web", "app")):
+            texts[name] = READING.format(address=f"https://{LOOPBACK}:{proxy.port}/state/{other}", user=USER)
+        for name, text in texts.items():
+            project = Project(text).name_backend(proxy.port, name)
+            project.do("init")
+            project.do("apply", "-auto-approve")
+        listed = subprocess.run([FOLDER_PROGRAM, "impact", server.folder, "network", "--across", "--json"], capture_output=True, check=True)
+        expect(json.loads(listed.stdout), [{"direct": True, "name": "app"}, {"direct": False, "name": "web"}])
 
 
 if __name__ == "__main__":
