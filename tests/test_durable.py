@@ -72,9 +72,10 @@ def has_failed_elsewhere(trace):
 
 
 def fail_at(turn):
-    """Has a sync fail. The server ends with a fault, and after a restart it has all that it
-    acknowledged. If the sync is not of the journal but of the folder's identity, a running server
-    continues. Returns true if the server was running."""
+    """Has a sync fail. The server ends with a fault, which is SyncFault also before it listens, if
+    the journal of its first run can't be synced; after a restart it has all that it acknowledged. If
+    the sync is not of the journal but of the folder's identity, a running server continues. Returns
+    true if the server was running."""
     disk, told, trace = Disk(), Told(), fresh() / "trace"
     words = (disk.folder, "--first", "--keep", "1000000")
     server = Serving(*words, workers="8", env=disk.env(DELAY=500, FAIL=turn, TRACE=trace))
@@ -83,8 +84,9 @@ def fail_at(turn):
     if server.process.poll() is None:
         server.kill()
     else:
-        fault, (status, errors) = "SyncFault" if server.line else "CannotWrite", server.end()
-        expect((status, f": {fault}: " in errors), (STATUSES[fault], True), f"turn {turn}: {errors}")
+        faults, (status, errors) = ("SyncFault",) if server.line else ("CannotWrite", "SyncFault"), server.end()
+        told_faults = [fault for fault in faults if f": {fault}: " in errors]
+        expect((len(told_faults), status), (1, STATUSES[faults[0]]), f"turn {turn}: {errors}")
     for thread in threads:
         thread.join()
     expect_synced(trace, f"turn {turn}")

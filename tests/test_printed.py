@@ -1,13 +1,17 @@
 """Texts from clients, as the tables, the JSON and the pictures of `tfstatectl` print them:
 characters of the Unicode categories Cc, Cf, Zl and Zp in lock information and in addresses of
-instances are escaped."""
+instances are escaped. No output is coloured."""
 import json
+import os
+import pty
+import subprocess
 import sys
 import unicodedata
 
 import pytest
 
-from checking import expect
+from checking import SECONDS, expect
+from folder_program import FOLDER_PROGRAM
 from folders import fresh
 from impact_model import instances_of
 from journal_reader import push_content, record_text
@@ -100,3 +104,29 @@ def test_each_character_of_an_address_is_printed_or_escaped():
         text = bytes_of(*words, *more).decode()
         expect_clean(text, HIDDEN)
         expect(text.split("\n")[:-1], [escaped(line, HIDDEN, "\\\\") for line in drawn(instances, among, chosen)])
+
+
+def printed_to_a_terminal(*words):
+    """Returns what a command writes to a terminal that has colours."""
+    ours, its = pty.openpty()
+    how = {"stdin": its, "stdout": its, "stderr": its, "env": {**os.environ, "TERM": "xterm-256color"}}
+    with subprocess.Popen([FOLDER_PROGRAM, *map(str, words)], **how) as ran:
+        os.close(its)
+        text = b""
+        try:
+            while piece := os.read(ours, 4096):
+                text += piece
+        except OSError:
+            pass  # A terminal that nobody has open any more ends by an error.
+        ran.wait(SECONDS)
+    os.close(ours)
+    return text
+
+
+def test_no_output_is_coloured():
+    """Nothing would change with the variable NO_COLOR."""
+    folder, _ = keyed(["k"])
+    for words in (("--help",), ("impact", "--help"), ("--wrong",), ("list", folder), ("list", folder / "none"), ("check", folder), ("history", folder, "a"),
+                  ("impact", folder, "a", "any", "t.a"), ("impact", folder, "a", "--across"), ("stats", folder)):
+        text = printed_to_a_terminal(*words)
+        expect((text != b"", b"\x1b" in text), (True, False), (words, text))

@@ -164,7 +164,7 @@ def test_an_impact_that_is_refused(folder):
     refused("UnknownAddress", folder, "impact", "a", "any", "t.a", "t.unknown")
     refused("TooManyAddresses", folder, "impact", "a", "any", *["t.a"] * 65)
     refused("NoName", folder, "impact", "b", "any", "t.a")
-    for words in (("any",), ("other", "t.a"), ()):
+    for words in (("any",), ("other", "t.a"), (), ("any", "t.a", "--json", "--dot"), ("any", "t.a", "--answer-only", "--json")):
         expect(run("impact", folder, "a", *words)[0], STATUSES["Arguments"], words)
 
 
@@ -206,7 +206,10 @@ def test_the_page_goes_back_with_terraform():
     project.run("terraform init")
     project.apply("first")
     project.apply("second")
+    across = commands.pop(9)
     expect((len(commands), commands.pop(3)), (12, "tfstatectl holder /var/lib/tfstated/journal prod"), commands)
+    expect(across, "tfstatectl impact /var/lib/tfstated/journal network --across")
+    commands.append(across.replace("network", "prod"))
     status, output, errors = run("holder", folder, "prod")
     expect((status, output, ": NotLocked" in errors), (STATUSES["NotLocked"], "", True), errors)
     printed = {line: project.run(line.replace("/var/lib/tfstated/journal", str(folder))) for line in commands}

@@ -13,12 +13,13 @@ from programs import TFSTATECTL as FOLDER_PROGRAM
 # The exit statuses by the names of faults, as docs/FOLDER.md lists them.
 STATUSES = {
     **dict.fromkeys(("Locked", "CannotRead", "CannotWrite", "CannotBind", "SyncFault", "AcceptFault", "Write", "Changing"), 20),
-    **dict.fromkeys(("Arguments", "NotPast", "BadTime"), 21), "TornBase": 22, "Damaged": 23, "Unlawful": 24,
+    **dict.fromkeys(("Arguments", "NotPast", "BadTime", "OneInput", "NoSource"), 21), "TornBase": 22, "Damaged": 23, "Unlawful": 24,
     **dict.fromkeys(("NoJournal", "NotFirst", "Diverged", "TooFar", "TwoOfName", "NotBeginning", "Served"), 25),
     **dict.fromkeys(("Replaced", "OldAhead", "OtherIdentity", "BadIdentity"), 25), **dict.fromkeys(("NotAtLeast", "NoPosition"), 26),
     **dict.fromkeys(("NoFolder", "NotFolder", "NotAllowed"), 27), **dict.fromkeys(("OutOfMemory", "SmallStack"), 28), "JournalFault": 29,
     "NoName": 30, "NoState": 31, **dict.fromkeys(("BeforeOldest", "BehindNewest", "NotKept", "NoTime"), 32), "LineageDiffers": 33, "NotLocked": 36,
-    **dict.fromkeys(("SerialAtLimit", "TooLong", "Unplaced"), 34), **dict.fromkeys(("NoAddress", "TooManyAddresses", "UnknownAddress"), 35)}
+    **dict.fromkeys(("SerialAtLimit", "TooLong", "Unplaced"), 34), **dict.fromkeys(("NoAddress", "TooManyAddresses", "UnknownAddress"), 35),
+    **dict.fromkeys(("BadPlan", "BadState", "LargeState", "NoFile"), 37)}
 
 
 def run(*words, **how):
