@@ -106,8 +106,10 @@ def check_the_bill_has_each_crate_and_each_library():
     expect(
         used - set(libraries()), set(), "libraries of crates.txt that deploy/libraries.txt lacks"
     )
-    tests = {name for name, part in found.items() if part["scope"] == "excluded"}
-    expect(tests, {"tfs_tests", "tfs_bench", "tfs_probe", "anyhow"})
+    excluded = {name for name, part in found.items() if part["scope"] == "excluded"}
+    needed = reached(["tfstated", "tfstatectl"], crates(), libraries())
+    expect(excluded, {*crates(), *libraries()} - set(needed))
+    expect({"tfs_tests", "tfs_bench", "tfs_probe", "anyhow"} <= excluded, True, excluded)
     for name in ("tfstated", "tfstatectl"):
         content = hashlib.sha256(Path(program(name)).read_bytes()).hexdigest()
         expect(found[name]["hashes"], [{"alg": "SHA-256", "content": content}])

@@ -38,7 +38,7 @@ def blocks_in(text, *languages):
 def other_blocks(page):
     """Returns blocks that could have commands which nothing finds: blocks of other languages, and
     indented ones."""
-    others = [block for language, block in FENCED.findall(page) if language not in ("bash", "sh", "hcl", "json")]
+    others = [block for language, block in FENCED.findall(page) if language not in ("bash", "sh", "hcl", "json", "nginx")]
     return others + re.findall(r"^ {4}.*$", FENCED.sub("", page), re.M)
 
 
