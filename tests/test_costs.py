@@ -77,14 +77,14 @@ def relation(pairs):
 
 
 @pytest.mark.usefixtures("tfs_bench")
-@pytest.mark.parametrize("targets, most", [(1, 1.1), (4, 1.1), (64, 1.2)])
-def test_an_order_of_rows_costs_little_compared_to_their_closure(targets, most):
+@pytest.mark.parametrize("targets", [1, 4, 16, 32, 64])
+def test_an_order_of_rows_costs_little_compared_to_their_closure(targets):
     chance = random.Random(7)
     ordered = [(row, chance.randrange(row)) for row in range(1, SIZE) for _ in range(targets)]
     numbers = chance.sample(range(SIZE), SIZE)
     shuffled = [(numbers[row], numbers[target]) for row, target in ordered]
     walk, closure = (instructions("planes", "close", relation(pairs)) for pairs in (ordered, shuffled))
-    expect(closure < most * walk, True, f"{targets} targets a row: {closure:,} instructions, and {walk:,} if the order is given")
+    expect(closure < 1.1 * walk, True, f"{targets} targets a row: {closure:,} instructions, and {walk:,} if the order is given")
 
 
 @pytest.mark.usefixtures("tfs_bench")

@@ -10,14 +10,14 @@ use Rattle.std.proofs.lemmas.List.Kept.{IsStrictlyIncreasing-filter}
 use Rattle.std.proofs.lemmas.List.Elements.{All-from_get_or, filter_agree}
 use Rattle.std.proofs.lemmas.List.Folds.{list_any_at, list_any_none}
 use Rattle.std.proofs.lemmas.Map.Views.{any-filter_same}
-use Rattle.std.proofs.lemmas.Nat.Bits.{bit_at-zero, bit_at_and, bit_at_or, bit_at-lt, bit_at_set_same, bit_at_set_other}
+use Rattle.std.proofs.lemmas.Nat.Bits.{bit_at-zero, bit_at_and, bit_at_or, bit_at-lt, bit_at_set_same, bit_at_set_other, bit_at_clear_same, bit_at_clear_other}
 use Rattle.std.specs.Cmp.{nat_cmp_total, unsigned_tied}
 use Rattle.std.specs.FinSet.{contains, insert, union, intersection, empty, same_set, contains-empty, contains-insert, contains-union}
 use Rattle.std.specs.FinSet.{contains-intersection, contains-from_list_nat, nat_cmp-IsAntisymmetric}
 use Rattle.std.proofs.Math.Nat.{pow-succ'}
 use Rattle.std.proofs.lemmas.Nat.{leading_top, div_below, le-div, pow_pos}
 use Rattle.std.proofs.lemmas.Simd.{length-chunk}
-use Rattle.std.specs.Int.{bit_at, leading_zeros}
+use Rattle.std.specs.Int.{bit_at, bit_not, leading_zeros}
 use Rattle.std.specs.List.{list_any, range_with_len}
 use Rattle.std.specs.List.Sorted.{IsStrictlyIncreasing}
 use Rattle.std.specs.Ordering.{nat_cmp}
@@ -103,6 +103,34 @@ bit_at_word-with_bit words i j within =
           let apart : j ≢ i = λ e. other (ap (λ k. k / 64) e) in
           ap (λ w. eqb (bit_at w (j % 64)) 1) (get_or-set_other words (i / 64) (j / 64) mixed 0 other)
           ∙ ap (λ b. b || bit_at_word words j) (sym (ne_eqb j i apart))
+    ]
+
+-- The list with bit i cleared.
+abbrev pub without_bit : List ℕ → ℕ → List ℕ
+without_bit words i = set words (i / 64) (bit_and (get_or words (i / 64) 0) (bit_not w64 (1 * 2 ^ (i % 64) % 2 ^ 64)))
+
+-- Bit i of the list with bit i cleared isn't set.
+pub bit_cleared : (words : List ℕ) (i : ℕ) → i < 64 * length words → bit_at_word (without_bit words i) i ≡ false
+unfolding bit_at_word
+bit_cleared words i within =
+    let word = get_or words (i / 64) 0 in
+    ap (λ w. eqb (bit_at w (i % 64)) 1) (get_or-set_same words (i / 64) _ 0 (omega arith))
+    ∙ ap (λ b. eqb b 1) (bit_at_clear_same w64 word (i % 64) (omega arith))
+
+-- Every other bit of the list with bit i cleared is unchanged.
+pub bit_uncleared : (words : List ℕ) (i j : ℕ) → i < 64 * length words → j ≢ i →
+    bit_at_word (without_bit words i) j ≡ bit_at_word words j
+unfolding bit_at_word
+bit_uncleared words i j within apart =
+    let word = get_or words (i / 64) 0 in
+    elim (cases_eq (j / 64) (i / 64)) [
+      | inl same ↦
+          let place : j % 64 ≢ i % 64 = λ e. apart (omega arith) in
+          ap (λ k. eqb (bit_at (get_or (without_bit words i) k 0) (j % 64)) 1) same
+          ∙ ap (λ w. eqb (bit_at w (j % 64)) 1) (get_or-set_same words (i / 64) _ 0 (omega arith))
+          ∙ ap (λ b. eqb b 1) (bit_at_clear_other w64 word (i % 64) (omega arith) (j % 64) (omega arith) place)
+          ∙ ap (λ k. eqb (bit_at (get_or words k 0) (j % 64)) 1) (sym same)
+      | inr other ↦ ap (λ w. eqb (bit_at w (j % 64)) 1) (get_or-set_other words (i / 64) (j / 64) _ 0 other)
     ]
 
 -- Lists with equal words have equal bits.

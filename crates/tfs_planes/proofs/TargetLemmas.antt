@@ -1,7 +1,7 @@
 -- Lemmas about rows that take in the rows of their targets.
-use Rattle.std.proofs.Common.{◌≡◌, ◌≢◌, ◌↔◌, ◌⊎◌, ℕ, ◌+◌, ◌-◌, ◌*◌, ◌/◌, ◌%◌, ◌^◌, ◌<◌, ◌≤◌, min, ◌||◌, eqb, IsTrue, List, false}
+use Rattle.std.proofs.Common.{◌≡◌, ◌≢◌, ◌↔◌, ◌⊎◌, ℕ, ◌+◌, ◌-◌, ◌*◌, ◌/◌, ◌%◌, ◌^◌, ◌<◌, ◌≤◌, min, ◌||◌, eqb, IsTrue, List}
 use Rattle.std.proofs.Common.{length, get_or, replicate, bit_and, bit_or, w64, ap, sym, subst, ◌∙◌, inl, inr, arith}
-use Rattle.std.proofs.lemmas.Bool.{cases_eq, cases_lt, or_cases, or_left, or_right, false≢true, eqb-true, eq-eqb, ne_eqb}
+use Rattle.std.proofs.lemmas.Bool.{cases_eq, cases_lt, or_cases, or_left, or_right, false≢true, eqb-true, eq-eqb}
 use Rattle.std.proofs.lemmas.Nat.{and_le_l}
 use Rattle.std.proofs.lemmas.Nat.Bits.{bit_at_and, bit_at_not, bit_at-lt, bit_at-zero, bit_at_above, bit_at_clear_same, bit_at_clear_other, bit_at-pow_other}
 use Rattle.std.specs.Int.{bit_at, bit_not}
@@ -54,15 +54,16 @@ bits_without bits others = bit_and bits (bit_not w64 others)
 bit_at_without : (bits others k : ℕ) → others < 2 ^ 64 → k < 64 → bit_at (bits_without bits others) k ≡ min (bit_at bits k) (1 - bit_at others k)
 bit_at_without bits others k fits below = bit_at_and bits (bit_not w64 others) k ∙ ap (min (bit_at bits k)) (bit_at_not w64 others k fits below)
 
--- A bit of the difference of two words is a number of the first list and not of the other.
-pub number_without : (words others : List ℕ) (at k : ℕ) → get_or others at 0 < 2 ^ 64 → k < 64 →
-    bit_at (bits_without (get_or words at 0) (get_or others at 0)) k ≡ 1 →
-    IsTrue (bit_at_word words (at * 64 + k)) × (bit_at_word others (at * 64 + k) ≡ false)
-number_without words others at k fits below one =
+-- A bit that is set in both words at `at` is set in both lists.
+pub number_common : (words others : List ℕ) (at k : ℕ) → k < 64 → bit_at (bit_and (get_or words at 0) (get_or others at 0)) k ≡ 1 →
+    IsTrue (bit_at_word words (at * 64 + k)) × IsTrue (bit_at_word others (at * 64 + k))
+number_common words others at k below one =
     let place : at * 64 + k ≡ 64 * at + k = omega arith in
-    let left = bit_at_without (get_or words at 0) (get_or others at 0) k fits below in (
+    let both = bit_at_and (get_or words at 0) (get_or others at 0) k in
+    let two = bit_at-lt (get_or words at 0) k in
+    let also = bit_at-lt (get_or others at 0) k in (
       ap (bit_at_word words) place ∙ bit_of_word at k words below ∙ eq-eqb _ 1 (omega arith),
-      ap (bit_at_word others) place ∙ bit_of_word at k others below ∙ ne_eqb _ 1 (omega arith),
+      ap (bit_at_word others) place ∙ bit_of_word at k others below ∙ eq-eqb _ 1 (omega arith),
     )
 
 -- The remaining bits are targets, and they are placed if no bit is missing in `placed`.
@@ -217,6 +218,25 @@ gathers_skip s words own row came at long also same come = record {
   come = come;
   keeps = λ j is. is;
   covers = λ t j low high target cell. come.closed t j (covered_bit at own came long also same t low high target.0) cell;
+}
+
+-- If no bit of the row's word remains outside the collected bits, the rows of its targets are
+-- collected.
+pub gathers_had : (s : ℕ) (words own : List ℕ) (row : ℕ) (came : List ℕ) (word : ℕ) → get_or came word 0 < 2 ^ 64 →
+    bits_without (get_or own word 0) (get_or came word 0) ≡ 0 →
+    HasCome s words own row came → Gathers s words own row came came (64 * word) (64 * word + 64)
+gathers_had s words own row came word fits none come = record {
+  come = come;
+  keeps = λ j is. is;
+  covers = λ t j low high target cell.
+      let k = t - 64 * word in
+      let place : 64 * word + k ≡ t = omega arith in
+      let below : k < 64 = omega arith in
+      let left = bit_at_without (get_or own word 0) (get_or came word 0) k fits below in
+      let zero = ap (λ n. bit_at n k) none ∙ bit_at-zero k in
+      let set = eqb-true _ 1 (sym (bit_of_word word k own below) ∙ ap (bit_at_word own) place ∙ target.0) in
+      let two = bit_at-lt (get_or came word 0) k in
+      come.closed t j (sym (ap (bit_at_word came) place) ∙ bit_of_word word k came below ∙ eq-eqb _ 1 (omega arith)) cell;
 }
 
 -- At the start nothing is collected.

@@ -1,11 +1,11 @@
 //! Single bits of a list of words.
-ghost use Rattle.std.specs.Prelude.{◌≡◌, ℕ, ◌+◌, ◌*◌, ◌/◌, ◌<◌, ◌≤◌, ◌||◌, ◌==◌, ◌^◌, ◌↔◌, true, false, length, count_by, replicate};
+ghost use Rattle.std.specs.Prelude.{◌≡◌, ℕ, ◌+◌, ◌*◌, ◌/◌, ◌<◌, ◌≤◌, ◌||◌, ◌==◌, ◌^◌, ◌↔◌, ◌≢◌, true, false, length, count_by, replicate};
 ghost use Rattle.std.specs.Prelude.{IfOk, IfSome, IfNone, IsTrue};
 ghost use Rattle.std.specs.Int.{bit_at};
 ghost use Rattle.std.specs.List.{range_with_len};
 ghost use Rattle.tfs_planes.specs.Row.{bit_at_word, members_of, row_length};
 
-use crate::kernels::{LANES, count_words, covers_lanes};
+use crate::kernels::{LANES, are_disjoint_lanes, count_words};
 use std::alloc::{AllocError, Allocator};
 
 /// Returns the number of words in a row of `size` bits.
@@ -81,10 +81,12 @@ pub(crate) fn are_full(words: &[u64], count: usize) -> bool
     true
 }
 
-/// Clears bit `i`.
+/// Clears bit `i` and leaves every other bit unchanged.
 #[inline(always)]
 pub(crate) fn clear_bit(words: &mut [u64], i: usize)
     requires { i < 64 * length words.old }
+    ensures cleared { bit_at_word words.new i ≡ false }
+    ensures others { (j : ℕ) → j ≢ i → bit_at_word words.new j ≡ bit_at_word words.old j }
 {
     words[i / 64] &= !(1 << (i % 64));
 }
@@ -99,48 +101,47 @@ pub(crate) fn highest_bit(word: u64) -> usize
     63 - word.leading_zeros() as usize
 }
 
-/// Returns a number whose bit is set in `words` and not in `others`, in the words from `from` to
-/// before `to`.
+/// Returns a number whose bit is set in both lists, in the words from `from` to before `to`.
 #[inline(always)]
-fn missing_singly(words: &[u64], others: &[u64], from: usize, to: usize) -> Option<usize>
+fn common_singly(words: &[u64], others: &[u64], from: usize, to: usize) -> Option<usize>
     requires lengths { length words.now ≤ length others.now }
     requires wide { length words.now ≤ 64 }
     requires within { to ≤ length words.now }
     ensures below { IfSome result (λ number. number < 64 * length words.now) }
     ensures member { IfSome result (λ number. IsTrue (bit_at_word words.now number)) }
-    ensures missing { IfSome result (λ number. bit_at_word others.now number ≡ false) }
+    ensures common { IfSome result (λ number. IsTrue (bit_at_word others.now number)) }
 {
     for at in from..to {
-        let missing = words[at] & !others[at];
-        if missing != 0 {
-            return Some(at * 64 + highest_bit(missing));
+        let both = words[at] & others[at];
+        if both != 0 {
+            return Some(at * 64 + highest_bit(both));
         }
     }
     None
 }
 
-/// Returns a number whose bit is set in `words` and not in `others`. The search starts at word
-/// `from`. After the lane block of that word, it compares a lane block per step.
+/// Returns a number whose bit is set in both lists. The search starts at word `from`. After the
+/// lane block of that word, it compares a lane block per step.
 #[inline(always)]
-pub(crate) fn missing(words: &[u64], others: &[u64], from: usize) -> Option<usize>
+pub(crate) fn common(words: &[u64], others: &[u64], from: usize) -> Option<usize>
     requires lengths { length words.now ≤ length others.now }
     requires wide { length words.now ≤ 64 }
     ensures below { IfSome result (λ number. number < 64 * length words.now) }
     ensures member { IfSome result (λ number. IsTrue (bit_at_word words.now number)) }
-    ensures missing { IfSome result (λ number. bit_at_word others.now number ≡ false) }
+    ensures common { IfSome result (λ number. IsTrue (bit_at_word others.now number)) }
 {
     let next = from / LANES + 1;
     let whole = words.len() / LANES;
     if next > whole {
-        return missing_singly(words, others, from, words.len());
+        return common_singly(words, others, from, words.len());
     }
-    if let Some(number) = missing_singly(words, others, from, next * LANES) {
+    if let Some(number) = common_singly(words, others, from, next * LANES) {
         return Some(number);
     }
     for block in next..whole {
         let at = block * LANES;
-        if !covers_lanes(words, others, at) {
-            return missing_singly(words, others, at, at + LANES);
+        if !are_disjoint_lanes(words, others, at) {
+            return common_singly(words, others, at, at + LANES);
         }
     }
     None

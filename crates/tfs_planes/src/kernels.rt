@@ -191,6 +191,19 @@ pub(crate) fn covers_lanes(words: &[u64], others: &[u64], at: usize) -> bool
     both.simd_ne(other).to_bitmask() == 0
 }
 
+/// Returns true if no bit is set in both lane blocks.
+#[inline(always)]
+pub(crate) fn are_disjoint_lanes(words: &[u64], others: &[u64], at: usize) -> bool
+    requires words { at + LANES ≤ length words.now }
+    requires others { at + LANES ≤ length others.now }
+    ensures { IsTrue result
+        ↔ (zip2 bit_and (chunk at LANES words.now) (chunk at LANES others.now)
+        ≡ replicate LANES 0) }
+{
+    let both = u64x8::from_slice(&words[at..]) & u64x8::from_slice(&others[at..]);
+    both.simd_ne(u64x8::splat(0)).to_bitmask() == 0
+}
+
 /// Sets each word to 0.
 #[inline(always)]
 pub(crate) fn clear_words(words: &mut [u64])

@@ -1,12 +1,12 @@
 //! The search for an order of rows in which each row's targets, other than itself, come before it.
 //! A row waits for one target that isn't in the order yet, and its search continues from that
 //! target afterwards.
-ghost use Rattle.std.specs.Prelude.{◌≡◌, ◌+◌, ◌*◌, ◌<◌, ◌≤◌, IfSome, false, length};
+ghost use Rattle.std.specs.Prelude.{◌≡◌, ◌+◌, ◌*◌, ◌<◌, ◌≤◌, IfSome, IsTrue, length};
 ghost use Rattle.tfs_planes.specs.Row.{bit_at_word};
 ghost use Rattle.tfs_planes.specs.Targets.{IsTarget};
 
 use crate::WORDS;
-use crate::bits::{clear_bit, missing, set_bit};
+use crate::bits::{clear_bit, common, set_bit};
 use crate::cells::row_at;
 
 /// The value that represents no row.
@@ -19,8 +19,8 @@ pub(crate) struct Order<const N: usize> {
     rows: [u16; N],
     /// The number of placed rows.
     len: usize,
-    /// The set of the placed rows.
-    placed: [u64; WORDS],
+    /// The set of the numbers that aren't those of placed rows.
+    unplaced: [u64; WORDS],
     /// For each row, the word of its targets from which its search continues.
     words: [u8; N],
     /// For each target, the row that was the last to wait for it.
@@ -37,7 +37,7 @@ impl<const N: usize> Order<N> {
         Order {
             rows: [NONE; N],
             len: 0,
-            placed: [0; WORDS],
+            unplaced: [u64::MAX; WORDS],
             words: [0; N],
             waiting: [NONE; N],
             behind: [NONE; N],
@@ -124,17 +124,17 @@ impl<const N: usize> Order<N> {
         requires small { row < 4096 }
         ensures below { IfSome result (λ target. target < 64 * length targets.now) }
         ensures target { IfSome result (λ target. IsTarget targets.now row target) }
-        ensures unplaced { IfSome result (λ target. bit_at_word self.old.placed target ≡ false) }
+        ensures unplaced { IfSome result (λ target. IsTrue (bit_at_word self.old.unplaced target)) }
     {
         let from = usize::from(self.words[row]);
-        let target = missing(targets, &self.placed, from)?;
+        let target = common(targets, &self.unplaced, from)?;
         if target != row {
             return Some(target);
         }
         // The row's own word may have another missing target below the row.
-        set_bit(&mut self.placed, row);
-        let target = missing(targets, &self.placed, from);
-        clear_bit(&mut self.placed, row);
+        clear_bit(&mut self.unplaced, row);
+        let target = common(targets, &self.unplaced, from);
+        set_bit(&mut self.unplaced, row);
         target
     }
 
@@ -148,7 +148,7 @@ impl<const N: usize> Order<N> {
             *last = row as u16;
             self.len += 1;
         }
-        set_bit(&mut self.placed, row);
+        clear_bit(&mut self.unplaced, row);
         self.behind[row] = latest;
     }
 

@@ -48,6 +48,9 @@ fn gather_word(
         → Gathers (length came.old) words.now own.now row came.old came.new
         (64 * word) (64 * word + 64) }
 {
+    if own[word] & !came[word] == 0 {
+        return true;
+    }
     let stride = came.len();
     let mut left = targets_in(own, row, word) & !came[word];
     let missing = left & !placed[word];

@@ -5,7 +5,7 @@ use Rattle.std.specs.Simd.Lanes.{zip2}
 use Rattle.tfs_planes.proofs.BitLemmas.{bit_of_word}
 use Rattle.tfs_planes.proofs.PlaneLemmas.{length-row_words}
 use Rattle.tfs_planes.proofs.TakeLemmas.{bits_left_less, bits_left_before}
-use Rattle.tfs_planes.proofs.TargetLemmas.{left_within, takes_word_start, takes_word_more, gathers_word}
+use Rattle.tfs_planes.proofs.TargetLemmas.{left_within, takes_word_start, takes_word_more, gathers_had, gathers_word}
 use Rattle.tfs_planes.proofs.placing.gather_word.Goals as goal
 
 pub loop-left-init : goal.loop-left-init
@@ -48,6 +48,11 @@ loop-left-preserved c =
           takes_word_more s words c.args.own.now c.args.row c.args.placed.now c.args.came.now came after word left k closed (inv.takes closed come)
           c.highest_bit-k.ensures.below (inv.target k set) is_placed long made (c.type_inv.came word).fits;
     }
+
+pub returns-then-own-word-eq0 : goal.returns-then-own-word-eq0
+returns-then-own-word-eq0 c = λ is closed come.
+    gathers_had (length c.args.came.now) c.args.words.now c.args.own.now c.args.row c.args.came.now c.args.word (c.type_inv.came c.args.word).fits
+    c.if-own-word-eq0.true come
 
 pub returns : goal.returns
 returns c = λ is closed come.
