@@ -171,7 +171,7 @@ def failed_compaction(*words):
     expect(f"{named(2)}.tfj: CannotWrite" in lines[1], True, lines)
     expect((folder / "compact").exists(), False, "the file is taken")
     pusher.push()
-    expect((sorted(path.name for path in folder.glob("*journal*")), pusher.acknowledged), ([f"{named(1)}.tfj"], 2), "the journal goes on")
+    expect((sorted(path.name for path in folder.glob("*journal*.tfj*")), pusher.acknowledged), ([f"{named(1)}.tfj"], 2), "the journal goes on")
     return folder, server, pusher, time.monotonic()
 
 
@@ -250,8 +250,8 @@ def test_a_kill_at_each_call_of_compactions_loses_nothing(client):
     count = fresh() / "count"
     serving(fresh(), env={**os.environ, "LD_PRELOAD": SHIM, "TURN": "0", "COUNT": str(count)}).kill()
     first = len(count.read_bytes())
-    olds = at_once(functools.partial(killed_at, client), range(first + 1, first + 49))
-    expect(max(olds) > 2, True, "some kills came after turns")
+    olds = at_once(functools.partial(killed_at, client), range(first + 1, first + 73))
+    expect(max(olds) > 2, True, f"some kills came after turns: {olds}")
 
 
 def kill_once(folder, chance, pushers):

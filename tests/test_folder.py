@@ -268,6 +268,7 @@ def test_two_of_one_name_stop_the_start():
     (folder / "old").mkdir()
     (folder / "old" / f"{named(3)}.tfj").write_bytes(SHORT)
     refused(folder, "TwoOfName", "old/ has it, too")
+    expect((run("check", folder)[0], run("check", fresh(n3=NEWEST))[0]), (STATUSES["TwoOfName"], 0))
 
 
 def test_the_lock_keeps_two_servers_off_one_folder():

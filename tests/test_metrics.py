@@ -12,16 +12,18 @@ import pytest
 from checking import S1, SECONDS, expect
 from folder_program import STATUSES, LocalConnection, Serving, ended
 from folders import LOOPBACK, ask_over, free_port, fresh, named
+from lazy_disk import slow
 from metrics import read_families
 
 pytestmark = pytest.mark.usefixtures("tfstatectl")
 KINDS = {
-    "tfstated_requests_total": "counter", "tfstated_request_duration_seconds": "histogram", "tfstated_compactions_total": "counter",
+    "tfstated_requests_total": "counter", "tfstated_request_duration_seconds": "histogram", "tfstated_sync_duration_seconds": "histogram",
+    "tfstated_compactions_total": "counter",
     "tfstated_failed_compactions_total": "counter", "tfstated_compaction_wait_seconds_total": "counter",
     "tfstated_longest_compaction_wait_seconds": "gauge", "tfstated_changes_total": "counter", "tfstated_journal_bytes": "gauge",
     "process_resident_memory_bytes": "gauge"}
 LOCK, OTHER = (json.dumps({"ID": holder, "Who": "a"}).encode() for holder in "xy")
-MIB = 1 << 20
+MIB, DELAY_MICROS = 1 << 20, 10_000
 ROUTES = {"GET": ("state", "impact"), "POST": ("state",), "DELETE": ("state",), "LOCK": ("state",), "UNLOCK": ("state",)}
 
 
@@ -74,7 +76,22 @@ def test_each_answer_is_counted_by_what_was_asked_and_answered():
     expect(counted(server.samples()), {
         row("GET", "state", 404, "NoState"): 1, row("POST", "state", 200): 2, row("GET", "state", 200): 1, row("LOCK", "state", 200): 1,
         row("LOCK", "state", 423, "Locked"): 1, row("POST", "state", 423, "Locked"): 1, row("UNLOCK", "state", 200): 1,
-        row("DELETE", "state", 200): 1, row("GET", "impact", 404, "NoState"): 1, row("POST", "state", 400, "BadState"): 1})
+        row("DELETE", "state", 200): 1, row("GET", "impact", 404, "NoState"): 1, row("POST", "state", 400, "BadState"): 1,
+        row("", "", 404, "NoRoute"): 1})
+
+
+def test_a_request_that_is_refused_before_the_table_is_counted_too():
+    server = Measured().listens()
+    asked = [b"no head\r\n\r\n", b"GET /state/a HTTP/1.1\r\n\r\n", b"PUT /state/a HTTP/1.1\r\nHost: x\r\n\r\n", b"no head\r\n\r\n",
+             b"GET /state/a HTTP/1.1\r\nHost: x\r\nTransfer-Encoding: gzip\r\n\r\n"]
+    for text in asked:
+        with socket.create_connection((LOOPBACK, server.port), SECONDS) as stream:
+            stream.sendall(text)
+            expect(stream.recv(65536).startswith(b"HTTP/1.1 4") or text[:3] == b"GET", True, text)
+    found = counted(server.samples())
+    expect(sum(found.values()), len(asked), found)
+    expect({key: count for key, count in found.items() if count != 1}, {row("", "", 400, "BadHead"): 2})
+    expect({dict(key[1])["refusal"] for key in found}, {"BadHead", "NoHost", "MethodNotAllowed", "TransferCoding"})
 
 
 def test_the_memory_and_its_limit():
@@ -104,6 +121,20 @@ def test_durations_are_in_buckets_that_grow():
             count = {("GET", "state"): 20, ("POST", "state"): 1}.get((method, route), 0)
             expect((buckets[-1][1], samples[f"{name}_count", frozenset(labels)]), (count, count))
             expect(samples[f"{name}_sum", frozenset(labels)] > 0, count > 0)
+
+
+def test_each_sync_is_counted_with_its_time():
+    server = Measured(env=slow(DELAY=DELAY_MICROS)).listens()
+    begun, name = server.samples(), "tfstated_sync_duration_seconds"
+    for _ in range(5):
+        expect(server.ask("POST", "/state/a", S1)[0], 200)
+    expect(server.ask("GET", "/state/a")[0], 200)
+    samples = server.samples()
+    grown = {key: number - begun[key] for key, number in samples.items() if key[0].startswith(name)}
+    expect(grown[f"{name}_count", frozenset()], 5, "each change had a sync of its own, and the read had none")
+    expect(5 * DELAY_MICROS / 1e6 <= grown[f"{name}_sum", frozenset()], True, grown)
+    buckets = {dict(key[1])["le"]: number for key, number in grown.items() if key[0] == f"{name}_bucket"}
+    expect((len(buckets), buckets["+Inf"], buckets["0.010000"]), (11, 5, 0), buckets)
 
 
 def test_the_journal_and_its_compactions():

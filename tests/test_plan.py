@@ -14,6 +14,7 @@ from folder_program import FOLDER_PROGRAM, STATUSES, run
 from folders import fresh
 from impact_model import instances_of
 from journal_reader import push_content, record_text
+from plan_texts import STATE, change, on, plan_of
 from sample_states import resource, text_of
 
 pytestmark = pytest.mark.usefixtures("tfstatectl")
@@ -21,27 +22,6 @@ pytestmark = pytest.mark.usefixtures("tfstatectl")
 MARKER = "<!-- tfstatectl impact -->"
 WORDS = {("delete",): "destroyed", ("create", "delete"): "replaced", ("delete", "create"): "replaced", ("update",): "updated",
          ("forget",): "forgotten", ("create", "forget"): "replaced"}
-
-
-def on(*texts):
-    """Returns a list of one instance that depends on these addresses."""
-    return [{"attributes": {}, "dependencies": list(texts)}]
-
-
-# A machine and its name in two subnets of a network, and one resource that nothing depends on.
-STATE = text_of([resource("vpc", on()), resource("subnet", [{"index_key": key, "dependencies": ["t.vpc"]} for key in ("a", "b")]),
-                 resource("web", on("t.subnet", "t.vpc")), resource("dns", on("t.web", "t.subnet", "t.vpc")), resource("other", on())])
-
-
-def change(address, *actions, before=None, after=None, unknown=None, **members):
-    """Returns a change of a plan."""
-    return {"address": address, "mode": "managed", **members,
-            "change": {"actions": list(actions), "before": before or {}, "after": after or {}, "after_unknown": unknown or {}}}
-
-
-def plan_of(*changes, **members):
-    """Returns the text of a plan with these changes."""
-    return json.dumps({"format_version": "1.2", "planned_values": {}, "resource_changes": list(changes), **members}).encode()
 
 
 def asked(plan, *words, state=STATE):

@@ -99,8 +99,10 @@ static int is_on_disk(const char *path) {
     return path[length] == '/' || !path[length];
 }
 
+/* A journal, but not the log next to it. */
 static int is_journal(const char *path) {
-    return !strncmp(last_of(path), "journal-", 8);
+    const char *name = last_of(path), *end = strrchr(name, '.');
+    return !strncmp(name, "journal-", 8) && !(end && !strcmp(end, ".who"));
 }
 
 static void find_path(int descriptor, char *path) {

@@ -12,8 +12,8 @@ from programs import TFSTATECTL as FOLDER_PROGRAM
 
 # The exit statuses by the names of faults, as docs/FOLDER.md lists them.
 STATUSES = {
-    **dict.fromkeys(("Locked", "CannotRead", "CannotWrite", "CannotBind", "SyncFault", "AcceptFault", "Write", "Changing"), 20),
-    **dict.fromkeys(("Arguments", "NotPast", "BadTime", "OneInput", "NoSource"), 21), "TornBase": 22, "Damaged": 23, "Unlawful": 24,
+    **dict.fromkeys(("Locked", "CannotRead", "CannotWrite", "CannotBind", "SyncFault", "AcceptFault", "Write", "Changing", "NoReply", "Status"), 20),
+    **dict.fromkeys(("Arguments", "NotPast", "BadTime", "OneInput", "NoSource", "BadUrl"), 21), "TornBase": 22, "Damaged": 23, "Unlawful": 24,
     **dict.fromkeys(("NoJournal", "NotFirst", "Diverged", "TooFar", "TwoOfName", "NotBeginning", "Served"), 25),
     **dict.fromkeys(("Replaced", "OldAhead", "OtherIdentity", "BadIdentity"), 25), **dict.fromkeys(("NotAtLeast", "NoPosition"), 26),
     **dict.fromkeys(("NoFolder", "NotFolder", "NotAllowed"), 27), **dict.fromkeys(("OutOfMemory", "SmallStack"), 28), "JournalFault": 29,

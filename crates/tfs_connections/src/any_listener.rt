@@ -49,6 +49,13 @@ impl OpenListener for AnyListener {
 }
 
 impl Connection for AnyStream {
+    fn client(&self) -> Option<IpAddr> {
+        match self {
+            AnyStream::Tcp(stream) => stream.client(),
+            AnyStream::Local(stream) => stream.client(),
+        }
+    }
+
     fn limit(&self) -> io::Result<()> {
         match self {
             AnyStream::Tcp(stream) => stream.limit(),

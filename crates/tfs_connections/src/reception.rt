@@ -160,6 +160,7 @@ fn converse_on<S: Connection + Drop, D: OwedDesk, R: Wait + Clock>(
     if stream.limit().is_err() {
         return Texts::new();
     }
+    desk.note_client(stream.client());
     let timing = Timing::new(setting.rt, setting.ended, setting.muted, setting.load);
     let texts = converse_in_time(setting.alloc, &timing, &stream, desk);
     timing.end_slow();

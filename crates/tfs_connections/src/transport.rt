@@ -6,7 +6,7 @@ use crate::any_listener::AnyStream;
 use crate::limits::LOOK_MILLISECONDS;
 use crate::written::Text;
 use std::io::{self, Read, Write};
-use std::net::TcpStream;
+use std::net::{IpAddr, TcpStream};
 use std::os::unix::net::UnixStream;
 use std::time::Duration;
 
@@ -15,6 +15,9 @@ pub trait Connection {
     ghost use Rattle.std.specs.Prelude.{Some};
     ghost use Rattle.std.specs.Io.{ReadsAtMost, WritesAtMost};
     ghost use Rattle.std.specs.Io.KnownBytes.{WriteAppends};
+
+    /// Returns the address of the client. `None` if it has none, or isn't known.
+    fn client(&self) -> Option<IpAddr>;
 
     /// Sets a timeout of `LOOK_MILLISECONDS` on reads and writes, and has each write sent at once.
     fn limit(&self) -> io::Result<()>;
@@ -33,6 +36,10 @@ pub trait Connection {
 }
 
 impl Connection for TcpStream {
+    fn client(&self) -> Option<IpAddr> {
+        Some(self.peer_addr().ok()?.ip())
+    }
+
     fn limit(&self) -> io::Result<()> {
         let look = Duration::from_millis(LOOK_MILLISECONDS);
         self.set_read_timeout(Some(look))?;
@@ -58,6 +65,10 @@ impl Connection for TcpStream {
 }
 
 impl Connection for UnixStream {
+    fn client(&self) -> Option<IpAddr> {
+        None
+    }
+
     fn limit(&self) -> io::Result<()> {
         let look = Duration::from_millis(LOOK_MILLISECONDS);
         self.set_read_timeout(Some(look))?;

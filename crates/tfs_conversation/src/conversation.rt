@@ -52,7 +52,7 @@ pub fn converse_owed<R: Source, W: Outlet, D: OwedDesk>(
     ensures writer { TellsWriter result (W.failed writer.old) (W.failed writer.new)
         ⊎ ((result ≡ Err WriteFault) × (W.failed writer.new ≡ W.failed writer.old) × Withholds D.step) }
 {
-    let Ok(mut connection) = Connection::new(alloc) else {
+    let Ok(mut connection) = Connection::new(alloc, desk.wants_heads()) else {
         return Err(ServeFault::NoMemory);
     };
     run(&mut connection, reader, writer, desk, reads)
@@ -69,13 +69,13 @@ struct Connection {
 
 impl Connection {
     /// Makes a connection that has read nothing yet.
-    fn new(alloc: Global) -> Result<Connection, AllocError>
+    fn new(alloc: Global, keeps_heads: bool) -> Result<Connection, AllocError>
         ensures { IfOk result (λ connection. connection.input ≡ []) }
     {
         Ok(Connection {
             alloc,
             routes: Routes::new(alloc)?,
-            input: Input::new(alloc)?,
+            input: Input::new(alloc, keeps_heads)?,
             buffer: ReplyBuffer::new(alloc)?,
         })
     }
@@ -144,6 +144,7 @@ fn turn<R: Source, W: Outlet, D: OwedDesk>(
             }
         }
         Arrived::Refused(refusal) => {
+            desk.note_refusal(&refusal);
             let reply = Reply::Refused(refusal);
             match connection.buffer.send(writer, &reply, CLOSING) {
                 Ok(()) => Ok(Some(Ended::Refused)),
@@ -184,10 +185,14 @@ fn reply_to<W: Outlet, D: OwedDesk>(
     ensures writer { TellsWriter result (W.failed writer.old) (W.failed writer.new)
         ⊎ ((result ≡ Err WriteFault) × (W.failed writer.new ≡ W.failed writer.old) × Withholds D.step) }
 {
+    desk.note_request(&request);
     match call_of(connection.alloc, &connection.routes, request) {
         Ok(call) => desk.reply(call, form, &mut connection.buffer, writer),
-        Err(refusal) => connection
-            .buffer
-            .send(writer, &Reply::Refused(refusal), form),
+        Err(refusal) => {
+            desk.note_refusal(&refusal);
+            connection
+                .buffer
+                .send(writer, &Reply::Refused(refusal), form)
+        }
     }
 }

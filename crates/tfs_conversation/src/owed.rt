@@ -1,8 +1,9 @@
 //! Desks whose replies are owed: a reply may be withheld.
 
 use crate::buffer::ReplyBuffer;
-use tfs_calls::Call;
-use tfs_framing::Form;
+use std::net::IpAddr;
+use tfs_calls::{Call, Refusal};
+use tfs_framing::{Form, Request};
 use tfs_http::{Outlet, ServeFault};
 
 /// A service that answers calls one after the other, and writes a reply only once it may be
@@ -18,6 +19,20 @@ pub trait OwedDesk {
 
     // The steps: from the first value, the call may get what is said and leave the second value.
     ghost step: { Self → Call → Said → Self → Type 0 };
+
+    /// Returns true if `note_request` needs the heads of requests.
+    fn wants_heads(&self) -> bool {
+        false
+    }
+
+    /// Notes the address of the client whose requests follow, if it is known.
+    fn note_client(&self, _address: Option<IpAddr>) {}
+
+    /// Notes a request before its call is answered or refused.
+    fn note_request(&self, _request: &Request) {}
+
+    /// Notes that a request was refused before it became a call.
+    fn note_refusal(&self, _refusal: &Refusal) {}
 
     /// Answers a call, whose body has at most 16 MiB, and writes the reply in this form. If the
     /// reply may not be written, writes nothing and returns `Write`.

@@ -4,3 +4,4 @@ pub mod Copies
 pub mod Start
 pub mod Retention
 pub mod Status
+pub mod Faults

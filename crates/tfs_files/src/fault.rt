@@ -1,8 +1,11 @@
 //! The ends of commands: the message on standard error, and the exit status.
 
 ghost use Rattle.std.specs.Prelude.{◌≡◌};
+ghost use Rattle.std.specs.IoError.{error_kind};
+ghost use Rattle.tfs_files.specs.Faults.{by_kind, is_folder};
 ghost use Rattle.tfs_files.specs.Status.{status_of};
 
+use crate::folder::JournalName;
 use std::io;
 use std::process::ExitCode;
 use tfs_folder::Unchosen;
@@ -81,6 +84,23 @@ Stop what moved it, find the journal with the highest position, and start again"
     Replaced,
     #[error("AcceptFault: the listener has failed. Start again")]
     AcceptFault,
+}
+
+impl CommandFault {
+    /// Returns the fault of a failed operation on a file: `OutOfMemory` or `NotAllowed` if the
+    /// system's error says so, `NoFolder` or `NotFolder` if it says so of the folder of journals,
+    /// and otherwise `fault`.
+    pub fn by_system(is_folder: bool, fault: CommandFault, error: &io::Error) -> CommandFault
+        ensures fault { result ≡ by_kind is_folder fault (error_kind error.now) }
+    {
+        match error.kind() {
+            io::ErrorKind::OutOfMemory => CommandFault::OutOfMemory,
+            io::ErrorKind::PermissionDenied => CommandFault::NotAllowed,
+            io::ErrorKind::NotFound if is_folder => CommandFault::NoFolder,
+            io::ErrorKind::NotADirectory if is_folder => CommandFault::NotFolder,
+            _ => fault,
+        }
+    }
 }
 
 /// Returns the exit status of a fault.
@@ -162,6 +182,27 @@ pub enum FaultPlace {
     Address,
 }
 
+impl FaultPlace {
+    /// Returns true if the subject is the folder.
+    fn is_folder(self) -> bool
+        ensures value { result ≡ is_folder self }
+    {
+        match self {
+            FaultPlace::Folder => true,
+            FaultPlace::Command
+            | FaultPlace::Old
+            | FaultPlace::Journal(_)
+            | FaultPlace::OldJournal(_)
+            | FaultPlace::Identity
+            | FaultPlace::OriginalIdentity
+            | FaultPlace::First
+            | FaultPlace::Past
+            | FaultPlace::Position
+            | FaultPlace::Address => false,
+        }
+    }
+}
+
 /// The end of a command: a fault and its subject.
 #[derive(Clone, Copy, Debug, PartialEq, Eq)]
 pub struct CommandEnd {
@@ -201,25 +242,11 @@ impl CommandEnd {
         CommandEnd::at(FaultPlace::OriginalIdentity, self.fault)
     }
 
-    /// Creates the end after a failed operation on a file. The fault is `OutOfMemory` or
-    /// `NotAllowed` if the system's error says so, `NoFolder` or `NotFolder` if it says so of the
-    /// folder, and otherwise `fault`.
+    /// Creates the end after a failed operation on a file, by the system's error.
     pub fn by_system(place: FaultPlace, fault: CommandFault, error: &io::Error) -> CommandEnd
-        ensures at { result.place ≡ place }
+        ensures at { result ≡ record { place = place; fault = by_kind (is_folder place) fault (error_kind error.now) } }
     {
-        let fault = match error.kind() {
-            io::ErrorKind::OutOfMemory => CommandFault::OutOfMemory,
-            io::ErrorKind::PermissionDenied => CommandFault::NotAllowed,
-            io::ErrorKind::NotFound => match place {
-                FaultPlace::Folder => CommandFault::NoFolder,
-                _ => fault,
-            },
-            io::ErrorKind::NotADirectory => match place {
-                FaultPlace::Folder => CommandFault::NotFolder,
-                _ => fault,
-            },
-            _ => fault,
-        };
+        let fault = CommandFault::by_system(place.is_folder(), fault, error);
         CommandEnd { place, fault }
     }
 }
@@ -239,12 +266,12 @@ pub fn end_by(rt: &impl Eprint, name: &str, end: CommandEnd) -> ExitCode {
         FaultPlace::Identity | FaultPlace::OriginalIdentity => eprintln!(rt;
             "tfstatectl: {name}/identity: {fault}"
         ),
-        FaultPlace::OldJournal(number) => eprintln!(rt;
-            "tfstatectl: {name}/old/journal-{number:010}.tfj: {fault}"
-        ),
-        FaultPlace::Journal(number) => eprintln!(rt;
-            "tfstatectl: {name}/journal-{number:010}.tfj: {fault}"
-        ),
+        FaultPlace::OldJournal(number) => {
+            eprintln!(rt; "tfstatectl: {name}/old/{}: {fault}", JournalName(number))
+        }
+        FaultPlace::Journal(number) => {
+            eprintln!(rt; "tfstatectl: {name}/{}: {fault}", JournalName(number))
+        }
     };
     ExitCode::from(status_of(fault))
 }

@@ -1,9 +1,10 @@
 //! The first journal of a new folder.
 
+use crate::choosing::choose_first;
 use crate::fault::CommandEnd;
 use crate::folder::numbers_of;
 use crate::next::{Next, make, mark_served};
-use crate::start::{choose_first, refuse_second};
+use crate::start::refuse_second;
 
 /// The number of a folder's first journal.
 pub const FIRST_NUMBER: u64 = 1;

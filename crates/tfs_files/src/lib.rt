@@ -3,6 +3,7 @@
 #![tactic(auto)]
 
 mod ahead;
+mod choosing;
 mod copies;
 mod fault;
 mod first;
@@ -10,11 +11,14 @@ mod folder;
 mod guard;
 mod identity;
 mod late;
+mod logs;
 mod marks;
 mod naming;
 mod next;
 mod old;
+mod outline;
 mod own;
+mod parts;
 mod past;
 mod position_file;
 mod readers;
@@ -22,19 +26,23 @@ mod retention;
 mod stack;
 mod start;
 
-pub use copies::{Gap, Originals, below, name_parts, old_file, read_originals, write_parts};
+pub use choosing::{choose_parts, choose_planned, plan_of};
+pub use copies::{CopyFolders, Gap, name_parts};
 pub use fault::{CommandEnd, CommandFault, FaultPlace, end_by, status_of};
 pub use first::{FIRST_NUMBER, make_first};
 pub use folder::{
-    Numbers, files_of, journal_path, numbers_here, numbers_in, numbers_of, old_numbers,
+    JournalName, Numbers, journal_path, numbers_here, numbers_in, numbers_of, old_numbers,
     refuse_served,
 };
 pub use guard::{FolderLock, ServedJournal, lock_folder};
+pub use logs::{LogName, log_path, remove_logs};
 pub use marks::MOST_MARKED;
 pub use naming::{DurableJournal, FolderFiles, NamingFault, place, place_copy, place_new, retire};
 pub use next::{JournalSink, part_path, remove_part, sink_of};
 pub use old::remove_expired;
+pub use outline::{JournalOutline, Outlined, outline_here, outline_old};
 pub use own::{mark_copies, mark_grown, refuse_other_copies, refuse_other_original};
+pub use parts::{CopyEnd, Parts, write_parts};
 pub use position_file::{PositionFile, least_position, raise_least};
 pub use retention::{Limits, OldFile, Retention, expired};
 pub use stack::{LEAST_STACK, refuse_small_stack};

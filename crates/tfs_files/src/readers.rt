@@ -1,10 +1,11 @@
-//! Readers of the journals of a folder.
+//! Readers of the journals and of the part files of a folder.
 
 ghost use Rattle.std.specs.Prelude.{◌≡◌, ◌++◌, map, IfOk, OnOk};
 
 use crate::fault::{CommandEnd, CommandFault, FaultPlace};
 use crate::folder::journal_path;
 use crate::late::LateFile;
+use crate::next::part_path;
 use std::fs::File;
 use tfs_folder::{JournalReader, StartPlan};
 use tfs_stream::Watched;
@@ -45,6 +46,29 @@ fn add_readers<'r>(
     Ok(())
 }
 
+/// Returns readers of the part files with these numbers, one each and in order. Each of them can be
+/// opened.
+pub(crate) fn part_readers<'r>(
+    rt: &'r HostRuntime,
+    folder: &str,
+    parts: &[u64],
+) -> Result<Readers<'r>, CommandEnd>
+    ensures all { IfOk result (λ readers. map (λ one. one.number) readers.items ≡ parts.now) }
+{
+    let mut readers = Vec::new(rt.alloc());
+    let mut rest = parts;
+    while let Some((number, more)) = rest.split_first() {
+        let Ok(path) = part_path(rt, folder, *number) else {
+            return Err(CommandEnd::at(FaultPlace::Folder, CommandFault::OutOfMemory));
+        };
+        if readers.push(reader_at(rt, path, *number)?).is_err() {
+            return Err(CommandEnd::at(FaultPlace::Folder, CommandFault::OutOfMemory));
+        }
+        rest = more;
+    }
+    Ok(readers)
+}
+
 /// Returns a reader of the journal with this number, which can be opened.
 fn reader_of<'r>(
     rt: &'r HostRuntime,
@@ -53,7 +77,17 @@ fn reader_of<'r>(
 ) -> Result<JournalReader<Watched<LateFile<'r>>>, CommandEnd>
     ensures number { IfOk result (λ one. one.number ≡ number) }
 {
-    let path = path_of(rt, folder, number)?;
+    reader_at(rt, path_of(rt, folder, number)?, number)
+}
+
+/// Returns a reader of the file at a path, which can be opened, as the journal with this number.
+fn reader_at<'r>(
+    rt: &'r HostRuntime,
+    path: String,
+    number: u64,
+) -> Result<JournalReader<Watched<LateFile<'r>>>, CommandEnd>
+    ensures number { IfOk result (λ one. one.number ≡ number) }
+{
     match File::open(rt, path.as_str()) {
         Ok(_) => Ok(JournalReader {
             number,

@@ -18,6 +18,10 @@ lower text = map to_ascii_lowercase text
 abbrev pub values_named : List ℕ → List (List ℕ × List ℕ) → List (List ℕ)
 values_named name fields = map (λ f. f.1) (filter (λ f. bytes_eq (lower f.0) name) fields)
 
+-- No value, or several.
+abbrev pub IsNotOne : List (List ℕ) → Type 0
+IsNotOne values = (value : List ℕ) → ¬ (values ≡ value ∷ [])
+
 -- The values of type `Values`.
 abbrev pub TellsValues : Values → List (List ℕ) → Type 0
 TellsValues Absent values = values ≡ []

@@ -21,7 +21,7 @@ pub fn take(alloc: Global, bytes: &[u8]) -> Result<Take, AllocError>
     ensures ok { IfOk result (Frames bytes.now) }
     ensures memory { OnErr result ((request : RequestValue) × (used : ℕ) × BeginsWith bytes.now request used) }
 {
-    match frame(alloc, bytes, Search::start())? {
+    match frame(alloc, bytes, Search::start(), false)? {
         Framed::Message { request, left } => Ok(Take::Got(request, bytes.len() - left)),
         Framed::Refused(refusal) => Ok(Take::Fault(refusal)),
         Framed::More { .. } => Ok(Take::Need),
@@ -37,6 +37,8 @@ pub struct RequestDecoder {
     unused: BytesMut,
     /// The number of bytes that the next call of `feed` may pass.
     room: usize,
+    /// Whether requests keep their heads.
+    keeps_heads: bool,
     fed: Fed,
 }
 
@@ -65,10 +67,26 @@ impl RequestDecoder {
     pub fn new(alloc: Global) -> RequestDecoder
         ensures value { result ≡ record { bytes = []; room = 0; unused = 0; over = None } }
     {
+        RequestDecoder::start(alloc, false)
+    }
+
+    /// Creates a decoder whose requests keep their heads for `Request::field`. Each takes memory for
+    /// its head.
+    pub fn keeping_heads(alloc: Global) -> RequestDecoder
+        ensures value { result ≡ record { bytes = []; room = 0; unused = 0; over = None } }
+    {
+        RequestDecoder::start(alloc, true)
+    }
+
+    /// Creates a decoder that was fed with no bytes.
+    fn start(alloc: Global, keeps_heads: bool) -> RequestDecoder
+        ensures value { result ≡ record { bytes = []; room = 0; unused = 0; over = None } }
+    {
         RequestDecoder {
             progress: Progress::start(),
             unused: BytesMut::new(alloc),
             room: 0,
+            keeps_heads,
             fed: Fed::new(),
         }
     }
@@ -85,7 +103,12 @@ impl RequestDecoder {
     {
         let is_empty = self.is_empty();
         self.room = 0;
-        match step(alloc, &mut self.progress, &mut self.unused) {
+        match step(
+            alloc,
+            &mut self.progress,
+            &mut self.unused,
+            self.keeps_heads,
+        ) {
             Ok(Received::More(room)) => {
                 self.room = room;
                 Ok(Received::More(room))

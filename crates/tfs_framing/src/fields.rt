@@ -32,10 +32,19 @@ pub(crate) fn values_named<'h>(head: &'h [u8], fields: &[HeaderSpan], name: &[u8
     requires lower_case { lower name.now ≡ name.now }
     ensures { TellsValues result (values_named name.now (map (header_bytes head.now) fields.now)) }
 {
+    values_like(head, fields, name)
+}
+
+/// Returns the values of the fields with a name, in any case. The spans of the fields are within the
+/// head.
+pub(crate) fn values_like<'h>(head: &'h [u8], fields: &[HeaderSpan], name: &[u8]) -> Values<'h>
+    requires within { All (IsHeaderWithin (length head.now)) fields.now }
+    ensures { TellsValues result (values_named (lower name.now) (map (header_bytes head.now) fields.now)) }
+{
     let mut found: Option<&[u8]> = None;
     let mut rest = fields;
     while let Some((field, others)) = rest.split_first() {
-        if is_word(field.name.of(head), name) {
+        if is_like(field.name.of(head), name) {
             if found.is_some() {
                 return Values::Several;
             }
@@ -47,6 +56,13 @@ pub(crate) fn values_named<'h>(head: &'h [u8], fields: &[HeaderSpan], name: &[u8
         Some(value) => Values::One(value),
         None => Values::Absent,
     }
+}
+
+/// Returns true if both texts are equal in lower case.
+fn is_like(text: &[u8], other: &[u8]) -> bool
+    ensures { result ≡ bytes_eq (lower text.now) (lower other.now) }
+{
+    text.eq_ignore_ascii_case(other)
 }
 
 /// Returns true if the text is the word in any case. The word must be in lower case.

@@ -60,8 +60,13 @@ pub(crate) enum Framed {
 }
 
 /// Frames the message at the start of the bytes. The search for the end of its head continues from
-/// `search`.
-pub(crate) fn frame(alloc: Global, bytes: &[u8], search: Search) -> Result<Framed, AllocError>
+/// `search`. The request keeps its head if `keeps_head` is true.
+pub(crate) fn frame(
+    alloc: Global,
+    bytes: &[u8],
+    search: Search,
+    keeps_head: bool,
+) -> Result<Framed, AllocError>
     requires { IsSought bytes.now search }
     ensures ok { IfOk result (IsFramed bytes.now bytes.now) }
     ensures memory { OnErr result ((request : RequestValue) × (used : ℕ) × BeginsWith bytes.now request used) }
@@ -80,11 +85,16 @@ pub(crate) fn frame(alloc: Global, bytes: &[u8], search: Search) -> Result<Frame
     };
     match read_head(head) {
         Ok(lines) => {
-            let request = OpenRequest::new(alloc, &lines);
+            let request = OpenRequest::new(alloc, &lines, kept_of(head, keeps_head));
             frame_body(alloc, request, lines.size, rest)
         }
         Err(refusal) => Ok(Framed::Refused(refusal)),
     }
+}
+
+/// Returns the bytes of a head that its request keeps.
+fn kept_of(head: &[u8], keeps_head: bool) -> &[u8] {
+    if keeps_head { head } else { &[] }
 }
 
 /// Frames the body that follows a head.

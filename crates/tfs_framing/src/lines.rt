@@ -1,6 +1,6 @@
 //! The lines of a head (RFC 9112, sections 3, 5 and 6.3), including the length of the body.
 
-ghost use Rattle.std.specs.Prelude.{◌≡◌, IfOk, IfErr, IfSome, IfNone, ◌&&◌, nat_lt, map, length, codes, All, ℕ, List};
+ghost use Rattle.std.specs.Prelude.{◌≡◌, IfOk, IfErr, IfSome, IfNone, ◌&&◌, ◌⊎◌, nat_lt, map, length, codes, All, ℕ, List, [], ◌∷◌};
 ghost use Rattle.httparse.specs.Grammar.{RequestHead};
 ghost use Rattle.httparse.specs.Spans.{IsRequestAt, IsRequestWithin, IsHeaderWithin, header_bytes};
 ghost use Rattle.tfs_framing.specs.Head.{IsHeadOf, line_feeds};
@@ -9,9 +9,11 @@ ghost use Rattle.tfs_framing.specs.Lines.{IsToldBy};
 ghost use Rattle.tfs_framing.specs.Framing.{ReadsHead, IsHeadRefused};
 ghost use Rattle.std.specs.List.{list_all};
 ghost use Rattle.std.specs.Char.{is_ascii_digit};
-ghost use Rattle.tfs_framing.specs.Fields.{TellsValues};
+ghost use Rattle.tfs_framing.specs.Fields.{IsNotOne, TellsValues, fields_of, lower, values_named};
 
-use crate::fields::{AskedDigest, Values, asked_digest, asks_to_close, is_word, values_named};
+use crate::fields::{
+    AskedDigest, Values, asked_digest, asks_to_close, is_word, values_like, values_named,
+};
 use crate::limits::{MAX_BODY_BYTES, MAX_FIELDS, MAX_HEAD_LINES};
 use httparse::Status;
 use httparse::spans::{EMPTY_HEADER_SPAN, HeaderSpan, RequestSpans, parse_request};
@@ -53,6 +55,22 @@ pub(crate) fn read_head(head: &[u8]) -> Result<Lines<'_>, Refusal>
             digest: asked_digest(values_named(head, fields, b"content-md5")),
         }),
         Err(refusal) => Err(refusal),
+    }
+}
+
+/// Returns the value of the only field of a head with a name, in any case. Returns `None` if there
+/// is none or there are several, or if the bytes are no head.
+pub(crate) fn only_value<'h>(head: &'h [u8], name: &[u8]) -> Option<&'h [u8]>
+    ensures value { IfSome result (λ value. (h : RequestHead) × IsHeadOf head.now h
+        × (values_named (lower name.now) (fields_of h) ≡ value.now ∷ [])) }
+    ensures none { IfNone result (((h : RequestHead) → ¬ (IsHeadOf head.now h))
+        ⊎ ((h : RequestHead) × IsHeadOf head.now h × IsNotOne (values_named (lower name.now) (fields_of h)))) }
+{
+    let mut fields = [EMPTY_HEADER_SPAN; MAX_FIELDS];
+    let spans = parse_whole(head, &mut fields)?;
+    match values_like(head, &fields[..spans.headers], name) {
+        Values::One(value) => Some(value),
+        Values::Absent | Values::Several => None,
     }
 }
 

@@ -100,11 +100,13 @@ pub(crate) fn keep_chunks(
     Ok(Progress::Chunks(Chunks { request, decoded }))
 }
 
-/// Decodes the unused bytes. If more are needed, makes room for them.
+/// Decodes the unused bytes. If more are needed, makes room for them. A request keeps its head if
+/// `keeps_head` is true.
 pub(crate) fn step(
     alloc: Global,
     progress: &mut Progress,
     unused: &mut BytesMut,
+    keeps_head: bool,
 ) -> Result<Received, AllocError>
     requires at { (bytes : List ℕ) × IsAt bytes progress.old unused.old.items }
     ensures ok { (bytes : List ℕ) → IsAt bytes progress.old unused.old.items
@@ -115,7 +117,7 @@ pub(crate) fn step(
 {
     match mem::replace(progress, Progress::start()) {
         Progress::Head(search) => {
-            let framed = frame(alloc, unused.as_slice(), search);
+            let framed = frame(alloc, unused.as_slice(), search, keeps_head);
             settle(framed, progress, unused)
         }
         Progress::Sized(sized) => settle(Ok(fill(sized)), progress, unused),

@@ -6,7 +6,7 @@ ghost use Rattle.tfs_framing.specs.Lines.{IsToldBy};
 ghost use Rattle.tfs_framing.specs.Request.{RequestValue, completed, request_of};
 
 use crate::fields::{AskedDigest, has_asked};
-use crate::lines::Lines;
+use crate::lines::{Lines, only_value};
 use std::alloc::{AllocError, Global};
 use std::marker::Model;
 use tfs_calls::Bytes;
@@ -20,6 +20,8 @@ pub struct Request {
     pub(crate) body: Vec<u8>,
     pub(crate) close: bool,
     pub(crate) intact: bool,
+    /// The whole head; empty unless the decoder keeps heads.
+    pub(crate) head: Vec<u8>,
 }
 
 impl Model for Request {
@@ -49,6 +51,7 @@ impl Request {
             body,
             close: false,
             intact: true,
+            head: Vec::new(alloc),
         })
     }
 
@@ -87,6 +90,12 @@ impl Request {
         self.intact
     }
 
+    /// Returns the value of the only field with a name, in any case. Returns `None` if there is none
+    /// or there are several, or if the decoder doesn't keep heads.
+    pub fn field(&self, name: &[u8]) -> Option<&[u8]> {
+        only_value(self.head.as_slice(), name)
+    }
+
     /// Returns the form of the reply to the request.
     pub fn form(&self) -> Form
         ensures value { result ≡ form_of self.now }
@@ -105,11 +114,16 @@ pub(crate) struct OpenRequest {
     pub(crate) target: Vec<u8>,
     pub(crate) close: bool,
     pub(crate) digest: AskedDigest,
+    pub(crate) head: Vec<u8>,
 }
 
 impl OpenRequest {
-    /// Copies the content of a head.
-    pub(crate) fn new(alloc: Global, lines: &Lines<'_>) -> Result<OpenRequest, AllocError>
+    /// Copies the content of a head, and these bytes of it for `Request::field`.
+    pub(crate) fn new(
+        alloc: Global,
+        lines: &Lines<'_>,
+        kept: &[u8],
+    ) -> Result<OpenRequest, AllocError>
         ensures { (h : RequestHead) → IsToldBy lines.now h
             → IfOk result (λ o. (body : List ℕ) → completed o body ≡ request_of h body) }
     {
@@ -118,6 +132,7 @@ impl OpenRequest {
             target: Vec::from_slice(alloc, lines.target)?,
             close: lines.close,
             digest: lines.digest,
+            head: Vec::from_slice(alloc, kept)?,
         })
     }
 
@@ -132,6 +147,7 @@ impl OpenRequest {
             body,
             close: self.close,
             intact,
+            head: self.head,
         }
     }
 }

@@ -7,7 +7,7 @@ use Rattle.tfs_metrics.specs.Durations.{sum_of, with_duration}
 pub use Rattle.tfs_metrics.specs.declared.answers.AnswersRow.{AnswersRow}
 use Rattle.tfs_metrics.specs.declared.durations.Durations.{Durations}
 use Rattle.tfs_metrics.specs.declared.kind.Kind.{Kind}
-use Rattle.tfs_metrics.specs.declared.kind.Kind.TheVariants.{Get, Post, Delete, Lock, Unlock, Impact}
+use Rattle.tfs_metrics.specs.declared.kind.Kind.TheVariants.{Get, Post, Delete, Lock, Unlock, Impact, Other}
 
 -- The number of a kind.
 abbrev pub number_of : Kind → ℕ
@@ -17,6 +17,7 @@ number_of Delete = 2
 number_of Lock = 3
 number_of Unlock = 4
 number_of Impact = 5
+number_of Other = 6
 
 -- The HTTP status of a reply (RFC 9110, section 15).
 abbrev pub status_of : ReplyValue → ℕ

@@ -1,13 +1,15 @@
 //! Counts of answered requests.
 
 ghost use Rattle.std.specs.Prelude.{◌≡◌, ◌<◌, [], length, position, set, slice_index_or, OnOk, OnErr, IfSome};
-ghost use Rattle.tfs_calls.specs.Reply.{reply_value};
+ghost use Rattle.tfs_calls.specs.Refusal.{refusal_value};
+ghost use Rattle.tfs_calls.specs.Reply.{refused, reply_value};
+ghost use Rattle.tfs_metrics.specs.declared.kind.Kind.TheVariants.{Other};
 ghost use Rattle.tfs_metrics.specs.Answers.{AnswersRow, IsRowOf, is_same, with_row, duration_added, no_durations, number_of};
 
 use crate::durations::Durations;
 use crate::kind::Kind;
 use std::alloc::{AllocError, Global};
-use tfs_calls::Reply;
+use tfs_calls::{Refusal, Reply};
 
 /// The number of answers of one kind with the same status and refusal.
 #[derive(Clone, Copy, Debug)]
@@ -32,12 +34,19 @@ impl AnswersRow {
                 refusal: "",
                 count: 1,
             },
-            Reply::Refused(refusal) => AnswersRow {
-                kind,
-                status: refusal.status(),
-                refusal: refusal.name(),
-                count: 1,
-            },
+            Reply::Refused(refusal) => AnswersRow::of_refusal(kind, refusal),
+        }
+    }
+
+    /// Returns the row of one refusal.
+    fn of_refusal(kind: Kind, refusal: &Refusal) -> AnswersRow
+        ensures row { IsRowOf kind (refused (refusal_value refusal.now)) result }
+    {
+        AnswersRow {
+            kind,
+            status: refusal.status(),
+            refusal: refusal.name(),
+            count: 1,
         }
     }
 
@@ -56,7 +65,7 @@ impl AnswersRow {
 #[derive(Drop)]
 pub struct Answers {
     rows: Vec<AnswersRow>,
-    durations: [Durations; 6],
+    durations: [Durations; 7],
 }
 
 impl Answers {
@@ -66,7 +75,7 @@ impl Answers {
     {
         Answers {
             rows: Vec::new(alloc),
-            durations: [Durations::NONE; 6],
+            durations: [Durations::NONE; 7],
         }
     }
 
@@ -81,6 +90,19 @@ impl Answers {
         add_row(&mut self.rows, &AnswersRow::of(kind, reply))?;
         self.durations[kind.number()].add(micros);
         Ok(())
+    }
+
+    /// Counts a request that was refused before it became a call. Without memory for a new row,
+    /// counts nothing.
+    pub fn refuse(&mut self, refusal: &Refusal) -> Result<(), AllocError>
+        ensures rows { OnOk result ((row : AnswersRow) × IsRowOf Other (refused (refusal_value refusal.now)) row × (self.new.rows.items ≡ with_row row self.old.rows.items)) }
+        ensures err { OnErr result (self.new.rows.items ≡ self.old.rows.items) }
+        ensures durations { self.new.durations ≡ self.old.durations }
+    {
+        add_row(
+            &mut self.rows,
+            &AnswersRow::of_refusal(Kind::Other, refusal),
+        )
     }
 
     /// Returns the rows, in the order of their first answers.

@@ -7,6 +7,7 @@ ghost use Rattle.tfs_metrics.specs.Kind.{kind_of};
 use tfs_calls::{Call, Raw};
 
 /// What an answered request asks for: a method of `/state/{name}`, or a query of `/impact/{name}`.
+/// `Other` is for requests that were refused before they became calls.
 #[derive(Clone, Copy, Debug, PartialEq, Eq)]
 pub enum Kind {
     Get,
@@ -15,10 +16,11 @@ pub enum Kind {
     Lock,
     Unlock,
     Impact,
+    Other,
 }
 
 impl Kind {
-    /// All kinds.
+    /// The kinds of calls.
     pub const ALL: [Kind; 6] = [
         Kind::Get,
         Kind::Post,
@@ -42,10 +44,10 @@ impl Kind {
         }
     }
 
-    /// Returns the kind's number in the list of all kinds, from 0.
+    /// Returns the kind's number in the list of all kinds, from 0; `Other` is the last.
     pub(crate) fn number(self) -> usize
         ensures number { result ≡ number_of self }
-        ensures small { result < 6 }
+        ensures small { result < 7 }
     {
         match self {
             Kind::Get => 0,
@@ -54,10 +56,11 @@ impl Kind {
             Kind::Lock => 3,
             Kind::Unlock => 4,
             Kind::Impact => 5,
+            Kind::Other => 6,
         }
     }
 
-    /// Returns the method of such requests.
+    /// Returns the method of such requests; empty for `Other`.
     pub fn method(self) -> &'static str {
         match self {
             Kind::Get | Kind::Impact => "GET",
@@ -65,14 +68,16 @@ impl Kind {
             Kind::Delete => "DELETE",
             Kind::Lock => "LOCK",
             Kind::Unlock => "UNLOCK",
+            Kind::Other => "",
         }
     }
 
-    /// Returns the first part of the path of such requests.
+    /// Returns the first part of the path of such requests; empty for `Other`.
     pub fn route(self) -> &'static str {
         match self {
             Kind::Impact => "impact",
             Kind::Get | Kind::Post | Kind::Delete | Kind::Lock | Kind::Unlock => "state",
+            Kind::Other => "",
         }
     }
 }

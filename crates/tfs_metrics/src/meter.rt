@@ -1,12 +1,14 @@
 //! The numbers of a running server, which its threads share.
 
 use crate::answers::Answers;
+use crate::durations::Durations;
 use crate::kind::Kind;
-use crate::text::{add_answers, add_compactions, add_journal};
+use crate::text::{add_answers, add_compactions, add_journal, add_syncs};
 use std::alloc::{AllocError, Global};
 use std::sync::atomic::{AtomicU64, Ordering};
 use std::sync::{Mutex, MutexGuard, Wait};
-use tfs_calls::Reply;
+use std::time::Duration;
+use tfs_calls::{Refusal, Reply};
 
 /// Numbers of compactions, and how long requests waited for them, in milliseconds.
 #[derive(Clone, Copy, Debug)]
@@ -28,6 +30,7 @@ pub struct Journal {
 #[derive(Drop)]
 pub struct Meter {
     answers: Mutex<Answers>,
+    syncs: Mutex<Durations>,
     compactions: Mutex<Compactions>,
     position: AtomicU64,
     bytes: AtomicU64,
@@ -38,6 +41,7 @@ impl Meter {
     pub fn new(alloc: Global) -> Meter {
         Meter {
             answers: Mutex::new(Answers::new(alloc)),
+            syncs: Mutex::new(Durations::NONE),
             compactions: Mutex::new(Compactions {
                 made: 0,
                 failed: 0,
@@ -55,6 +59,22 @@ impl Meter {
         let mut answers = self.answers.lock(wait);
         let _ = answers.add(kind, reply, micros);
         MutexGuard::unlock(answers);
+    }
+
+    /// Counts a request that was refused before it became a call. Without memory for a row of its
+    /// own, it isn't counted.
+    pub fn refuse<W: Wait>(&self, wait: &W, refusal: &Refusal) {
+        let mut answers = self.answers.lock(wait);
+        let _ = answers.refuse(refusal);
+        MutexGuard::unlock(answers);
+    }
+
+    /// Counts a sync of the journal, which took this time.
+    pub fn sync<W: Wait>(&self, wait: &W, taken: Duration) {
+        let micros = u64::try_from(taken.as_micros()).unwrap_or(u64::MAX);
+        let mut syncs = self.syncs.lock(wait);
+        syncs.add(micros);
+        MutexGuard::unlock(syncs);
     }
 
     /// Records the journal after an accepted change, or after it was opened.
@@ -86,6 +106,10 @@ impl Meter {
         let added = add_answers(alloc, &mut text, &answers);
         MutexGuard::unlock(answers);
         added?;
+        let syncs = self.syncs.lock(wait);
+        let durations = *syncs;
+        MutexGuard::unlock(syncs);
+        add_syncs(alloc, &mut text, &durations)?;
         let compactions = self.compactions.lock(wait);
         let counted = *compactions;
         MutexGuard::unlock(compactions);

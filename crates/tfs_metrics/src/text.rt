@@ -17,13 +17,19 @@ pub(crate) struct Metric {
 const REQUESTS: Metric = Metric {
     name: "tfstated_requests_total",
     kind: "counter",
-    help: "Answered requests by method, route, HTTP status and refusal.",
+    help: "Requests by method, route, HTTP status and refusal; without method and route if they were refused before they reached the table.",
 };
 
 const DURATIONS: Metric = Metric {
     name: "tfstated_request_duration_seconds",
     kind: "histogram",
     help: "Time from the call of a request to its reply, with the sync of its journal.",
+};
+
+const SYNCS: Metric = Metric {
+    name: "tfstated_sync_duration_seconds",
+    kind: "histogram",
+    help: "Time of the syncs of the journal, each of which may serve several changes.",
 };
 
 /// Appends the lines of a metric before its values.
@@ -72,9 +78,27 @@ pub(crate) fn add_answers(
     }
     add_head(alloc, text, DURATIONS)?;
     for kind in Kind::ALL {
-        add_durations(alloc, text, kind, answers.durations(kind))?;
+        let (method, route) = (kind.method(), kind.route());
+        let labels = format!(in alloc; "method=\"{method}\",route=\"{route}\"")?;
+        add_durations(
+            alloc,
+            text,
+            DURATIONS.name,
+            labels.as_str(),
+            answers.durations(kind),
+        )?;
     }
     Ok(())
+}
+
+/// Appends the durations of syncs.
+pub(crate) fn add_syncs(
+    alloc: Global,
+    text: &mut String,
+    durations: &Durations,
+) -> Result<(), AllocError> {
+    add_head(alloc, text, SYNCS)?;
+    add_durations(alloc, text, SYNCS.name, "", durations)
 }
 
 /// Appends the line of a row of answers.
@@ -87,29 +111,33 @@ fn add_row(alloc: Global, text: &mut String, row: &AnswersRow) -> Result<(), All
     text.push_str(line.as_str())
 }
 
-/// Appends the lines of the durations of a kind: for each bound how many don't exceed it, their
-/// sum, and their number.
+/// Appends the lines of the durations of a metric with these labels: for each bound how many don't
+/// exceed it, their sum, and their number.
 fn add_durations(
     alloc: Global,
     text: &mut String,
-    kind: Kind,
+    name: &str,
+    labels: &str,
     durations: &Durations,
 ) -> Result<(), AllocError> {
-    let (name, method, route) = (DURATIONS.name, kind.method(), kind.route());
-    let labels = format!(in alloc; "method=\"{method}\",route=\"{route}\"")?;
+    let (comma, all) = if labels.is_empty() {
+        ("", String::new(alloc))
+    } else {
+        (",", format!(in alloc; "{{{labels}}}")?)
+    };
     let mut count: u64 = 0;
     for (bound, bucket) in BOUNDS.iter().zip(&durations.buckets) {
         count = count.saturating_add(*bucket);
         let (seconds, part) = (bound / 1_000_000, bound % 1_000_000);
         let line = format!(in alloc;
-            "{name}_bucket{{{labels},le=\"{seconds}.{part:06}\"}} {count}\n"
+            "{name}_bucket{{{labels}{comma}le=\"{seconds}.{part:06}\"}} {count}\n"
         )?;
         text.push_str(line.as_str())?;
     }
     count = count.saturating_add(durations.buckets[BOUNDS.len()]);
     let (seconds, part) = (durations.micros / 1_000_000, durations.micros % 1_000_000);
     let lines = format!(in alloc;
-        "{name}_bucket{{{labels},le=\"+Inf\"}} {count}\n{name}_sum{{{labels}}} {seconds}.{part:06}\n{name}_count{{{labels}}} {count}\n"
+        "{name}_bucket{{{labels}{comma}le=\"+Inf\"}} {count}\n{name}_sum{all} {seconds}.{part:06}\n{name}_count{all} {count}\n"
     )?;
     text.push_str(lines.as_str())
 }

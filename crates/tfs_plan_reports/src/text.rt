@@ -1,6 +1,6 @@
 //! The text of a plan's impact in each form, cut at a length.
 
-ghost use Rattle.std.specs.Prelude.{◌≤◌, ◌<◌, ◌+◌, length, take, sum, map, string_bytes};
+ghost use Rattle.std.specs.Prelude.{◌≡◌, ◌⊎◌, ◌≤◌, ◌<◌, ◌+◌, length, take, sum, map, string_bytes};
 
 use crate::lines::{foot, head, line};
 use crate::rows::PlanRows;
@@ -53,12 +53,18 @@ fn lines_of(alloc: Global, plan: &PlanRows, form: PlanForm) -> Result<Vec<String
     Ok(lines)
 }
 
-/// Returns the number of first lines to keep: all of them, if they fit into the room for all.
+/// Returns the number of first lines to keep: all of them, if they fit into the room for all, and
+/// otherwise as many as fit into the room.
 fn kept_of(lines: &[String], room_for_all: usize, room: usize) -> usize
     ensures within { result ≤ length lines.now }
+    ensures all { sum (map (λ l. length (string_bytes l)) (take (length lines.now) lines.now)) ≤ room_for_all → result ≡ length lines.now }
+    ensures fits { ((result ≡ length lines.now) × (sum (map (λ l. length (string_bytes l)) (take result lines.now)) ≤ room_for_all))
+        ⊎ (sum (map (λ l. length (string_bytes l)) (take result lines.now)) ≤ room) }
+    ensures most { result < length lines.now → room < sum (map (λ l. length (string_bytes l)) (take (result + 1) lines.now)) }
 {
-    if fitting(lines, room_for_all) == lines.len() {
-        lines.len()
+    let all = fitting(lines, room_for_all);
+    if all == lines.len() {
+        all
     } else {
         fitting(lines, room)
     }

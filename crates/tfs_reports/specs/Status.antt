@@ -31,3 +31,6 @@ status_of fault.NoFile = 37
 status_of (fault.BadPlan why) = 37
 status_of (fault.BadState why) = 37
 status_of fault.LargeState = 37
+status_of fault.BadUrl = 21
+status_of fault.NoReply = 20
+status_of (fault.Status status) = 20

@@ -9,7 +9,7 @@ ghost use Rattle.tfs_reports.specs.Across.{reader_row, workspace_in};
 
 use crate::acts::name_of;
 use crate::fault::{ReportEnd, ReportFault, ReportPlace};
-use crate::files::newest_journal;
+use crate::files::newest_table;
 use crate::names::names_of;
 use crate::report::{Layout, Report};
 use serde_json::{Value, json};
@@ -30,7 +30,7 @@ pub fn print_across(
     is_json: bool,
 ) -> Result<(), ReportEnd> {
     let name = name_of(rt.alloc(), name)?;
-    let table = newest_journal(rt, folder)?.table;
+    let table = newest_table(rt, folder)?;
     if table.number(&name).is_none() {
         return Err(ReportEnd::at(ReportPlace::Name, ReportFault::NoName));
     }

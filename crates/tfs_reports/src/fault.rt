@@ -6,6 +6,7 @@ ghost use Rattle.tfs_reports.specs.Status.{status_of};
 use std::alloc::AllocError;
 use std::io;
 use std::process::ExitCode;
+use tfs_files::JournalName;
 use tfs_plan::PlanFault;
 use tfs_state::StateFault;
 use tfs_stream::ReadFault;
@@ -58,8 +59,14 @@ pub enum ReportFault {
     LargeState,
     #[error("OneInput: both the plan and the state are to be read from standard input. Write one of them to a file")]
     OneInput,
-    #[error("NoSource: no state was given. Give --state FILE, or --folder FOLDER NAME")]
+    #[error("NoSource: no state was given. Give --state FILE, --folder FOLDER NAME, or --url URL NAME")]
     NoSource,
+    #[error("BadUrl: invalid address. Write it as http://HOST:PORT or unix:PATH")]
+    BadUrl,
+    #[error("NoReply: the server's reply isn't complete. Try again")]
+    NoReply,
+    #[error("Status: the server replied with status {0}. Check the address")]
+    Status(u16),
     #[error("NotLocked: nobody holds the lock of the workspace")]
     NotLocked,
 }
@@ -70,7 +77,7 @@ pub fn status_of(fault: ReportFault) -> u8
 {
     match fault {
         ReportFault::Files(fault) => tfs_files::status_of(fault),
-        ReportFault::Changing => 20,
+        ReportFault::Changing | ReportFault::NoReply | ReportFault::Status(_) => 20,
         ReportFault::NoName => 30,
         ReportFault::NoState => 31,
         ReportFault::BeforeOldest(_)
@@ -82,7 +89,10 @@ pub fn status_of(fault: ReportFault) -> u8
         ReportFault::NoAddress | ReportFault::TooManyAddresses | ReportFault::UnknownAddress(_) =>
             35,
         ReportFault::NotLocked => 36,
-        ReportFault::BadTime | ReportFault::OneInput | ReportFault::NoSource => 21,
+        ReportFault::BadTime
+        | ReportFault::OneInput
+        | ReportFault::NoSource
+        | ReportFault::BadUrl => 21,
         ReportFault::NoFile
         | ReportFault::BadPlan(_)
         | ReportFault::BadState(_)
@@ -113,6 +123,26 @@ pub enum ReportPlace {
     Plan,
     /// The state.
     State,
+    /// The address of a server.
+    Url,
+}
+
+impl ReportPlace {
+    /// Returns true if a fault is about a folder of journals.
+    fn is_folder(self) -> bool {
+        match self {
+            ReportPlace::Folder | ReportPlace::Copies => true,
+            ReportPlace::Command
+            | ReportPlace::Old
+            | ReportPlace::Journal(_)
+            | ReportPlace::OldJournal(_)
+            | ReportPlace::Name
+            | ReportPlace::Copy(_)
+            | ReportPlace::Plan
+            | ReportPlace::State
+            | ReportPlace::Url => false,
+        }
+    }
 }
 
 /// The fault that ended a command, and what it is about.
@@ -142,19 +172,11 @@ impl ReportEnd {
 
     /// Returns the end by an error that the system reported for a read.
     pub(crate) fn by_system(place: ReportPlace, error: &io::Error) -> ReportEnd {
-        let fault = match error.kind() {
-            io::ErrorKind::OutOfMemory => tfs_files::CommandFault::OutOfMemory,
-            io::ErrorKind::PermissionDenied => tfs_files::CommandFault::NotAllowed,
-            io::ErrorKind::NotFound => match place {
-                ReportPlace::Folder | ReportPlace::Copies => tfs_files::CommandFault::NoFolder,
-                _ => tfs_files::CommandFault::CannotRead,
-            },
-            io::ErrorKind::NotADirectory => match place {
-                ReportPlace::Folder | ReportPlace::Copies => tfs_files::CommandFault::NotFolder,
-                _ => tfs_files::CommandFault::CannotRead,
-            },
-            _ => tfs_files::CommandFault::CannotRead,
-        };
+        let fault = tfs_files::CommandFault::by_system(
+            place.is_folder(),
+            tfs_files::CommandFault::CannotRead,
+            error,
+        );
         ReportEnd::of_files(place, fault)
     }
 
@@ -203,6 +225,7 @@ pub fn end_by(rt: &impl Eprint, folder: &str, name: &str, end: ReportEnd) -> Exi
         ReportPlace::Copy(number) => tell_journal(rt, name, "", number, fault),
         ReportPlace::Plan => eprintln!(rt; "tfstatectl: --plan: {fault}"),
         ReportPlace::State => eprintln!(rt; "tfstatectl: --state: {fault}"),
+        ReportPlace::Url => eprintln!(rt; "tfstatectl: --url: {fault}"),
     };
     ExitCode::from(status_of(fault))
 }
@@ -220,5 +243,8 @@ fn tell_journal(
     number: u64,
     fault: ReportFault,
 ) -> io::Result<()> {
-    eprintln!(rt; "tfstatectl: {folder}{below}/journal-{number:010}.tfj: {fault}")
+    eprintln!(rt;
+        "tfstatectl: {folder}{below}/{}: {fault}",
+        JournalName(number)
+    )
 }

@@ -7,7 +7,7 @@ ghost use Rattle.tfs_reports.specs.Holder.{IsHolderOf, IsHolderFault, IsPrinted}
 
 use crate::acts::name_of;
 use crate::fault::{ReportEnd, ReportFault, ReportPlace};
-use crate::files::newest_journal;
+use crate::files::newest_table;
 use crate::output::write;
 use json::{Scratch, Value, to_vec};
 use std::alloc::{AllocError, Global};
@@ -21,8 +21,8 @@ use tfs_table::Table;
 /// JSON.
 pub fn print_holder(rt: &HostRuntime, folder: &str, name: &str) -> Result<(), ReportEnd> {
     let name = name_of(rt.alloc(), name)?;
-    let newest = newest_journal(rt, folder)?;
-    match holder_text(rt.alloc(), &newest.table, &name) {
+    let table = newest_table(rt, folder)?;
+    match holder_text(rt.alloc(), &table, &name) {
         Ok(text) => write(rt, text.as_bytes()),
         Err(fault) => Err(ReportEnd::at(ReportPlace::Name, fault)),
     }

@@ -5,6 +5,7 @@
 
 mod across;
 mod acts;
+mod clients;
 mod clock;
 mod comparison;
 mod duration;
@@ -23,6 +24,7 @@ mod plan;
 mod reach;
 mod report;
 mod rows;
+mod server;
 mod texts;
 mod times;
 mod versions;

@@ -10,6 +10,7 @@ ghost use Rattle.tfs_versions.specs.Holding.{word_at, taken_at};
 ghost use Rattle.tfs_reports.specs.Clock.{age_of};
 ghost use Rattle.tfs_reports.specs.Rows.{IsListed, name_row, whole_or_null};
 
+use crate::clients::{records_at, with_record};
 use crate::clock::{age_of, seconds_now};
 use crate::fault::ReportEnd;
 use crate::files::newest_journal;
@@ -30,6 +31,9 @@ const COLUMNS: &[&str] = &[
     "instances",
     "bytes",
     "changed",
+    "time",
+    "address",
+    "user",
     "holder",
     "who",
     "operation",
@@ -58,7 +62,8 @@ pub fn list(rt: &HostRuntime, folder: &str, listing: Listing) -> Result<(), Repo
         None => 0,
     };
     let now = seconds_now(rt);
-    let report = report_of(rt.alloc(), &newest.table, listing, now, from)?;
+    let rows = rows_of(rt.alloc(), &newest.table, listing, now)?;
+    let report = report_of(rt, folder, rows, listing, from)?;
     let is_empty = report.is_empty();
     report.print(rt)?;
     if let Some(missing) = missing {
@@ -69,23 +74,59 @@ pub fn list(rt: &HostRuntime, folder: &str, listing: Listing) -> Result<(), Repo
     Ok(())
 }
 
-/// Returns a row for each listed workspace, by name, with the position from which on versions are
-/// kept.
-fn report_of(
+/// Returns a row for each listed workspace, by name.
+fn rows_of(
     alloc: Global,
     table: &Table<Discard>,
     listing: Listing,
     now: Option<i64>,
-    from: u64,
-) -> Result<Report, AllocError> {
-    let mut report = Report::new(alloc, COLUMNS, Layout::of(listing.is_json))?;
+) -> Result<Vec<Value>, AllocError> {
+    let mut rows = Vec::new(alloc);
     for text in names_of(alloc, table, listing.is_held_only)? {
         if let Some(name) = Name::read(text) {
-            let row = with_kept_from(alloc, workspace_row(alloc, table, &name, now)?, from)?;
-            report.add(alloc, &row)?;
+            rows.push(workspace_row(alloc, table, &name, now)?)?;
         }
     }
+    Ok(rows)
+}
+
+/// Returns the report of these rows, with the record of each last change, and the position from
+/// which on versions are kept.
+fn report_of(
+    rt: &HostRuntime,
+    folder: &str,
+    rows: Vec<Value>,
+    listing: Listing,
+    from: u64,
+) -> Result<Report, ReportEnd> {
+    let alloc = rt.alloc();
+    let records = records_at(rt, folder, changes_in(alloc, rows.as_slice())?)?;
+    let mut report = Report::new(alloc, COLUMNS, Layout::of(listing.is_json))?;
+    for row in rows {
+        let record = match change_in(&row) {
+            Some(position) => records.at(position),
+            None => None,
+        };
+        let row = with_kept_from(alloc, with_record(alloc, row, record)?, from)?;
+        report.add(alloc, &row)?;
+    }
     Ok(report)
+}
+
+/// Returns the positions of the last changes in rows.
+fn changes_in(alloc: Global, rows: &[Value]) -> Result<Vec<u64>, AllocError> {
+    let mut positions = Vec::with_capacity(alloc, rows.len())?;
+    for row in rows {
+        if let Some(position) = change_in(row) {
+            positions.push(position)?;
+        }
+    }
+    Ok(positions)
+}
+
+/// Returns the position of the last change in a row, if it is known.
+fn change_in(row: &Value) -> Option<u64> {
+    row.get("changed").and_then(Value::as_u64)
 }
 
 /// The position of a workspace's last change, and the age of its lock in seconds, if they are

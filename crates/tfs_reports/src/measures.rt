@@ -1,7 +1,7 @@
 //! Metrics of a folder's newest journal.
 
 use crate::fault::{ReportEnd, ReportFault, ReportPlace};
-use crate::files::{Newest, Opening, Source, fault_of, newest_opening};
+use crate::files::{Kept, Newest, Opening, Source, fault_of, newest_opening, source_of};
 use std::alloc::Global;
 use tfs_versions::{Measures, measure, whole_part};
 
@@ -11,17 +11,22 @@ pub(crate) fn measures_of(
     rt: &HostRuntime,
     folder: &str,
 ) -> Result<(Measures, Option<ReportEnd>), ReportEnd> {
-    match newest_opening(rt, folder)? {
+    match newest_opening(rt, folder, Kept::Entries)? {
         Opening::Whole(Newest { len, table }) => Ok((measure(rt.alloc(), len, &table)?, None)),
-        Opening::Broken(source, end) => match measures_in(rt.alloc(), &source)? {
-            Some(measures) => Ok((measures, Some(end))),
-            None => Err(end),
+        Opening::Broken(number, end) => match source_of(rt, folder, number)? {
+            Some(source) => match measures_in(rt.alloc(), &source)? {
+                Some(measures) => Ok((measures, Some(end))),
+                None => Err(end),
+            },
+            None => Err(changing()),
         },
-        Opening::Cut | Opening::Gone => Err(ReportEnd::at(
-            ReportPlace::Folder,
-            ReportFault::Changing,
-        )),
+        Opening::Cut | Opening::Gone => Err(changing()),
     }
+}
+
+/// Returns the end by journals that went away while they were read.
+fn changing() -> ReportEnd {
+    ReportEnd::at(ReportPlace::Folder, ReportFault::Changing)
 }
 
 /// Returns the metrics of the valid part of a journal; none if its base isn't valid.

@@ -5,8 +5,9 @@ ghost use Rattle.std.specs.Arc.{arc_value};
 
 use crate::acts::name_of;
 use crate::fault::{ReportEnd, ReportFault, ReportPlace};
-use crate::files::newest_journal;
+use crate::files::newest_table;
 use crate::output::write;
+use crate::server::state_from;
 use std::alloc::{AllocError, Global};
 use std::fs::File;
 use std::io::{self, Read};
@@ -26,6 +27,8 @@ pub enum StateSource<'a> {
     File(&'a str),
     /// The newest state of a workspace: the folder of journals, and the name.
     Workspace(&'a str, &'a str),
+    /// The newest state of a workspace of a running server: the server's address, and the name.
+    Server(&'a str, &'a str),
 }
 
 /// The options of `impact --plan`.
@@ -62,7 +65,7 @@ pub fn print_plan_impact(
 fn is_standard_input(source: StateSource<'_>) -> bool {
     match source {
         StateSource::File(path) => path == STANDARD_INPUT,
-        StateSource::Workspace(_, _) => false,
+        StateSource::Workspace(_, _) | StateSource::Server(_, _) => false,
     }
 }
 
@@ -78,14 +81,14 @@ fn changes_of(rt: &HostRuntime, path: &str, ignored: &[&str]) -> Result<Vec<Chan
 /// Reads a state, and builds its index.
 fn version_in(rt: &HostRuntime, source: StateSource<'_>) -> Result<Arc<Version>, ReportEnd> {
     match source {
-        StateSource::File(path) => version_of_file(rt, path),
+        StateSource::File(path) => version_of_bytes(rt, bytes_in(rt, path, ReportPlace::State)?),
+        StateSource::Server(url, name) => version_of_bytes(rt, state_from(rt, url, name)?),
         StateSource::Workspace(folder, name) => version_of_workspace(rt, folder, name),
     }
 }
 
-/// Reads the state in a file, and builds its index.
-fn version_of_file(rt: &HostRuntime, path: &str) -> Result<Arc<Version>, ReportEnd> {
-    let bytes = bytes_in(rt, path, ReportPlace::State)?;
+/// Reads the state in these bytes, and builds its index.
+fn version_of_bytes(rt: &HostRuntime, bytes: Vec<u8>) -> Result<Arc<Version>, ReportEnd> {
     if MAX_STATE_BYTES < bytes.len() {
         return Err(ReportEnd::at(ReportPlace::State, ReportFault::LargeState));
     }
@@ -111,7 +114,7 @@ fn version_of_workspace(
     name: &str,
 ) -> Result<Arc<Version>, ReportEnd> {
     let name = name_of(rt.alloc(), name)?;
-    let table = newest_journal(rt, folder)?.table;
+    let table = newest_table(rt, folder)?;
     if table.number(&name).is_none() {
         return Err(ReportEnd::at(ReportPlace::Name, ReportFault::NoName));
     }

@@ -5,7 +5,7 @@ ghost use Rattle.std.specs.Prelude.{◌<◌, length};
 
 use crate::acts::name_of;
 use crate::fault::{ReportEnd, ReportFault, ReportPlace};
-use crate::files::newest_journal;
+use crate::files::newest_table;
 use crate::output::write;
 use crate::report::{Layout, Report};
 use serde_json::{Value, json};
@@ -52,7 +52,7 @@ fn answer_of(
     name: &Name,
     query: &Query,
 ) -> Result<Impact, ReportEnd> {
-    let table = newest_journal(rt, folder)?.table;
+    let table = newest_table(rt, folder)?;
     if table.number(name).is_none() {
         return Err(ReportEnd::at(ReportPlace::Name, ReportFault::NoName));
     }
@@ -85,7 +85,32 @@ pub fn fault_of(refusal: &Refusal) -> ReportFault {
         Refusal::NoAddress => ReportFault::NoAddress,
         Refusal::TooManyAddresses => ReportFault::TooManyAddresses,
         Refusal::UnknownAddress(number) => ReportFault::UnknownAddress(*number),
-        _ => ReportFault::Files(tfs_files::CommandFault::OutOfMemory),
+        Refusal::OutOfMemory => ReportFault::Files(tfs_files::CommandFault::OutOfMemory),
+        // A query is refused for none of these.
+        Refusal::HeadTooLarge
+        | Refusal::BadHead
+        | Refusal::NoHost
+        | Refusal::BadLength
+        | Refusal::TransferCoding
+        | Refusal::BodyTooLarge
+        | Refusal::BadChunk
+        | Refusal::NoRoute
+        | Refusal::MethodNotAllowed(_)
+        | Refusal::BadName
+        | Refusal::BadDigest
+        | Refusal::BadLockInfo
+        | Refusal::BadState
+        | Refusal::TooManyInstances
+        | Refusal::JournalStopped
+        | Refusal::Locked(_)
+        | Refusal::LockLost
+        | Refusal::LineageDiffers
+        | Refusal::SerialTooLow
+        | Refusal::SerialReused
+        | Refusal::TableFull
+        | Refusal::JournalFull
+        | Refusal::JournalFault
+        | Refusal::NoCopy => ReportFault::Files(tfs_files::CommandFault::OutOfMemory),
     }
 }
 

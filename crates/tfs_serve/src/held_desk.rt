@@ -11,24 +11,28 @@ ghost use Rattle.tfs_serve.specs.Gate.{before, after, Hears};
 ghost use Rattle.tfs_serve.specs.Hold.{IsDurable};
 ghost use Rattle.tfs_serve.specs.Session.{CatchesUp, CaughtUpStep};
 
+use crate::client::Noted;
 use crate::gate::Given;
 use crate::hold::Hold;
 use crate::reports::Reports;
 use crate::session_desk::{Service, reply_to};
 use json::Scratch;
+use std::net::IpAddr;
 use std::snapshot::Snapshot;
 use std::sync::Wait;
-use tfs_calls::{Call, Reply};
+use tfs_calls::{Call, Refusal, Reply};
 use tfs_conversation::{Outlet, OwedDesk, ReplyBuffer, ServeFault};
-use tfs_framing::Form;
+use tfs_framing::{Form, Request};
 use tfs_records::Sink;
 use tfs_shared::{Naming, Session};
 
-/// What a worker answers with: what its session is served with, and the hold of its replies.
+/// What a worker answers with: what its session is served with, the hold of its replies, and what is
+/// known of the present client.
 #[derive(Drop)]
 pub(crate) struct Post<'p, 's, J: Naming, K: Sink, R: Wait, H: Hold> {
     pub(crate) service: &'p Service<'s, J, K, R>,
     pub(crate) hold: &'p H,
+    pub(crate) noted: Noted,
 }
 
 /// A desk that answers from a shared table through a borrowed session. Its borrowed gate hears of
@@ -68,6 +72,8 @@ impl<'p, 's, 'm, J: Naming, K: Sink, G: Reports, R: Wait, H: Hold> HeldDesk<
         let before = Snapshot::of(&*self.session);
         let reply = caught_up_reply(post.service, self.session, self.scratch, call, synced);
         let mark = self.session.mark();
+        // A write before the sync doesn't wait for the next one's commit.
+        post.noted.record(post.hold, &reply);
         let is_opened = covers(post, self.session, mark, synced);
         let given = Given {
             call: asked,
@@ -91,6 +97,24 @@ impl<'p, 's, 'm, J: Naming, K: Sink, G: Reports, R: Wait, H: Hold> OwedDesk
     ghost step = { λ old call said new. (new.session.ghost_name ≡ old.session.ghost_name) × (new.gate.ghost_name ≡ old.gate.ghost_name)
         × HeldStep H.durable J.opening old.session.now call said new.session.now
         × Hears (G.heard old.gate.now) (G.heard new.gate.now) (before call ∷ after (reply_said said) ∷ []) };
+
+    fn wants_heads(&self) -> bool {
+        self.post.hold.client_fields().is_any()
+    }
+
+    fn note_client(&self, address: Option<IpAddr>) {
+        self.post.noted.note_address(address);
+    }
+
+    fn note_request(&self, request: &Request) {
+        self.post
+            .noted
+            .note_request(request, self.post.hold.client_fields());
+    }
+
+    fn note_refusal(&self, refusal: &Refusal) {
+        self.post.hold.note_refusal(refusal);
+    }
 
     fn reply<W: Outlet>(
         &mut self,

@@ -1,5 +1,8 @@
 //! Holds, which keep replies back until the journal is durable.
 
+use crate::client::{Client, ClientFields};
+use tfs_calls::Refusal;
+
 /// A hold keeps a reply back until the bytes of the journal that it was answered over are durable.
 pub trait Hold {
     ghost use Rattle.std.specs.Prelude.{◌≡◌, ℕ, true};
@@ -15,6 +18,17 @@ pub trait Hold {
     /// become durable any more: the reply is withheld.
     fn cover(&self, mark: u64) -> bool
         ensures durable { result ≡ true → durable mark };
+
+    /// Returns the names of the fields with which requests name their clients.
+    fn client_fields(&self) -> ClientFields<'_> {
+        ClientFields::NONE
+    }
+
+    /// Counts a request that was refused before it became a call.
+    fn note_refusal(&self, _refusal: &Refusal) {}
+
+    /// Records the client that made the change at a position, before the change is durable.
+    fn record(&self, _position: u64, _client: Client<'_>) {}
 }
 
 /// A hold that keeps no reply back: durability is not promised.

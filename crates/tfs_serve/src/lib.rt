@@ -1,6 +1,7 @@
 //! Workers: conversations over the sessions of a shared table, on connections from one listener.
 #![tactic(auto)]
 
+mod client;
 mod crew;
 mod gate;
 mod gated;
@@ -17,6 +18,7 @@ mod serving;
 mod session_desk;
 mod worker;
 
+pub use client::{Client, ClientFields};
 pub use gate::{Gate, Given, Open};
 pub use gated::Gated;
 pub use heard::Heard;

@@ -4,6 +4,7 @@ ghost use Rattle.std.specs.Prelude.{ℕ, ◌<◌, is_some, length, slice_index_o
 ghost use Rattle.tfs_serve.specs.Faults.{IsCaused};
 ghost use Rattle.tfs_serve.specs.Working.{HasReplied, end_of_work, nothing_written};
 
+use crate::client::Noted;
 use crate::gate::Gate;
 use crate::held_desk::Post;
 use crate::hold::Hold;
@@ -93,6 +94,7 @@ pub(crate) fn work_until<
             let post = Post {
                 service: &service,
                 hold,
+                noted: Noted::new(alloc),
             };
             member.run(&post, listener)
         },

@@ -6,6 +6,7 @@ ghost use Rattle.tfs_serve.specs.Gate.{IsAdmitted, IsClosed, asked};
 ghost use Rattle.tfs_serve.specs.Session.{IsLater};
 ghost use Rattle.tfs_serve.specs.Working.{GoesOnWith, HasConversed, HasReplied, HasWorked};
 
+use crate::client::Noted;
 use crate::gate::Gate;
 use crate::held_desk::{HeldDesk, Post};
 use crate::hold::{Hold, NoHold};
@@ -42,6 +43,7 @@ pub fn work<L: OpenListener<Stream = TcpStream>, J: Naming, K: Sink, G: Gate, R:
     let post = Post {
         service,
         hold: &NoHold,
+        noted: Noted::new(service.alloc),
     };
     work_over(&post, &mut reception, gate, session)
 }

@@ -16,6 +16,7 @@ use std::cell::Cell;
 use std::snapshot::Snapshot;
 use std::sync::atomic::AtomicBool;
 use std::sync::{Arc, Mutex, Wait};
+use std::time::Clock;
 use tfs_durable::{Device, Durable, FileDevice};
 use tfs_files::{DurableJournal, JournalSink, PositionFile, ServedJournal};
 use tfs_metrics::{Journal, Meter};
@@ -26,7 +27,7 @@ use tfs_table::Table;
 /// The runs of a folder: what they share, what to report when the next one starts, and the journal
 /// in place.
 #[derive(Drop)]
-pub(crate) struct FolderRuns<'t, 'w, R: AllocGlobal + Wait> {
+pub(crate) struct FolderRuns<'t, 'w, R: AllocGlobal + Wait + Clock> {
     pub(crate) rt: &'t R,
     pub(crate) host: &'t HostRuntime,
     pub(crate) plan: &'w Plan<'w>,
@@ -42,7 +43,7 @@ pub(crate) struct FolderRuns<'t, 'w, R: AllocGlobal + Wait> {
     pub(crate) reported: Tally,
 }
 
-impl<'t, 'w, R: AllocGlobal + Wait> FolderRuns<'t, 'w, R> {
+impl<'t, 'w, R: AllocGlobal + Wait + Clock> FolderRuns<'t, 'w, R> {
     /// Returns the number of the next journal.
     fn next_number(&self) -> Result<u64, CompactionFault>
         ensures after { IfOk result (λ number. self.now.in_place.number < number) }
@@ -79,7 +80,7 @@ impl<'t, 'w, R: AllocGlobal + Wait> FolderRuns<'t, 'w, R> {
     }
 }
 
-impl<'t, 'w, R: AllocGlobal + Wait + Sync> Runs for FolderRuns<'t, 'w, R> {
+impl<'t, 'w, R: AllocGlobal + Wait + Clock + Sync> Runs for FolderRuns<'t, 'w, R> {
     ghost use Rattle.std.specs.Prelude.{◌≡◌, ◌≤◌, ◌<◌, ◌+◌, All, [], Some, false, length, map, sum_by, IfOk, OnOk, OnErr, IfSome};
     ghost use Rattle.tfs_durable.specs.Counts.{Covers};
     ghost use Rattle.tfs_runs.specs.declared.runs.NotCompacted.TheVariants.{Failed};
@@ -116,7 +117,7 @@ impl<'t, 'w, R: AllocGlobal + Wait + Sync> Runs for FolderRuns<'t, 'w, R> {
     }
 
     fn hold(&self, table: &Table<JournalSink>) -> Result<SyncHold<'t, 'w, R>, CompactionFault> {
-        if !is_synced(self.rt, table) {
+        if !is_synced(self.rt, table, self.meter) {
             self.watch.mute();
             return Err(CompactionFault::Unsynced);
         }
@@ -125,6 +126,7 @@ impl<'t, 'w, R: AllocGlobal + Wait + Sync> Runs for FolderRuns<'t, 'w, R> {
                 rt: self.rt,
                 watch: self.watch,
                 durable,
+                meter: self.meter,
             }),
             Err(_) => Err(CompactionFault::NoMemory),
         }
@@ -186,7 +188,7 @@ impl<'t, 'w, R: AllocGlobal + Wait + Sync> Runs for FolderRuns<'t, 'w, R> {
         if !self.watch.holds(&self.journal) {
             return Err(CompactionFault::Replaced);
         }
-        if !is_synced(self.rt, next) {
+        if !is_synced(self.rt, next, self.meter) {
             return Err(CompactionFault::CannotWrite);
         }
         let before = length_of(self.host, folder, self.in_place.number()).unwrap_or(0);
@@ -226,7 +228,7 @@ impl<'t, 'w, R: AllocGlobal + Wait + Sync> Runs for FolderRuns<'t, 'w, R> {
 }
 
 /// Makes a gate for each worker.
-fn gates_of<'t, 'w, R: AllocGlobal + Wait>(
+fn gates_of<'t, 'w, R: AllocGlobal + Wait + Clock>(
     folder_runs: &FolderRuns<'t, 'w, R>,
     durable: &Arc<Durable<FileDevice>>,
 ) -> Result<Vec<Watching<'t, 'w, R>>, AllocError>
@@ -243,7 +245,7 @@ fn gates_of<'t, 'w, R: AllocGlobal + Wait>(
 }
 
 /// Makes the gate of a worker, which has heard of nothing.
-fn gate_of<'t, 'w, R: AllocGlobal + Wait>(
+fn gate_of<'t, 'w, R: AllocGlobal + Wait + Clock>(
     folder_runs: &FolderRuns<'t, 'w, R>,
     durable: Arc<Durable<FileDevice>>,
 ) -> Result<Watching<'t, 'w, R>, AllocError>

@@ -6,6 +6,7 @@ mod folder_runs;
 mod gate;
 mod hold;
 mod listening;
+mod log;
 mod moments;
 mod notice;
 mod numbers;

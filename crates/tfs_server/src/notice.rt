@@ -2,7 +2,7 @@
 
 use crate::serve::Plan;
 use std::io::{self, Write};
-use tfs_files::CommandFault;
+use tfs_files::{CommandFault, JournalName};
 
 /// A compaction that was done: the number and the position of the new journal, the number of its
 /// names, and the lengths of the old and the new journal in bytes.
@@ -40,8 +40,9 @@ impl Notice {
                 Ok(())
             }
             Notice::Stayed(number, fault) => {
+                let name = JournalName(number);
                 let _ = eprintln!(host;
-                    "tfstatectl: {folder}/journal-{number:010}.tfj: {fault}. The server keeps the present journal, and compacts it in a minute"
+                    "tfstatectl: {folder}/{name}: {fault}. The server keeps the present journal, and compacts it in a minute"
                 );
                 Ok(())
             }
@@ -60,9 +61,9 @@ impl Compaction {
             before,
             after,
         } = self;
-        let (seconds, millis) = (waited / 1_000, waited % 1_000);
+        let (name, seconds, millis) = (JournalName(number), waited / 1_000, waited % 1_000);
         eprintln!(host;
-            "tfstatectl: serving {folder}/journal-{number:010}.tfj from position {position}: {after} bytes instead of {before}, {names} names, \
+            "tfstatectl: serving {folder}/{name} from position {position}: {after} bytes instead of {before}, {names} names, \
 requests waited {seconds}.{millis:03} s"
         )
     }

@@ -20,7 +20,7 @@ use tfs_files::{
 };
 use tfs_metrics::{Journal, Meter};
 use tfs_runs::{Tally, serve_runs};
-use tfs_serve::{AcceptFault, AnyListener};
+use tfs_serve::{AcceptFault, AnyListener, ClientFields};
 use tfs_table::Table;
 
 /// How much the journal of a run may grow before it is compacted, in bytes and in entries.
@@ -45,6 +45,8 @@ pub struct Plan<'p> {
     pub workers: usize,
     /// Whether to answer reads after the journal can't be written any more.
     pub serves_reads: bool,
+    /// The fields with which requests name their clients.
+    pub client_fields: ClientFields<'p>,
     ghost some: { 1 ≤ workers },
     ghost few: { workers ≤ 16 },
 }

@@ -4,6 +4,7 @@ use std::alloc::Global;
 use std::process::Abort;
 use std::sync::Wait;
 use std::sync::atomic::{AtomicU64, Ordering};
+use std::time::Clock;
 use tfs_durable::{Counted, Device, SyncFault, Tail};
 use tfs_records::{Out, Sink, SinkFault};
 
@@ -67,7 +68,7 @@ impl<'d> Tail<Syncs<'d>> for Writes<'d> {
 
 /// Makes appends over a disk whose device syncs at most `syncs` times, and waits for every third
 /// one. Returns the number of bytes reported as durable, and the number left after a power cut.
-fn run(rt: &(impl Wait + Abort), alloc: Global, appends: u64, syncs: u64) -> (u64, u64) {
+fn run(rt: &(impl Wait + Clock + Abort), alloc: Global, appends: u64, syncs: u64) -> (u64, u64) {
     let disk = Disk {
         written: AtomicU64::new(0),
         left: AtomicU64::new(0),

@@ -86,25 +86,25 @@ pub(crate) const ACT: Argument = Argument {
     help: "Lists only acts of this kind",
 };
 
-/// The `Who` of the locks whose acts to list.
+/// The user, or the `Who` of the locks, whose acts to list.
 pub(crate) const WHO: Argument = Argument {
     name: "who",
     takes: Takes::Value("WHO", Value::Optional(ValueParser::String)),
-    help: "Lists only acts under a lock whose `who` is WHO",
+    help: "Lists only acts by the user WHO, or under a lock whose `who` is WHO",
 };
 
 /// The earliest time of the acts to list.
 pub(crate) const SINCE: Argument = Argument {
     name: "since",
     takes: Takes::Value("TIME", Value::Optional(ValueParser::String)),
-    help: "Lists only acts under a lock taken at this time or later (2026-02-03T04:05:06Z)",
+    help: "Lists only acts made at this time or later (2026-02-03T04:05:06Z)",
 };
 
 /// The latest time of the acts to list.
 pub(crate) const UNTIL: Argument = Argument {
     name: "until",
     takes: Takes::Value("TIME", Value::Optional(ValueParser::String)),
-    help: "Lists only acts under a lock taken at this time or earlier",
+    help: "Lists only acts made at this time or earlier",
 };
 
 /// The number of newest acts to list.
@@ -348,6 +348,16 @@ pub(crate) const WORKSPACE_OF_FOLDER: Argument = Argument {
         Value::PairUnless(&["FOLDER", "NAME"], &["QUERY", "across", "state"]),
     ),
     help: "With --plan: the newest state of a workspace in a folder of journals",
+};
+
+/// The address of a server, and the name of the workspace whose newest state to use.
+pub(crate) const URL: Argument = Argument {
+    name: "url",
+    takes: Takes::Value(
+        "URL",
+        Value::PairUnless(&["URL", "NAME"], &["QUERY", "across", "state", "folder"]),
+    ),
+    help: "With --plan: the newest state of a workspace, from a server at http://HOST:PORT or unix:PATH",
 };
 
 /// The attributes whose updates to leave out.

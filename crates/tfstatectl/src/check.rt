@@ -5,12 +5,11 @@ use std::alloc::Global;
 use std::io::{self, Write};
 use std::process::ExitCode;
 use tfs_files::{
-    CommandEnd, CommandFault, FaultPlace, end_by, files_of, numbers_here, old_file, old_numbers,
+    CommandEnd, CommandFault, FaultPlace, JournalName, JournalOutline, Outlined, choose_planned,
+    end_by, numbers_of, outline_here, outline_old, plan_of,
 };
-use tfs_folder::{Chosen, FolderFile, choose};
+use tfs_folder::Chosen;
 use tfs_journal::End as JournalEnd;
-use tfs_records::Discard;
-use tfs_table::Table;
 
 /// Prints a line for each journal of a folder, and one for the journal that a start would continue.
 /// Returns the program's exit status.
@@ -21,85 +20,48 @@ pub(crate) fn run(rt: &HostRuntime, folder: &str) -> ExitCode {
     }
 }
 
-/// Checks a folder, and prints the lines.
+/// Checks a folder, and prints the lines. The journals are read in pieces, one after the other, and
+/// the last line is about the journal that a start chooses.
 fn check_folder(rt: &HostRuntime, folder: &str) -> Result<(), CommandEnd> {
-    let numbers = numbers_here(rt, folder)?;
-    tell_old(rt, folder)?;
-    let files = files_of(rt, folder, numbers.as_slice())?;
-    if tell_files(rt, files.as_slice()).is_err() {
-        return Err(CommandEnd::at(FaultPlace::Command, CommandFault::Write));
-    }
-    match choose(rt.alloc(), files, 0) {
-        Ok(chosen) => match tell_choice(rt, &chosen) {
-            Ok(()) => Ok(()),
-            Err(_) => Err(CommandEnd::at(FaultPlace::Command, CommandFault::Write)),
-        },
-        Err(unchosen) => Err(CommandEnd::choice_failed(unchosen, 0)),
-    }
-}
-
-/// Prints a line for each journal of the folder's `old/`, which are read one after the other. A
-/// journal that is removed meanwhile has no line.
-fn tell_old(rt: &HostRuntime, folder: &str) -> Result<(), CommandEnd> {
-    let numbers = match old_numbers(rt, folder) {
-        Ok(numbers) => numbers,
-        Err(error) => return Err(CommandEnd::by_system(
-            FaultPlace::Old,
-            CommandFault::CannotRead,
-            &error,
-        )),
-    };
-    for number in numbers {
-        if let Some(file) = old_file(rt, folder, number)? {
-            tell_old_file(rt, &file)?;
+    let numbers = numbers_of(rt, folder)?;
+    for number in &numbers.old {
+        if let Some(outlined) = outline_old(rt, folder, *number)? {
+            written(tell_journal(rt, "old/", *number, outlined))?;
         }
     }
-    Ok(())
+    for number in &numbers.here {
+        let outlined = outline_here(rt, folder, *number)?;
+        written(tell_journal(rt, "", *number, outlined))?;
+    }
+    let chosen = choose_planned(rt, folder, &plan_of(&numbers, None)?, 0)?;
+    written(tell_choice(rt, &chosen))
 }
 
-/// Prints the line of a journal of `old/`, or returns the error of the output.
-fn tell_old_file(rt: &HostRuntime, file: &FolderFile) -> Result<(), CommandEnd> {
-    match print_old_file(rt, file) {
+/// Returns the end if the output can't be written.
+fn written(outcome: io::Result<()>) -> Result<(), CommandEnd> {
+    match outcome {
         Ok(()) => Ok(()),
         Err(_) => Err(CommandEnd::at(FaultPlace::Command, CommandFault::Write)),
     }
 }
 
-/// Writes the line of a journal of `old/` to standard output.
-fn print_old_file(rt: &HostRuntime, file: &FolderFile) -> io::Result<()> {
-    let line = line_of(rt.alloc(), file)?;
-    println!(rt; "old/{line}")
-}
-
-/// Prints a line for each file.
-fn tell_files(rt: &HostRuntime, files: &[FolderFile]) -> io::Result<()> {
-    for file in files {
-        let line = line_of(rt.alloc(), file)?;
-        rt.println(line.as_str())?;
+/// Prints the line of a journal in the folder, or in a folder below it: its base, its position, the
+/// number of its names and how it ends, or its error.
+fn tell_journal(rt: &HostRuntime, below: &str, number: u64, outlined: Outlined) -> io::Result<()> {
+    let name = JournalName(number);
+    match outlined {
+        Ok(outline) => {
+            let JournalOutline {
+                base,
+                position,
+                names,
+                end,
+            } = outline;
+            let end = end_text(rt.alloc(), end)?;
+            println!(rt; "{below}{name}: base {base}, position {position}, {names} names, {end}")
+        }
+        Err(fault) => println!(rt; "{below}{name}: {fault}"),
     }
-    Ok(())
-}
-
-/// Returns the line of a journal: its base, its position, the number of its names and how it ends,
-/// or its error.
-fn line_of(alloc: Global, file: &FolderFile) -> io::Result<String> {
-    let name = file.name();
-    match Table::open(alloc, file.bytes(), Discard) {
-        Ok((table, end)) => table_line(alloc, name, &table, end),
-        Err(fault) => Ok(format!(in alloc; "{name}: {fault}")?),
-    }
-}
-
-/// Returns the line of a journal that opens as a table.
-fn table_line(
-    alloc: Global,
-    name: &str,
-    table: &Table<Discard>,
-    end: JournalEnd,
-) -> io::Result<String> {
-    let (base, position, names) = (table.base().position(), table.position(), table.names());
-    let end = end_text(alloc, end)?;
-    Ok(format!(in alloc; "{name}: base {base}, position {position}, {names} names, {end}")?)
 }
 
 /// Returns the text for how a journal ends.
@@ -113,9 +75,9 @@ fn end_text(alloc: Global, end: JournalEnd) -> io::Result<String> {
 
 /// Prints which journal a start would continue.
 fn tell_choice(rt: &HostRuntime, chosen: &Chosen) -> io::Result<()> {
-    let (number, position) = (chosen.number, chosen.table.position());
+    let (name, position) = (JournalName(chosen.number), chosen.table.position());
     if let Some(left) = chosen.left {
-        println!(rt; "journal-{left:010}.tfj was left by a start that failed")?;
+        println!(rt; "{} was left by a start that failed", JournalName(left))?;
     }
-    println!(rt; "a start continues journal-{number:010}.tfj at position {position}")
+    println!(rt; "a start continues {name} at position {position}")
 }

@@ -10,6 +10,7 @@ use std::env;
 use std::process::ExitCode;
 use std::rt::Env;
 use tfs_files::{CommandEnd, CommandFault, FaultPlace, Limits, Retention, Start, end_by};
+use tfs_serve::ClientFields;
 use tfs_server::Bounds;
 
 /// The request of `serve`.
@@ -25,6 +26,8 @@ pub(crate) struct Serving<'a> {
     pub(crate) least_file: Option<&'a str>,
     /// The address where to answer requests for the server's numbers.
     pub(crate) metrics: Option<&'a str>,
+    /// The fields with which requests name their clients.
+    pub(crate) client_fields: ClientFields<'a>,
     /// Whether to answer reads after the journal can't be written any more.
     pub(crate) serve_reads: bool,
     /// How much a journal may grow before it is compacted.
@@ -42,6 +45,10 @@ impl<'a> Serving<'a> {
             workers: workers_in(given.get_one::<usize>("workers")),
             least_file: given.get_str("at-least-file"),
             metrics: given.get_str("metrics"),
+            client_fields: ClientFields {
+                user: given.get_str("user-header"),
+                address: given.get_str("address-header"),
+            },
             serve_reads: given.get_flag("serve-reads"),
             bounds: bounds_of(given),
         }
@@ -134,7 +141,15 @@ impl<'a> Copying<'a> {
         match place {
             FaultPlace::Position => self.least_file.unwrap_or(""),
             FaultPlace::OriginalIdentity => self.from,
-            _ => self.to,
+            FaultPlace::Command
+            | FaultPlace::Folder
+            | FaultPlace::Old
+            | FaultPlace::Journal(_)
+            | FaultPlace::OldJournal(_)
+            | FaultPlace::Identity
+            | FaultPlace::First
+            | FaultPlace::Past
+            | FaultPlace::Address => self.to,
         }
     }
 }

@@ -6,9 +6,11 @@ use crate::arguments::{
     FIRST, FIRST_POSITION, FROM, HELD, IGNORE, JOURNALS, JSON, KEEP, KEEP_BYTES, KEEP_DAYS, LAST,
     LEAST, LEAST_FILE, LEAST_OF_COPIES, LINES, LISTEN, MARKDOWN, MERMAID, METRICS, NEW, PAST, PLAN,
     POSITION, QUERY, SECOND_POSITION, SERVE_READS, SERVED, SERVED_UNLESS_PLAN, SINCE,
-    SOME_POSITION, STATE, TO, UNTIL, VALUES, WHO, WORKERS, WORKSPACE, WORKSPACE_OF_FOLDER,
+    SOME_POSITION, STATE, TO, UNTIL, URL, VALUES, WHO, WORKERS, WORKSPACE, WORKSPACE_OF_FOLDER,
     WORKSPACE_OR_ALL, WORKSPACE_UNLESS_PLAN,
 };
+use crate::proxy_arguments::{ADDRESS_HEADER, USER_HEADER};
+use crate::web_arguments::{ACCESS, LISTEN_LOCALLY, PAGE, USER_OF_PAGE};
 use clap::{Arg, Command};
 use std::alloc::{AllocError, Global};
 
@@ -45,6 +47,8 @@ static OF_FOLDERS: [Form; 4] = [
             LISTEN,
             WORKERS,
             METRICS,
+            USER_HEADER,
+            ADDRESS_HEADER,
             SERVE_READS,
             COMPACT_BYTES,
             COMPACT_ENTRIES,
@@ -130,6 +134,7 @@ static OF_REPORTS: [Form; 8] = [
             PLAN,
             STATE,
             WORKSPACE_OF_FOLDER,
+            URL,
             IGNORE,
             BYTES,
             MARKDOWN,
@@ -146,10 +151,18 @@ static OF_REPORTS: [Form; 8] = [
     },
 ];
 
+/// The command that shows a folder in a browser.
+static OF_PAGES: [Form; 1] = [Form {
+    name: "web",
+    about: "Serves a page that shows the workspaces of a folder, and changes nothing",
+    arguments: &[SERVED, LISTEN_LOCALLY, ACCESS, USER_OF_PAGE, PAGE],
+}];
+
 /// Returns the program's command with its subcommands.
 pub(crate) fn program<'a>(alloc: Global) -> Result<Command<'a>, AllocError> {
     let program = top(alloc).subcommands(of_folders(alloc)?)?;
-    program.subcommands(of_reports(alloc)?)
+    let program = program.subcommands(of_reports(alloc)?)?;
+    program.subcommands(of_pages(alloc)?)
 }
 
 /// Returns the commands that make, serve, check and copy a folder.
@@ -160,6 +173,11 @@ fn of_folders<'a>(alloc: Global) -> Result<Vec<Command<'a>>, AllocError> {
 /// Returns the commands that report on a folder.
 fn of_reports<'a>(alloc: Global) -> Result<Vec<Command<'a>>, AllocError> {
     commands(alloc, &OF_REPORTS)
+}
+
+/// Returns the command that shows a folder in a browser.
+fn of_pages<'a>(alloc: Global) -> Result<Vec<Command<'a>>, AllocError> {
+    commands(alloc, &OF_PAGES)
 }
 
 /// Returns the program's command without subcommands.

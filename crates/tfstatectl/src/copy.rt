@@ -5,12 +5,12 @@ use crate::command::Copying;
 use std::process::ExitCode;
 use std::{fs, io};
 use tfs_files::{
-    CommandEnd, CommandFault, DurableJournal, FaultPlace, FolderLock, Gap, Originals, PositionFile,
-    end_by, least_position, lock_folder, mark_copies, name_parts, numbers_here, raise_least,
-    read_originals, refuse_other_copies, refuse_other_original, refuse_served, remove_expired,
-    retire, write_parts,
+    CommandEnd, CommandFault, CopyEnd, CopyFolders, DurableJournal, FaultPlace, FolderLock, Gap,
+    JournalName, Parts, PositionFile, choose_parts, end_by, least_position, lock_folder,
+    mark_copies, name_parts, numbers_here, raise_least, refuse_other_copies, refuse_other_original,
+    refuse_served, remove_expired, retire, write_parts,
 };
-use tfs_folder::{Chosen, FolderFile, choose};
+use tfs_folder::Chosen;
 
 /// A folder of copies: its lock, its journals, and the file of the least position.
 #[derive(Drop)]
@@ -72,45 +72,36 @@ fn copy_files(
     here: &[u64],
     least: u64,
 ) -> Result<Copied, ExitCode> {
-    let originals = match read_originals(rt, asked.from, here) {
-        Ok(originals) => originals,
-        Err(end) => return Err(end_by(rt, asked.from, end)),
+    let folders = CopyFolders {
+        from: asked.from,
+        to: asked.to,
+        copies: here,
     };
-    let gap = originals.gap_before(rt, asked.to, here);
-    let shared = match gap {
-        Some(gap) if gap.goes_back() => here,
-        Some(_) | None => originals.still_held(here),
-    };
-    let parts = match write_parts(rt, asked.to, shared, originals.files.as_slice()) {
+    let Parts { numbers, gap } = match write_parts(rt, &folders) {
         Ok(parts) => parts,
-        Err(end) => return Err(end_by(rt, asked.to, end)),
+        Err(CopyEnd { folder, end }) => return Err(end_by(rt, folder, end)),
     };
-    let Originals { files, lowest: _ } = originals;
-    match own_in(rt, asked.from, files, least) {
-        Ok(newest) => Ok(Copied { parts, newest, gap }),
+    match own_among(rt, asked, numbers.as_slice(), least) {
+        Ok(newest) => Ok(Copied {
+            parts: numbers,
+            newest,
+            gap,
+        }),
         Err(end) => Err(end_by(rt, asked.from, end)),
     }
 }
 
-/// Returns the newest journal of these files of a folder. It must be the folder's own, and its
-/// position must be at least this one.
-fn own_in(
+/// Returns the newest journal of these parts. It must be the copied folder's own, and its position
+/// must be at least this one.
+fn own_among(
     rt: &HostRuntime,
-    folder: &str,
-    files: Vec<FolderFile>,
+    asked: &Copying<'_>,
+    parts: &[u64],
     least: u64,
 ) -> Result<Newest, CommandEnd> {
-    let newest = chosen_in(rt, files, least)?;
-    refuse_other_original(rt, folder, newest.number)?;
+    let newest = Newest::of(&choose_parts(rt, asked.to, parts, least)?);
+    refuse_other_original(rt, asked.from, newest.number)?;
     Ok(newest)
-}
-
-/// Returns the newest journal of these files. Its position must be at least this one.
-fn chosen_in(rt: &HostRuntime, files: Vec<FolderFile>, least: u64) -> Result<Newest, CommandEnd> {
-    match choose(rt.alloc(), files, least) {
-        Ok(chosen) => Ok(Newest::of(&chosen)),
-        Err(unchosen) => Err(CommandEnd::choice_failed(unchosen, least)),
-    }
 }
 
 /// Gives the copied parts their names, and prints the position up to which was copied. Returns the
@@ -199,8 +190,8 @@ fn tell_gap(rt: &HostRuntime, asked: &Copying<'_>, gap: Gap) -> io::Result<()> {
 
 /// Prints the newest journal and the position up to which was copied.
 fn tell(rt: &HostRuntime, newest: Newest) -> ExitCode {
-    let Newest { number, position } = newest;
-    match println!(rt; "copied journal-{number:010}.tfj up to position {position}") {
+    let (name, position) = (JournalName(newest.number), newest.position);
+    match println!(rt; "copied {name} up to position {position}") {
         Ok(()) => ExitCode::SUCCESS,
         Err(_) => end_by(
             rt,

@@ -3,7 +3,8 @@
 use std::fs;
 use std::process::ExitCode;
 use tfs_files::{
-    CommandEnd, CommandFault, FIRST_NUMBER, FaultPlace, end_by, lock_folder, make_first,
+    CommandEnd, CommandFault, FIRST_NUMBER, FaultPlace, JournalName, end_by, lock_folder,
+    make_first,
 };
 
 /// Creates a folder with its first journal, and prints the journal's path. Returns the program's
@@ -20,7 +21,7 @@ fn create(rt: &HostRuntime, folder: &str) -> Result<(), CommandEnd> {
     let _ = fs::create_dir_all(rt, folder);
     let _lock = lock_folder(rt, folder)?;
     make_first(rt, folder)?;
-    match println!(rt; "created {folder}/journal-{FIRST_NUMBER:010}.tfj") {
+    match println!(rt; "created {folder}/{}", JournalName(FIRST_NUMBER)) {
         Ok(()) => Ok(()),
         Err(_) => Err(CommandEnd::at(FaultPlace::Command, CommandFault::Write)),
     }

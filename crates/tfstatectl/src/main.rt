@@ -1,6 +1,6 @@
 //! The program `tfstatectl`: creates a folder of journals (`init`), runs the server on it
 //! (`serve`), reports on a folder (`check`, `list`, `holder`, `history`, `show`, `diff`, `restore`,
-//! `impact`, `stats`), and copies it (`copy`).
+//! `impact`, `stats`), copies it (`copy`), and shows it as a page (`web`).
 #![tactic(auto)]
 
 mod argument;
@@ -12,9 +12,13 @@ mod copy;
 mod init;
 mod listening;
 mod numbers;
+mod progress;
+mod proxy_arguments;
 mod reading;
 mod serve;
 mod start;
+mod web;
+mod web_arguments;
 
 use crate::command::{Copying, Serving, folder_of, matches_of, words_of};
 use crate::listening::listen;
@@ -73,6 +77,14 @@ fn run_named<R: AllocGlobal + Threads + Wait + Clock + Sync>(
 ) -> ExitCode {
     match command {
         "serve" => run_server(rt, host, &Serving::of(given)),
+        "web" => web::run(rt, host, given),
+        _ => progress::run(rt, host, command, given),
+    }
+}
+
+/// Runs the command with this name, which is neither `serve` nor `web`.
+fn run_reading(host: &HostRuntime, command: &str, given: &ArgMatches<'_>) -> ExitCode {
+    match command {
         "copy" => copy::run(host, &Copying::of(given)),
         "init" => init::run(host, folder_of(given)),
         "check" => check::run(host, folder_of(given)),

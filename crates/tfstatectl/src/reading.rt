@@ -13,7 +13,7 @@ use tfs_reports::{
 
 /// Runs a command that reads a folder. Returns the program's exit status.
 pub(crate) fn run(rt: &HostRuntime, command: &str, given: &ArgMatches<'_>) -> ExitCode {
-    let (folder, name) = match given.get_strs("folder") {
+    let (folder, name) = match given.get_strs("folder").or(given.get_strs("url")) {
         Some([folder, name]) => (*folder, *name),
         _ => (folder_of(given), name_of(given)),
     };
@@ -121,6 +121,9 @@ fn report_plan(rt: &HostRuntime, plan: &str, given: &ArgMatches<'_>) -> Result<(
 fn state_source_of<'a>(given: &ArgMatches<'a>) -> Result<StateSource<'a>, ReportEnd> {
     if let Some([folder, name]) = given.get_strs("folder") {
         return Ok(StateSource::Workspace(folder, name));
+    }
+    if let Some([url, name]) = given.get_strs("url") {
+        return Ok(StateSource::Server(url, name));
     }
     match given.get_str("state") {
         Some(path) => Ok(StateSource::File(path)),

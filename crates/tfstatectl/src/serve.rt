@@ -100,5 +100,6 @@ fn plan_of<'a>(asked: &Serving<'a>) -> Plan<'a> {
         bounds: asked.bounds,
         workers: asked.workers,
         serves_reads: asked.serve_reads,
+        client_fields: asked.client_fields,
     }
 }

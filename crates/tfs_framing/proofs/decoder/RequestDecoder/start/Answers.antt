@@ -1,7 +1,7 @@
 -- A new decoder has no bytes.
 use Rattle.std.proofs.Common.{List, ℕ, sym, ◌∙◌, subst}
 use Rattle.tfs_framing.specs.Decoder.{IsAt}
-use Rattle.tfs_framing.proofs.decoder.RequestDecoder.new.Goals as goal
+use Rattle.tfs_framing.proofs.decoder.RequestDecoder.start.Goals as goal
 
 pub invariant_of-result : goal.invariant_of-result
 invariant_of-result c = (
