@@ -7,13 +7,14 @@ import sys
 from repository import TOP, chosen
 from screen import Screen, run, script
 
-TESTS = ["deploy_pages.py", "deploy_package.py", "deploy_release.py", "deploy_front.py", "deploy_nginx.py", "deploy_users.py", "deploy_page.py"]
+TESTS = ["deploy_pages.py", "deploy_package.py", "deploy_release.py", "deploy_front.py", "deploy_nginx.py", "deploy_users.py", "deploy_web.py",
+         "deploy_page.py"]
 OF_PROMETHEUS = ["deploy_metrics.py"]
 OF_TERRAFORM = ["deploy_terraform.py", "deploy_commands.py", "deploy_impact.py", "deploy_diff.py"]
 
 
 def main(wanted):
-    missing = [name for name in ("nginx", "openssl", "dpkg-deb", "jq", "curl", "rsync", "ssh-keygen") if not shutil.which(name)]
+    missing = [name for name in ("nginx", "openssl", "dpkg-deb", "jq", "curl", "rsync", "ssh-keygen", "chromium", "chromedriver") if not shutil.which(name)]
     if missing:
         sys.exit(f"deploy-test: not installed: {', '.join(missing)}")
     screen, tests = Screen(), list(TESTS)

@@ -1,0 +1,3 @@
+mod ChangesLemmas
+mod Crossing
+mod WorkspacesLemmas
