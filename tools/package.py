@@ -22,10 +22,11 @@ DIST, DEPLOY = TOP / "dist", TOP / "deploy"
 VERSION = (TOP / "VERSION").read_text().splitlines()[0]
 NAME = f"tfstated_{VERSION}_amd64"
 UNITS = "usr/lib/systemd/system"
-PAGES = [*(f"deploy/{name}.md" for name in ("README", "INSTALL", "OPERATE", "RECOVER", "REFERENCE", "IMPACT")), "docs/picture.svg", "CHANGELOG.md",
+PAGES = [*(f"deploy/{name}.md" for name in ("README", "INSTALL", "OPERATE", "RECOVER", "REFERENCE", "IMPACT", "WEB")), "docs/picture.svg", "CHANGELOG.md",
          *(f"docs/{name}.md" for name in ("FOLDER", "SERVING", "COPIES", "VERSIONS", "UPGRADING", "PERFORMANCE", "PROTOCOL", "JOURNAL", "MODEL"))]
 TEXTS = {
     "usr/share/doc/tfstated": [*PAGES, "LICENSE"],
+    "usr/share/tfstated/web": [f"deploy/web/{path.name}" for path in sorted((DEPLOY / "web").iterdir())],
     "usr/share/tfstated": ["deploy/nginx.conf", "deploy/nginx-access.conf", "deploy/alerts.yml", "deploy/dashboard.json", "deploy/impact-gitlab.yml", "deploy/impact-github.yml"],
 }
 CONTROL = """Package: tfstated

@@ -29,6 +29,8 @@ USER, PASSWORD = "admin", "secret words"
 # The users of deploy/nginx-access.conf, and one without a line in it.
 USERS = [USER, "auditor", "network-ci", "stranger"]
 MAX_BODY = 16777216
+# The options of the unit for the fields that nginx sets.
+FIELDS = re.findall(r"--(?:user|address)-header \S+", (DEPLOY / "tfstated.service").read_text())
 AROUND = """{user}
 worker_processes 2;
 daemon off;
@@ -100,8 +102,10 @@ def spread_site(servers, port):
 
 
 def serving(folder=None, path=None, workers="2"):
-    """Returns a server that listens on a unix socket, on a folder of its own if none is given."""
-    return Serving(folder or fresh(n1=b"TFJ1\n"), path=path or fresh() / "tfstated.sock", workers=workers).listens()
+    """Returns a server that listens on a unix socket, on a folder of its own if none is given, with
+    the unit's options for clients."""
+    fields = " ".join(FIELDS).split()
+    return Serving(folder or fresh(n1=b"TFJ1\n"), *fields, path=path or fresh() / "tfstated.sock", workers=workers).listens()
 
 
 class Nginx:

@@ -16,7 +16,7 @@ from repository import TOP
 
 FOLDER = tempfile.TemporaryDirectory(prefix="tfstated-")
 ROOT = Path(FOLDER.name) / "root"
-UNITS = ["tfstated", "tfstated-copy", "tfstated-standby", "tfstated-stats"]
+UNITS = ["tfstated", "tfstated-copy", "tfstated-standby", "tfstated-stats", "tfstated-web"]
 WANTED = """usr/bin/tfstatectl usr/bin/tfstated usr/sbin/tfstated-user usr/share/man/man8/tfstatectl.8.gz usr/share/man/man1/tfstated.1.gz
 usr/lib/systemd/system/tfstated.service usr/lib/systemd/system/tfstated-copy.service usr/lib/systemd/system/tfstated-copy.timer
 usr/lib/systemd/system/tfstated-standby.service usr/lib/systemd/system/tfstated-standby.timer
@@ -27,9 +27,13 @@ usr/share/doc/tfstated/picture.svg usr/share/doc/tfstated/UPGRADING.md usr/share
 usr/share/doc/tfstated/IMPACT.md usr/share/doc/tfstated/FOLDER.md usr/share/doc/tfstated/SERVING.md
 usr/share/doc/tfstated/COPIES.md usr/share/doc/tfstated/VERSIONS.md usr/share/doc/tfstated/PERFORMANCE.md usr/share/doc/tfstated/copyright
 usr/share/doc/tfstated/SHA256SUMS usr/share/tfstated/nginx.conf usr/share/tfstated/nginx-access.conf
+usr/lib/systemd/system/tfstated-web.service usr/share/doc/tfstated/WEB.md
+usr/share/tfstated/web/graph.js usr/share/tfstated/web/impact.js usr/share/tfstated/web/index.html usr/share/tfstated/web/layout.js
+usr/share/tfstated/web/page.css usr/share/tfstated/web/page.js usr/share/tfstated/web/parts.js usr/share/tfstated/web/workspace.js
+usr/share/tfstated/web/workspaces.js
 usr/share/tfstated/alerts.yml usr/share/tfstated/dashboard.json usr/share/tfstated/postinst usr/share/tfstated/impact-gitlab.yml usr/share/tfstated/impact-github.yml
 usr/share/bash-completion/completions/tfstatectl usr/share/zsh/vendor-completions/_tfstatectl"""
-COMMANDS = "init serve check copy list holder history show diff restore impact stats".split()
+COMMANDS = "init serve check copy list holder history show diff restore impact stats web".split()
 WANTED = {*WANTED.split(), *(f"usr/share/man/man8/tfstatectl-{name}.8.gz" for name in COMMANDS)}
 
 

@@ -123,6 +123,7 @@ def check_copies_and_what_to_watch():
     text = do(*MONITOR)
     goes_on_alone(JOURNAL, before)
     expect(("\n423\n" in f"\n{text}", "a start continues" in text, "\tadmin\tPOST\tnetwork.prod\t200" in text), (True, True, True), text)
+    expect(re.search(rf"^\d+ +network\.prod +push .* {re.escape(LOOPBACK)} +admin$", text, re.M) is not None, True, text)
     found = read_metrics((ROOT / "var/lib/prometheus/node-exporter/tfstated.prom").read_text())
     expect((found["tfstated_workspaces"][0], found["tfstated_locks"][0], "tfstated_newest_copy_age_seconds" in found), (2, 1, True), found)
 
@@ -148,11 +149,13 @@ def check_the_script_of_the_archive():
     script.write_text(page_tools.moved(script.read_text()))
     configures = command("/usr/share/tfstated/postinst configure")
     text = run(configures)
-    expect(("nothing is started" in text, "127.0.0.1:8080" in text), (True, False), text)
-    with open(ROOT / "etc/nginx/conf.d/tfstated.conf", "a") as site:
-        site.write("# server 127.0.0.1:8080;\n")
+    expect(("nothing is started" in text, "127.0.0.1:8080" in text, "X-Remote-User" in text), (True, False, False), text)
+    site = ROOT / "etc/nginx/conf.d/tfstated.conf"
+    before = site.read_text()
+    site.write_text(before.replace("proxy_set_header X-Remote-User", "#") + "# server 127.0.0.1:8080;\n")
     text = run(configures)
-    expect("names 127.0.0.1:8080, and the unit listens at unix:/" in text, True, text)
+    expect(("names 127.0.0.1:8080, and the unit listens at unix:/" in text, "doesn't set X-Remote-User" in text), (True, True), text)
+    site.write_text(before)
 
 
 def check_a_start_that_fails_is_told():
