@@ -1,5 +1,5 @@
 -- The workspaces that read outputs of a workspace, directly or through others.
-use Rattle.std.specs.Prelude.{◌≡◌, ℕ, ◌<◌, Bool, false, List, length, position, Contains, Option, Some, None}
+use Rattle.std.specs.Prelude.{◌≡◌, ◌≢◌, ℕ, ◌<◌, ◌≤◌, Bool, false, List, length, position, Contains, Option, Some, None}
 use Rattle.std.specs.List.{list_any, slice_get}
 use Rattle.std.specs.Option.{option_map_or}
 use Rattle.std.specs.Str.{bytes_eq}
@@ -31,18 +31,20 @@ pub record Reads (ws : List WorkspaceValue) (i j : ℕ) : Type 0 where
 
 -- The workspaces from which a workspace of this name is read: `direct` has those whose own state
 -- names it, and `all` those from which a walk of such pairs leads to it. Both are in the order of
--- the workspaces, each once.
+-- the workspaces, each once. There are at most 4,096 workspaces.
 pub record AreReaders (ws : List WorkspaceValue) (name : List ℕ) (direct all : List ℕ) : Type 0 where
+  pub few : length ws ≤ 4096
   pub number : ℕ
   pub named : number_of name ws ≡ Some number
   pub naming : IsRisingListOf (λ i. Reads ws i number) direct
   pub leading : IsRisingListOf (λ i. Joins (Reads ws) i number) all
 
--- Why the readers aren't found.
+-- Why the readers aren't found. Each input has one cause: memory is the cause only if the name and
+-- the number of workspaces aren't.
 abbrev pub IsCause : List WorkspaceValue → List ℕ → AcrossFault → Type 0
 IsCause ws name UnknownName = number_of name ws ≡ None
-IsCause ws name TooManyWorkspaces = 4096 < length ws
-IsCause ws name NoMemory = Unit {0}
+IsCause ws name TooManyWorkspaces = (number_of name ws ≢ None) × (4096 < length ws)
+IsCause ws name NoMemory = (number_of name ws ≢ None) × (length ws ≤ 4096)
 
 -- ---- The same as a test.
 

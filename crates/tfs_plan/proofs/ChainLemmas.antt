@@ -10,7 +10,7 @@ use Rattle.tfs_plan.specs.Chains.{IsPath, LeadsBack, Follows, AreChains}
 use Rattle.tfs_plan.specs.declared.chain.Step.{Step}
 
 -- An element of a list with one more element is an element of the list, or that element.
-snoc_at : {A : Type 0} (xs : List A) (y : A) (k : ℕ) (x : A) → slice_get (xs ++ y ∷ []) k ≡ Some x
+pub snoc_at : {A : Type 0} (xs : List A) (y : A) (k : ℕ) (x : A) → slice_get (xs ++ y ∷ []) k ≡ Some x
     → (slice_get xs k ≡ Some x) ⊎ ((k ≡ length xs) × (y ≡ x))
 snoc_at [] y zero x e = inr (refl, cc)
 snoc_at [] y (suc k) x e = cc

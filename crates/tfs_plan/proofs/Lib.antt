@@ -3,3 +3,4 @@ mod FilterLemmas
 mod FindLemmas
 mod PlanLemmas
 mod ReachLemmas
+mod SearchLemmas

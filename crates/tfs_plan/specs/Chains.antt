@@ -1,7 +1,8 @@
 -- Chains of dependencies from instances back to changed ones.
-use Rattle.std.specs.Prelude.{◌≡◌, ℕ, ◌+◌, ◌-◌, ◌<◌, List, length, slice_get, slice_index, Contains, Option, None, Some}
+use Rattle.std.specs.Prelude.{◌≡◌, ℕ, ◌+◌, ◌-◌, ◌<◌, ◌⊎◌, List, length, slice_get, slice_index, Contains, Option, None, Some}
 use Rattle.tfs_state.specs.Document.{Document}
 use Rattle.tfs_state.specs.Dependency.{DependsOn}
+use Rattle.tfs_index.specs.Reach.{Reaches}
 use Rattle.tfs_plan.specs.declared.chain.Step.{Step}
 
 -- The list begins with instance u, and each of its instances depends on the next.
@@ -14,6 +15,10 @@ pub record IsPath (d : Document) (u : ℕ) (path : List ℕ) : Type 0 where
 pub record LeadsBack (d : Document) (starts : List ℕ) (u : ℕ) (chain : List ℕ) : Type 0 where
   pub path : IsPath d u chain
   pub changed : Contains starts (slice_index chain (length chain - 1))
+
+-- Instance u is changed, or a change of a changed instance reaches it.
+abbrev pub IsLed : Document → List ℕ → ℕ → Type 0
+IsLed d starts u = (u < length d.instances) × (Contains starts u ⊎ ((v : ℕ) × Contains starts v × Reaches d v u))
 
 -- ---- In memory.
 

@@ -10,6 +10,7 @@ use Rattle.serde_json.specs.Find.{get, as_str, as_array}
 use Rattle.tfs_json.specs.Json.{json_value, text_at, optional_text_at, member_at, list_at}
 use Rattle.tfs_plan.specs.declared.action.Action.{Action}
 use Rattle.tfs_plan.specs.declared.action.Action.TheVariants.{NoOp, Create, Read, Update, Delete, Replace, Forget}
+use Rattle.tfs_plan.specs.Ignored.{is_ignored}
 use Rattle.tfs_plan.specs.declared.fault.PlanFault.{PlanFault}
 use Rattle.tfs_plan.specs.declared.fault.PlanFault.TheVariants.{NotJson, NotPlan, Changes, TooManyChanges, Address, PreviousAddress, Deposed, Actions}
 
@@ -65,8 +66,7 @@ pub record IsChangeOf (names : List (List ℕ)) (value : Data) (c : ChangeValue)
   pub keyed : optional_text_at (codes "deposed") value ≡ Some key
   pub deposed : c.deposed ≡ is_some key
   pub action : action_at value ≡ Some c.action
-  pub ignored : c.ignored ≡ true → c.action ≡ Update
-  pub asked : length names ≡ 0 → c.ignored ≡ false
+  pub ignored : c.ignored ≡ is_ignored names c.action value
 
 -- The fault of change i, or None.
 abbrev pub change_fault : ℕ → Data → Option PlanFault

@@ -1,8 +1,9 @@
 //! The chains of dependencies that lead from instances back to the changed ones that reach them.
 
-ghost use Rattle.std.specs.Prelude.{◌≡◌, ◌<◌, ◌≤◌, length, slice_get, option_map, Contains, Some, IfOk, IfSome};
+ghost use Rattle.std.specs.Prelude.{◌≡◌, ◌≢◌, ◌↔◌, ◌<◌, ◌≤◌, ◌+◌, ℕ, length, replicate, slice_get, false, Some, IsTrue, IfOk, OnOk, IfSome, IfNone};
 ghost use Rattle.std.specs.Arc.{arc_value};
-ghost use Rattle.tfs_plan.specs.Chains.{AreChains, LeadsBack};
+ghost use Rattle.tfs_plan.specs.Chains.{AreChains, Follows, LeadsBack, IsLed};
+ghost use Rattle.tfs_plan.specs.Search.{AreWhole, IsSearch, Grows, Extends, HasStart, HasStep};
 ghost use Rattle.tfs_state.specs.Dependency.{DependsOn};
 ghost use Rattle.tfs_plan.specs.declared.chain.Step.{Step};
 
@@ -31,13 +32,20 @@ pub struct Chains {
 impl Model for Chains {
     ghost use Rattle.std.specs.Arc.{arc_value};
     ghost use Rattle.tfs_plan.specs.Chained.{Chained};
-    ghost use Rattle.tfs_plan.specs.Chains.{AreChains};
+    ghost use Rattle.tfs_plan.specs.Search.{AreWhole};
 
     ghost Value = { Chained };
 
     ghost view = { λ c. record { document = arc_value c.version; starts = c.starts.items } };
 
-    ghost invariant = { λ c. AreChains (arc_value c.version) c.starts.items c.steps.items };
+    ghost invariant = { λ c. AreWhole (arc_value c.version) c.starts.items c.steps.items };
+}
+
+/// The steps that a search has found, and whether each instance has one.
+#[derive(Drop)]
+pub(crate) struct Found {
+    pub(crate) steps: Vec<Step>,
+    pub(crate) is_found: Vec<bool>,
 }
 
 impl Chains {
@@ -54,14 +62,7 @@ impl Chains {
         ensures starts { IfOk result (λ chains. chains.starts ≡ starts.now) }
     {
         let version = version.clone()?;
-        let doc = version.doc();
-        let mut steps = Vec::new(alloc);
-        let count = count.min(starts.len());
-        start(doc, starts, &mut steps, 0, count)?;
-        spread(alloc, doc, starts, &mut steps, 0)?;
-        let later = steps.len();
-        start(doc, starts, &mut steps, count, starts.len())?;
-        spread(alloc, doc, starts, &mut steps, later)?;
+        let steps = steps_of(alloc, version.doc(), starts, count.min(starts.len()))?;
         let starts = Vec::from_slice(alloc, starts)?;
         Ok(Chains {
             version,
@@ -71,14 +72,45 @@ impl Chains {
     }
 
     /// Returns the chain of an instance: the instance itself, one that it depends on, and so on, up
-    /// to one of the changed ones. Returns an empty list if none was found.
+    /// to one of the changed ones. Returns an empty list for an instance that isn't changed, and
+    /// that no changed one reaches.
     pub fn chain(&self, alloc: Global, u: usize) -> Result<Vec<usize>, AllocError>
         ensures chain { IfOk result (λ chain. 0 < length chain.items
             → LeadsBack self.now.document self.now.starts u chain.items) }
+        ensures found { IfOk result (λ chain. IsLed self.now.document self.now.starts u → 0 < length chain.items) }
     {
         let (starts, steps) = (self.starts.as_slice(), self.steps.as_slice());
         chain_back(alloc, self.version.doc(), starts, steps, u)
     }
+}
+
+/// Returns the steps of the changed instances, and of all instances that these reach.
+fn steps_of(
+    alloc: Global,
+    doc: &Doc,
+    starts: &[usize],
+    count: usize,
+) -> Result<Vec<Step>, AllocError>
+    requires { count ≤ length starts.now }
+    ensures { IfOk result (λ steps. AreWhole doc.now starts.now steps.items) }
+{
+    let mut found = Found {
+        steps: Vec::new(alloc),
+        is_found: no_marks(alloc, doc.len())?,
+    };
+    start(doc, starts, &mut found, 0, count)?;
+    spread(doc, starts, &mut found, 0)?;
+    let later = found.steps.as_slice().len();
+    start(doc, starts, &mut found, count, starts.len())?;
+    spread(doc, starts, &mut found, later)?;
+    Ok(found.steps)
+}
+
+/// Returns a list of `count` times `false`.
+fn no_marks(alloc: Global, count: usize) -> Result<Vec<bool>, AllocError>
+    ensures { IfOk result (λ marks. marks.items ≡ replicate count false) }
+{
+    vec![in alloc; false; count]
 }
 
 /// Appends a step for each of some changed instances that has none: those with the indexes from
@@ -86,163 +118,127 @@ impl Chains {
 fn start(
     doc: &Doc,
     starts: &[usize],
-    steps: &mut Vec<Step>,
+    found: &mut Found,
     from: usize,
     end: usize,
 ) -> Result<(), AllocError>
     requires indexes { end ≤ length starts.now }
-    requires chains { AreChains doc.now starts.now steps.old.items }
-    ensures chains { AreChains doc.now starts.now steps.new.items }
+    ensures grows { OnOk result (Grows doc.now starts.now found.old found.new) }
+    ensures started { OnOk result ((below : ℕ) → IsSearch doc.now starts.now below found.old
+        → (i : ℕ) → from ≤ i → i < end → HasStart doc.now starts.now found.new.steps.items i) }
 {
     for i in from..end {
-        begin(doc, starts, steps, i)?;
+        begin(doc, starts, found, i)?;
     }
     Ok(())
 }
 
 /// Appends a step for the changed instance with an index, if it has none.
-fn begin(doc: &Doc, starts: &[usize], steps: &mut Vec<Step>, i: usize) -> Result<(), AllocError>
+fn begin(doc: &Doc, starts: &[usize], found: &mut Found, i: usize) -> Result<(), AllocError>
     requires index { i < length starts.now }
-    requires chains { AreChains doc.now starts.now steps.old.items }
-    ensures chains { AreChains doc.now starts.now steps.new.items }
+    ensures grows { OnOk result (Grows doc.now starts.now found.old found.new) }
+    ensures started { OnOk result ((below : ℕ) → IsSearch doc.now starts.now below found.old
+        → HasStart doc.now starts.now found.new.steps.items i) }
 {
     let v = starts[i];
-    if v >= doc.len() || place_of(steps.as_slice(), v).is_some() {
-        return Ok(());
-    }
-    push_first(doc, starts, steps, v)
-}
-
-/// Appends the step of a changed instance.
-fn push_first(
-    doc: &Doc,
-    starts: &[usize],
-    steps: &mut Vec<Step>,
-    v: usize,
-) -> Result<(), AllocError>
-    requires chains { AreChains doc.now starts.now steps.old.items }
-    requires instance { v < length doc.now.instances }
-    requires changed { Contains starts.now v }
-    ensures chains { AreChains doc.now starts.now steps.new.items }
-{
-    // Only the contract uses these.
-    let _ = doc;
-    let _ = starts;
-    steps.push(Step {
-        instance: v,
-        before: None,
-    })?;
-    Ok(())
-}
-
-/// Appends steps for the instances that depend on those of the steps from `first` on, directly or
-/// through others, nearest first.
-fn spread(
-    alloc: Global,
-    doc: &Doc,
-    starts: &[usize],
-    steps: &mut Vec<Step>,
-    first: usize,
-) -> Result<(), AllocError>
-    requires { AreChains doc.now starts.now steps.old.items }
-    ensures { AreChains doc.now starts.now steps.new.items }
-{
-    let mut is_found = found_in(alloc, doc, steps.as_slice())?;
-    for place in first..doc.len() {
-        follow(doc, starts, steps, place, is_found.as_mut_slice())?;
+    if v < doc.len() && is_new(found.is_found.as_slice(), v) {
+        add(doc, starts, found, v, None)?;
     }
     Ok(())
 }
 
-/// Returns for each instance whether it has a step.
-fn found_in(alloc: Global, doc: &Doc, steps: &[Step]) -> Result<Vec<bool>, AllocError> {
-    let mut is_found = Vec::with_capacity(alloc, doc.len())?;
-    for u in 0..doc.len() {
-        is_found.push(place_of(steps, u).is_some())?;
-    }
-    Ok(is_found)
-}
-
-/// Appends a step for each instance without one that depends on the instance of the step at a
-/// place, if there is one.
-fn follow(
+/// Appends a step of an instance that has none.
+fn add(
     doc: &Doc,
     starts: &[usize],
-    steps: &mut Vec<Step>,
-    place: usize,
-    is_found: &mut [bool],
-) -> Result<(), AllocError>
-    requires { AreChains doc.now starts.now steps.old.items }
-    ensures { AreChains doc.now starts.now steps.new.items }
-{
-    let Some(v) = instance_at(doc, starts, steps.as_slice(), place) else {
-        return Ok(());
-    };
-    for u in 0..doc.len() {
-        if is_new(is_found, u) && doc.depends(u, v) {
-            push(doc, starts, steps, u, place)?;
-            mark(is_found, u);
-        }
-    }
-    Ok(())
-}
-
-/// Returns the instance of the step at a place, if there is one.
-fn instance_at(doc: &Doc, starts: &[usize], steps: &[Step], place: usize) -> Option<usize>
-    requires { AreChains doc.now starts.now steps.now }
-    ensures value { result ≡ option_map (λ s. s.instance) (slice_get steps.now place) }
-    ensures within { IfSome result (λ v. v < length doc.now.instances) }
-{
-    let _ = doc;
-    let _ = starts;
-    match steps.get(place) {
-        Some(step) => Some(step.instance),
-        None => None,
-    }
-}
-
-/// Appends the step of an instance that depends on the one of the step at a place.
-fn push(
-    doc: &Doc,
-    starts: &[usize],
-    steps: &mut Vec<Step>,
+    found: &mut Found,
     u: usize,
-    place: usize,
+    before: Option<usize>,
 ) -> Result<(), AllocError>
-    requires chains { AreChains doc.now starts.now steps.old.items }
     requires instance { u < length doc.now.instances }
-    requires place { place < length steps.old.items }
-    requires depends { (s : Step) → slice_get steps.old.items place ≡ Some s → DependsOn doc.now u s.instance }
-    ensures chains { AreChains doc.now starts.now steps.new.items }
-    ensures kept { (s : Step) → slice_get steps.old.items place ≡ Some s → slice_get steps.new.items place ≡ Some s }
-    ensures longer { length steps.old.items ≤ length steps.new.items }
+    requires new { slice_get found.old.is_found.items u ≡ Some false }
+    requires follows { Follows doc.now starts.now found.old.steps.items (length found.old.steps.items) u before }
+    ensures grows { OnOk result (Grows doc.now starts.now found.old found.new) }
+    ensures added { OnOk result (HasStep found.new.steps.items u) }
 {
     // Only the contract uses these.
     let _ = doc;
     let _ = starts;
-    steps.push(Step {
+    found.steps.push(Step {
         instance: u,
-        before: Some(place),
+        before,
     })?;
+    found.is_found[u] = true;
     Ok(())
 }
 
 /// Returns true if an instance has no step.
-fn is_new(is_found: &[bool], u: usize) -> bool {
-    is_found.get(u) == Some(&false)
+fn is_new(is_found: &[bool], u: usize) -> bool
+    ensures { IsTrue result ↔ (slice_get is_found.now u ≡ Some false) }
+{
+    match is_found.get(u) {
+        Some(is) => !*is,
+        None => false,
+    }
 }
 
-/// Records that an instance has a step.
-fn mark(is_found: &mut [bool], u: usize) {
-    if let Some(is) = is_found.get_mut(u) {
-        *is = true;
+/// Appends steps for the instances that depend on those of the steps from `first` on, directly or
+/// through others, nearest first.
+fn spread(doc: &Doc, starts: &[usize], found: &mut Found, first: usize) -> Result<(), AllocError>
+    requires { IsSearch doc.now starts.now first found.old }
+    ensures whole { OnOk result (IsSearch doc.now starts.now (length found.new.steps.items) found.new) }
+    ensures longer { OnOk result (Extends found.old.steps.items found.new.steps.items) }
+{
+    let mut place = first;
+    while place < found.steps.as_slice().len() {
+        follow(doc, starts, found, place)?;
+        place += 1;
     }
+    Ok(())
+}
+
+/// Appends a step for each instance without one that depends on the instance of the step at a
+/// place.
+fn follow(doc: &Doc, starts: &[usize], found: &mut Found, place: usize) -> Result<(), AllocError>
+    requires search { IsSearch doc.now starts.now place found.old }
+    requires place { place < length found.old.steps.items }
+    ensures search { OnOk result (IsSearch doc.now starts.now (place + 1) found.new) }
+    ensures longer { OnOk result (Extends found.old.steps.items found.new.steps.items) }
+{
+    for u in 0..doc.len() {
+        join(doc, starts, found, place, u)?;
+    }
+    Ok(())
+}
+
+/// Appends a step for an instance if it has none and depends on the instance of the step at a
+/// place.
+fn join(
+    doc: &Doc,
+    starts: &[usize],
+    found: &mut Found,
+    place: usize,
+    u: usize,
+) -> Result<(), AllocError>
+    requires search { IsSearch doc.now starts.now place found.old }
+    requires place { place < length found.old.steps.items }
+    requires instance { u < length doc.now.instances }
+    ensures grows { OnOk result (Grows doc.now starts.now found.old found.new) }
+    ensures joined { OnOk result ((s : Step) → slice_get found.old.steps.items place ≡ Some s
+        → DependsOn doc.now u s.instance → HasStep found.new.steps.items u) }
+{
+    let v = step_at(found.steps.as_slice(), place).instance;
+    if is_new(found.is_found.as_slice(), u) && doc.depends(u, v) {
+        add(doc, starts, found, u, Some(place))?;
+    }
+    Ok(())
 }
 
 /// Returns the place of an instance's step, if it has one.
 fn place_of(steps: &[Step], u: usize) -> Option<usize>
     ensures within { IfSome result (λ place. place < length steps.now) }
     ensures own { IfSome result (λ place. (s : Step) → slice_get steps.now place ≡ Some s → s.instance ≡ u) }
+    ensures absent { IfNone result ((k : ℕ) (s : Step) → slice_get steps.now k ≡ Some s → s.instance ≢ u) }
 {
     for (place, step) in steps.iter().enumerate() {
         if step.instance == u {
@@ -260,8 +256,10 @@ fn chain_back(
     steps: &[Step],
     u: usize,
 ) -> Result<Vec<usize>, AllocError>
-    requires { AreChains doc.now starts.now steps.now }
-    ensures { IfOk result (λ chain. 0 < length chain.items → LeadsBack doc.now starts.now u chain.items) }
+    requires chains { AreChains doc.now starts.now steps.now }
+    requires whole { AreWhole doc.now starts.now steps.now }
+    ensures chain { IfOk result (λ chain. 0 < length chain.items → LeadsBack doc.now starts.now u chain.items) }
+    ensures found { IfOk result (λ chain. IsLed doc.now starts.now u → 0 < length chain.items) }
 {
     // Only the contract uses these.
     let _ = doc;

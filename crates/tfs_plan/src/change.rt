@@ -8,7 +8,7 @@ ghost use Rattle.tfs_plan.specs.declared.fault.PlanFault.TheVariants.{NoMemory};
 
 use crate::action::{Action, action_of};
 use crate::fault::PlanFault;
-use crate::ignored::is_only_ignored;
+use crate::ignored::is_ignored;
 use serde_json::Value;
 use std::alloc::{AllocError, Global};
 use std::marker::Model;
@@ -106,7 +106,7 @@ pub(crate) fn read_change(
         previous: copy_of(alloc, previous)?,
         is_deposed: deposed.is_some(),
         action,
-        is_ignored: action == Action::Update && is_only_ignored(value, ignored),
+        is_ignored: is_ignored(action, value, ignored),
     })
 }
 

@@ -11,6 +11,7 @@ mod find;
 mod ignored;
 mod plan;
 mod reach;
+mod same;
 mod stored;
 
 pub use action::Action;
