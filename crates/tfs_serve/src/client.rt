@@ -1,7 +1,10 @@
 //! Who makes a change: the client of a connection, and the user that a request names.
 
+ghost use Rattle.tfs_calls.specs.Reply.{reply_value};
+ghost use Rattle.tfs_serve.specs.Hold.{IsRecord};
+
 use crate::hold::Hold;
-use std::alloc::Global;
+use std::alloc::{AllocError, Global};
 use std::cell::Cell;
 use std::net::IpAddr;
 use std::str::{self, FromStr};
@@ -35,7 +38,8 @@ impl<'f> ClientFields<'f> {
 /// The client that made a change, as far as it is known.
 #[derive(Clone, Copy)]
 pub struct Client<'c> {
-    pub address: Option<IpAddr>,
+    /// The text of the address; none if it isn't known.
+    pub address: &'c [u8],
     /// The bytes of the user's name; none if the user isn't known.
     pub user: &'c [u8],
 }
@@ -45,6 +49,8 @@ pub struct Client<'c> {
 pub(crate) struct Noted {
     alloc: Global,
     address: Cell<Option<IpAddr>>,
+    /// The text of the address.
+    text: Cell<Vec<u8>>,
     user: Cell<Vec<u8>>,
 }
 
@@ -54,21 +60,29 @@ impl Noted {
         Noted {
             alloc,
             address: Cell::new(None),
+            text: Cell::new(Vec::new(alloc)),
             user: Cell::new(Vec::new(alloc)),
         }
     }
 
-    /// Notes the address of a connection's client.
+    /// Notes the address of a connection's client. Without memory it isn't known.
     pub(crate) fn note_address(&self, address: Option<IpAddr>) {
+        if self.address.get() == address {
+            return;
+        }
+        let (address, text) = match text_of(self.alloc, address) {
+            Ok(text) => (address, text),
+            Err(_) => (None, Vec::new(self.alloc)),
+        };
         self.address.set(address);
+        self.text.set(text);
     }
 
     /// Notes what a request says of its client in these fields. Without memory the user isn't
     /// known.
     pub(crate) fn note_request(&self, request: &Request, fields: ClientFields<'_>) {
         if let Some(name) = fields.address {
-            self.address
-                .set(request.field(name.as_bytes()).and_then(address_in));
+            self.note_address(request.field(name.as_bytes()).and_then(address_in));
         }
         if let Some(name) = fields.user {
             let mut user = self.user.replace(Vec::new(self.alloc));
@@ -80,20 +94,32 @@ impl Noted {
         }
     }
 
-    /// Has the hold record the client of an accepted change. Records nothing for another reply.
-    pub(crate) fn record<H: Hold>(&self, hold: &H, reply: &Reply) {
+    /// Has the hold record the client of an accepted change. Returns the number of the record; 0,
+    /// without a record, for another reply.
+    pub(crate) fn record<H: Hold>(&self, hold: &H, reply: &Reply) -> u64
+        ensures { IsRecord H.recorded (reply_value reply.now) result }
+    {
         let Reply::Done(position) = reply else {
-            return;
+            return 0;
         };
         let user = self.user.replace(Vec::new(self.alloc));
-        hold.record(
-            *position,
-            Client {
-                address: self.address.get(),
-                user: user.as_slice(),
-            },
-        );
+        let text = self.text.replace(Vec::new(self.alloc));
+        let client = Client {
+            address: text.as_slice(),
+            user: user.as_slice(),
+        };
+        let number = hold.record(*position, client);
+        self.text.set(text);
         self.user.set(user);
+        number
+    }
+}
+
+/// Returns the text of an address; none if there is no address.
+fn text_of(alloc: Global, address: Option<IpAddr>) -> Result<Vec<u8>, AllocError> {
+    match address {
+        Some(address) => Ok(format!(in alloc; "{address}")?.into_bytes()),
+        None => Ok(Vec::new(alloc)),
     }
 }
 

@@ -8,7 +8,7 @@ ghost use Rattle.tfs_http.specs.Lent.{TellsWriter, WritesPart};
 ghost use Rattle.tfs_http.specs.ReplyText.{reply_text};
 ghost use Rattle.tfs_http.specs.declared.fault.ServeFault.TheVariants.{Write};
 ghost use Rattle.tfs_serve.specs.Gate.{before, after, Hears};
-ghost use Rattle.tfs_serve.specs.Hold.{IsDurable};
+ghost use Rattle.tfs_serve.specs.Hold.{IsDurable, IsRecorded};
 ghost use Rattle.tfs_serve.specs.Session.{CatchesUp, CaughtUpStep};
 
 use crate::client::Noted;
@@ -63,6 +63,7 @@ impl<'p, 's, 'm, J: Naming, K: Sink, G: Reports, R: Wait, H: Hold> HeldDesk<
         ensures loans { (self.new.session.ghost_name ≡ self.old.session.ghost_name) × (self.new.gate.ghost_name ≡ self.old.gate.ghost_name) }
         ensures step { CaughtUpStep J.opening self.old.session.now call (reply_value result.0) self.new.session.now }
         ensures held { result.1 ≡ true → IsDurable H.durable self.new.session.now.journal }
+        ensures recorded { result.1 ≡ true → IsRecorded H.recorded H.made (reply_value result.0) }
         ensures heard { Hears (G.heard self.old.gate.now) (G.heard self.new.gate.now) (before call ∷ after (reply_value result.0) ∷ []) }
     {
         let post = self.post;
@@ -72,9 +73,8 @@ impl<'p, 's, 'm, J: Naming, K: Sink, G: Reports, R: Wait, H: Hold> HeldDesk<
         let before = Snapshot::of(&*self.session);
         let reply = caught_up_reply(post.service, self.session, self.scratch, call, synced);
         let mark = self.session.mark();
-        // A write before the sync doesn't wait for the next one's commit.
-        post.noted.record(post.hold, &reply);
-        let is_opened = covers(post, self.session, mark, synced);
+        let number = post.noted.record(post.hold, &reply);
+        let is_opened = covers(post, self.session, mark, synced, number);
         let given = Given {
             call: asked,
             before,
@@ -191,20 +191,23 @@ fn has_to_hear(call: &Call, synced: u64) -> bool {
     }
 }
 
-/// Waits until as many bytes are durable as the mark says, and lets the other sessions hear of the
-/// journal that the session has seen, since a reply is about to report it. Returns false if they
-/// can't become durable.
+/// Waits until as many bytes are durable as the mark says and the records up to this number are
+/// made, and lets the other sessions hear of the journal that the session has seen, since a reply is
+/// about to report it. Returns false if the bytes can't become durable.
 fn covers<J: Naming, K: Sink, R: Wait, H: Hold>(
     post: &Post<'_, '_, J, K, R, H>,
     session: &Session<J>,
     mark: u64,
     synced: u64,
+    number: u64,
 ) -> bool
-    ensures { result ≡ true → H.durable mark }
+    ensures durable { result ≡ true → H.durable mark }
+    ensures made { result ≡ true → H.made number }
 {
     if !post.hold.cover(mark) {
         return false;
     }
+    post.hold.finish(number);
     tell_others(post.service, session, synced);
     true
 }

@@ -7,7 +7,7 @@ ghost use Rattle.tfs_serve.specs.Hold.{IsDurable};
 use crate::watch::Watch;
 use std::sync::{Arc, Wait};
 use std::time::{Clock, Duration};
-use tfs_durable::{Device, Durable, FileDevice, SyncFault};
+use tfs_durable::{BeforeSync, Device, Durable, FileDevice, Nothing, SyncFault};
 use tfs_files::JournalSink;
 use tfs_metrics::Meter;
 use tfs_serve::{Client, ClientFields, Hold};
@@ -30,12 +30,18 @@ impl<'h, 'w, R: Wait + Clock> Hold for SyncHold<'h, 'w, R> {
     // The file was synced after at least this many bytes of it were written.
     ghost durable = { Covers ⟦<FileDevice as Device>⟧.synced };
 
+    // What the log's file has is known to tests alone.
+    ghost recorded = { λ position number. Unit {0} };
+
+    ghost made = { λ number. Unit {0} };
+
     fn synced(&self) -> u64 {
         self.durable.synced()
     }
 
     fn cover(&self, mark: u64) -> bool {
-        let is_covered = covers(self.rt, &self.durable, mark, self.meter);
+        let log = self.watch.log(self.rt);
+        let is_covered = covers(self.rt, &self.durable, mark, self.meter, &log);
         if !is_covered {
             self.watch.mute();
         }
@@ -52,22 +58,27 @@ impl<'h, 'w, R: Wait + Clock> Hold for SyncHold<'h, 'w, R> {
         }
     }
 
-    fn record(&self, position: u64, client: Client<'_>) {
-        self.watch.log().record(self.rt, position, client);
+    fn record(&self, position: u64, client: Client<'_>) -> u64 {
+        self.watch.log(self.rt).add(position, client)
+    }
+
+    fn finish(&self, number: u64) {
+        self.watch.log(self.rt).finish(number);
     }
 }
 
 /// Has the journal's file synced until at least this many bytes of it are. Returns false if a sync
 /// fails.
-fn covers<R: Wait + Clock>(
+fn covers<R: Wait + Clock, B: BeforeSync>(
     rt: &R,
     durable: &Durable<FileDevice>,
     mark: u64,
     meter: Option<&Meter>,
+    before: &B,
 ) -> bool
     ensures durable { result ≡ true → Covers ⟦<FileDevice as Device>⟧.synced mark }
 {
-    durable.has_written(mark) && is_counted(rt, meter, durable.cover(rt, mark))
+    durable.has_written(mark) && is_counted(rt, meter, durable.cover_after(rt, mark, before))
 }
 
 /// Returns true if a sync hasn't failed, and counts it if the calling thread ran it.
@@ -98,5 +109,5 @@ pub(crate) fn is_synced<R: Wait + Clock>(
 ) -> bool
     ensures durable { result ≡ true → IsDurable (Covers ⟦<FileDevice as Device>⟧.synced) table.now.journal }
 {
-    covers(rt, table.sink().durable(), table.mark(), meter)
+    covers(rt, table.sink().durable(), table.mark(), meter, &Nothing)
 }

@@ -7,6 +7,7 @@ mod gate;
 mod hold;
 mod listening;
 mod log;
+mod log_line;
 mod moments;
 mod notice;
 mod numbers;

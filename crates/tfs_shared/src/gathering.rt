@@ -62,6 +62,7 @@ pub fn gather<J: Naming, K: Sink, R: Wait>(
         alloc,
         locked_state,
         told,
+        told_position,
         number,
         opened,
     } = shared;
@@ -75,6 +76,7 @@ pub fn gather<J: Naming, K: Sink, R: Wait>(
         alloc,
         locked_state: Mutex::new(locked_state),
         told,
+        told_position,
         number,
         opened,
     };

@@ -7,6 +7,7 @@ ghost use Rattle.tfs_published.specs.Beginning.{BeginsWith};
 use crate::locked_state::LockedState;
 use std::alloc::Global;
 use std::marker::Model;
+use std::sync::atomic::{AtomicU64, Ordering};
 use std::sync::{Mutex, MutexGuard, Wait};
 use tfs_published::{Naming, Point};
 use tfs_records::Sink;
@@ -18,6 +19,8 @@ pub struct Shared<J: Naming, K: Sink> {
     pub(crate) alloc: Global,
     pub(crate) locked_state: Mutex<LockedState<J, K>>,
     pub(crate) told: Mutex<Point<J>>,
+    /// The position of that point, or a lower one while it advances.
+    pub(crate) told_position: AtomicU64,
     pub(crate) number: usize,
     pub(crate) opened: u64,
 }
@@ -52,6 +55,7 @@ impl<J: Naming, K: Sink> Shared<J, K> {
         Shared {
             alloc,
             locked_state: Mutex::new(locked_state),
+            told_position: AtomicU64::new(told.position()),
             told: Mutex::new(told),
             number,
             opened,
@@ -74,6 +78,7 @@ impl<J: Naming, K: Sink> Shared<J, K> {
             alloc: _,
             locked_state,
             told: _told,
+            told_position: _,
             number: _,
             opened: _,
         } = self;
@@ -93,20 +98,29 @@ impl<J: Naming, K: Sink> Shared<J, K> {
         self.locked_state.lock(rt)
     }
 
-    /// Records that replies have reported a point, unless they have reported a later one. Waits
-    /// only for calls of this function and of `told`.
+    /// Records that replies have reported a point, unless they have reported it or a later one.
+    /// Waits only for calls of this function and of `told_after`, and not at all if there is
+    /// nothing to record.
     pub(crate) fn tell<R: Wait>(&self, rt: &R, point: &Point<J>) {
+        if point.position() <= self.told_position.load(Ordering::SeqCst) {
+            return;
+        }
         let mut told = self.told.lock(rt);
         told.advance(point);
+        self.told_position.store(told.position(), Ordering::SeqCst);
         MutexGuard::unlock(told);
     }
 
-    /// Returns the newest point that replies have reported; at first the opening journal's. Waits
-    /// only for calls of this function and of `tell`.
-    pub(crate) fn told<R: Wait>(&self, rt: &R) -> Point<J> {
+    /// Returns the newest point that replies have reported, if its position is higher than this
+    /// one. Waits only for calls of this function and of `tell`, and not at all if there is no such
+    /// point.
+    pub(crate) fn told_after<R: Wait>(&self, rt: &R, position: u64) -> Option<Point<J>> {
+        if self.told_position.load(Ordering::SeqCst) <= position {
+            return None;
+        }
         let told = self.told.lock(rt);
         let point = told.again();
         MutexGuard::unlock(told);
-        point
+        Some(point)
     }
 }

@@ -14,14 +14,15 @@ use tfs_records::Sink;
 
 impl<J: Naming> Session<J> {
     /// Records at the shared table what the session has seen, since a reply reports it now. Waits
-    /// only for other calls of `tell` and `hear`, and never for the lock of the table.
+    /// only for other calls of `tell` and `hear`, and never for the lock of the table; it doesn't
+    /// wait if replies have reported as much.
     pub fn tell<K: Sink, R: Wait>(&self, rt: &R, shared: &Shared<J, K>) {
         shared.tell(rt, self.point());
     }
 
     /// Advances the session to the newest journal that replies of any session have reported, unless
-    /// it has seen more. Waits only for other calls of `tell` and `hear`, and never for the lock of
-    /// the table.
+    /// it has seen as much. Waits only for other calls of `tell` and `hear`, and never for the lock
+    /// of the table; it doesn't wait if it has seen as much.
     pub fn hear<K: Sink, R: Wait>(&mut self, rt: &R, shared: &Shared<J, K>)
         ensures later { BeginsWith self.new.journal self.old.journal }
         ensures signed { IsSigned J.opening self.old self.new [] }
@@ -29,7 +30,9 @@ impl<J: Naming> Session<J> {
         ensures counted { CountsNothing self.old self.new }
         ensures misses { self.new.misses ≡ self.old.misses }
     {
-        let told = shared.told(rt);
-        self.catch_up(&told);
+        match shared.told_after(rt, self.seen()) {
+            Some(told) => self.catch_up(&told),
+            None => self.is_kept(),
+        }
     }
 }

@@ -68,6 +68,7 @@ impl<'d> Tail<Syncs<'d>> for Writes<'d> {
 
 /// Makes appends over a disk whose device syncs at most `syncs` times, and waits for every third
 /// one. Returns the number of bytes reported as durable, and the number left after a power cut.
+/// After a failed sync, the first bytes don't count as durable any more either.
 fn run(rt: &(impl Wait + Clock + Abort), alloc: Global, appends: u64, syncs: u64) -> (u64, u64) {
     let disk = Disk {
         written: AtomicU64::new(0),
@@ -86,7 +87,9 @@ fn run(rt: &(impl Wait + Clock + Abort), alloc: Global, appends: u64, syncs: u64
         if turn % 3 == 2 {
             let durable = out.sink().durable();
             let count = durable.written();
-            if durable.cover(rt, count).is_ok() {
+            let is_durable = durable.cover(rt, count).is_ok();
+            assert!(rt; durable.cover(rt, 1).is_ok() == is_durable);
+            if is_durable {
                 told = count;
             }
         }

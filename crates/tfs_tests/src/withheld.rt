@@ -13,7 +13,7 @@ use std::thread::Threads;
 use std::time::Clock;
 use tfs_calls::{Call, Reply};
 use tfs_records::MemorySink;
-use tfs_serve::{Gate, Hold, Run, Runtime, serve_until};
+use tfs_serve::{Client, Gate, Hold, Run, Runtime, serve_until};
 use tfs_table::Table;
 
 /// A push of a state to `b`, and a read of `a`.
@@ -34,6 +34,10 @@ impl Hold for FirstMark {
 
     ghost durable = { λ mark. Unit {0} };
 
+    ghost recorded = { λ position number. Unit {0} };
+
+    ghost made = { λ number. Unit {0} };
+
     fn synced(&self) -> u64 {
         0
     }
@@ -49,6 +53,12 @@ impl Hold for FirstMark {
         }
         mark <= first
     }
+
+    fn record(&self, _position: u64, _client: Client<'_>) -> u64 {
+        0
+    }
+
+    fn finish(&self, _number: u64) {}
 }
 
 /// A gate that admits one connection.
