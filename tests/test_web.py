@@ -9,7 +9,7 @@ import pytest
 
 from checking import S1, S2, SECONDS, expect
 from folder_program import STATUSES, Serving
-from folders import LOOPBACK, all_of, fresh, goes_on_alone
+from folders import LOOPBACK, all_of, fresh, goes_on_alone, named
 from impact_model import impact, instances_of
 from journal_reader import push_content, record_text
 from past_program import WHO, some_past
@@ -78,6 +78,39 @@ def test_who_made_the_last_change():
     expect(found, {"a": "ann", "b": None, "c": None, "d": "ann"}, "an unlock of one's own, a forced one, no lock, a lock")
 
 
+def test_the_last_change_is_as_recorded_or_else_by_its_lock():
+    info = {"ID": "x", "Who": "ben@laptop", "Created": "2026-02-03T01:02:03Z"}
+    folder = folder_of(lock(b"a", info), push(b"a", S1, b"x"), push(b"b", S1), lock(b"c", info), push(b"c", S1, b"x"), push(b"d", S1), push(b"e", S1),
+                       lock(b"f", info), push(b"f", S1, b"x"))
+    log, made = folder / f"{named(1)}.who", "2026-02-03T04:04:05.006Z"
+    with Web(folder) as web:
+        last = lambda: {row["workspace"]["name"]: (row["changed_by"], row["changed_at"]) for row in web.ask()[1]["workspaces"]}
+        locked, unknown = ("ben@laptop", "2026-02-03T01:02:03Z"), (None, None)
+        expect(last(), {"a": locked, "b": unknown, "c": locked, "d": unknown, "e": unknown, "f": locked}, "no log")
+        log.write_text("1 1770091445006 203.0.113.9 zoe\n2 1770091445006 203.0.113.7 ann\n3 1770091445006 203.0.113.8 -\n"
+                       "6 1770091445006 - %FF%22%3Cb%3E%1B%E2%80%AE%2D%25\n7 1770091445006 - -\n9 1770091445006 - -\n")
+        expect(last(), {"a": ("ann", made), "b": ("203.0.113.8", made), "c": locked, "d": ('\ufffd"<b>\x1b\u202e-%', made), "e": (None, made),
+                        "f": ("ben@laptop", made)}, "a user, an address alone, no record, odd bytes, neither, neither but a lock")
+        acts = {name: web.ask(f"/{name}")[1]["acts"][0] for name in "abcd"}
+        expect([tuple(acts[name].get(key) for key in ("user", "address", "time")) for name in "abcd"],
+               [("ann", "203.0.113.7", made), (None, "203.0.113.8", made), (None, None, None), ('\ufffd"<b>\x1b\u202e-%', None, made)])
+        expect(b"\x1b" in web.send("GET", "/api/workspaces")[2], False)
+        log.write_text("2 1770091445006 203.0.113.7 ann\n5 1770091445006 203.0.113.7 max")
+        expect(last()["c"], locked, "an incomplete line")
+        log.write_text("2 1770091445006 203.0.113.7 ann\n5 1770091445006 203.0.113.7 max\n")
+        expect(last()["c"], ("max", made))
+
+
+def test_a_user_sees_who_changed_its_own_workspaces_alone():
+    folder = folder_of(push(b"a", S1), push(b"hidden", S1))
+    (folder / f"{named(1)}.who").write_text("1 1770091445006 203.0.113.7 ann\n2 1770091445006 203.0.113.8 max\n")
+    with Web(folder, "--access", access('"~^ann:GET:a$" 1;'), path=fresh() / "web.sock") as web:
+        for target in ("", "/a", "/hidden"):
+            _, _, body = web.send("GET", f"/api/workspaces{target}", {"X-Remote-User": "ann"})
+            expect((b"max" in body, b"203.0.113.8" in body), (False, False), target)
+        expect(web.ask(user="ann")[1]["workspaces"][0]["changed_by"], "ann")
+
+
 def test_the_history_of_a_workspace():
     with Web(some_past()) as web:
         status, answer = web.ask("/a")
@@ -94,9 +127,10 @@ def test_the_history_has_the_recorded_times_and_users():
     expect(connection.getresponse().status, 200)
     connection.close()
     with Web(server.folder) as web:
-        act = web.ask("/a")[1]["acts"][0]
+        act, row = web.ask("/a")[1]["acts"][0], web.ask()[1]["workspaces"][0]
     server.kill()
     expect((act["position"], act["act"], act["user"], act["time"][:2]), (1, "push", "ann", "20"))
+    expect((row["changed_by"], row["changed_at"]), ("ann", act["time"]))
 
 
 def test_the_changes_between_two_positions_are_by_address():

@@ -22,8 +22,8 @@ DIST, DEPLOY = TOP / "dist", TOP / "deploy"
 VERSION = (TOP / "VERSION").read_text().splitlines()[0]
 NAME = f"tfstated_{VERSION}_amd64"
 UNITS = "usr/lib/systemd/system"
-PAGES = [*(f"deploy/{name}.md" for name in ("README", "INSTALL", "OPERATE", "RECOVER", "REFERENCE", "IMPACT", "WEB")), "docs/picture.svg", "CHANGELOG.md",
-         *(f"docs/{name}.md" for name in ("FOLDER", "SERVING", "COPIES", "VERSIONS", "UPGRADING", "PERFORMANCE", "PROTOCOL", "JOURNAL", "MODEL"))]
+PAGES = [*(f"deploy/{name}.md" for name in ("README", "INSTALL", "OPERATE", "STANDBY", "RECOVER", "REFERENCE", "IMPACT", "WEB")), "docs/picture.svg", "CHANGELOG.md",
+         *(f"docs/{name}.md" for name in ("FOLDER", "FAULTS", "SERVING", "COPIES", "VERSIONS", "UPGRADING", "PERFORMANCE", "PROTOCOL", "JOURNAL", "MODEL"))]
 TEXTS = {
     "usr/share/doc/tfstated": [*PAGES, "LICENSE"],
     "usr/share/tfstated/web": [f"deploy/web/{path.name}" for path in sorted((DEPLOY / "web").iterdir())],
@@ -91,7 +91,8 @@ def script_text(path):
 
 
 def in_one_folder(page):
-    """Returns a page whose links lead to pages of the same folder."""
+    """Returns a page without its pictures, whose links lead to pages of the same folder."""
+    page = re.sub(rb"!\[[^]]*\]\([^)]*\.png\)\n\n", b"", page)
     return re.sub(rb"\]\((?:\.\./)?(?:docs/|deploy/|(?=CHANGELOG))", b"](", page)
 
 

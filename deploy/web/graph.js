@@ -1,6 +1,6 @@
 // The picture of a graph: zoomed and moved by wheel, pointer and keys. Only what is in view is drawn.
 
-import { HEIGHT, WIDTH } from "./layout.js";
+import { HEIGHT, WIDTH, splitAddress } from "./layout.js";
 import { make, shown } from "./parts.js";
 
 const SVG = "http://www.w3.org/2000/svg";
@@ -18,7 +18,25 @@ function draw(tag, attributes, ...children) {
 
 function shortened(label) {
   const text = shown(label);
-  return text.length <= 40 ? text : `${text.slice(0, 12)}…${text.slice(-26)}`;
+  return text.length <= 34 ? text : `${text.slice(0, 12)}…${text.slice(-20)}`;
+}
+
+// Returns both lines of a node: the modules, and what is in them.
+function linesOf(node) {
+  if (node.kind === "module") {
+    return ["module", `${shortened(node.label)} (${node.rows.length})`];
+  }
+  const [path, rest] = splitAddress(node.label);
+  return [shortened(path) || "root module", node.kind === "resource" ? `${shortened(rest)} (${node.rows.length})` : shortened(rest)];
+}
+
+// Narrows texts that are wider than their nodes.
+function narrow(texts) {
+  const wide = texts.filter((text) => text.getComputedTextLength() > WIDTH - 16);
+  wide.forEach((text) => {
+    text.setAttribute("textLength", WIDTH - 16);
+    text.setAttribute("lengthAdjust", "spacingAndGlyphs");
+  });
 }
 
 function described(node, picked) {
@@ -28,13 +46,12 @@ function described(node, picked) {
 
 // Makes a picture. `toggle` is called with a node that is to be folded or unfolded.
 export function makeGraph(toggle) {
-  const edges = draw("path", { class: "edge", "marker-end": "url(#arrow)" });
+  const edges = draw("path", { class: "edge" });
+  const heads = draw("path", { class: "head" });
   const dots = draw("path", { class: "dots" });
   const nodes = draw("g", {});
-  const scene = draw("g", {}, edges, dots, nodes);
-  const arrow = draw("marker", { id: "arrow", viewBox: "0 0 8 8", refX: 8, refY: 4, markerWidth: 8, markerHeight: 8, orient: "auto" },
-    draw("path", { d: "M0,0L8,4L0,8Z" }));
-  const svg = draw("svg", { role: "group", "aria-label": "Graph: arrows lead to what an instance depends on" }, draw("defs", {}, arrow), scene);
+  const scene = draw("g", {}, edges, heads, dots, nodes);
+  const svg = draw("svg", { role: "group", "aria-label": "Graph: arrows lead to what an instance depends on" }, scene);
   const box = make("div", { class: "graph" }, svg);
   const state = { graph: null, picked: new Set(), x: 0, y: 0, scale: 1, focus: null, isDue: false };
 
@@ -54,24 +71,38 @@ export function makeGraph(toggle) {
     return left + WIDTH * state.scale > -margin && left < width + margin && top + HEIGHT * state.scale > -margin && top < height + margin;
   }
 
-  function edgeText([from, to]) {
+  function edgeText([from, to, passed]) {
     const [one, other] = [spot(from), spot(to)];
-    const [startX, endX] = one.x > other.x ? [one.x, other.x + WIDTH] : [one.x + WIDTH, other.x];
-    const middle = (startX + endX) / 2;
-    const [startY, endY] = [one.y + HEIGHT / 2, other.y + HEIGHT / 2];
-    return `M${startX},${startY}C${middle},${startY} ${middle},${endY} ${endX},${endY}`;
+    const isLeft = one.x > other.x;
+    let [x, y] = [isLeft ? one.x : one.x + WIDTH, one.y + HEIGHT / 2];
+    let text = `M${x},${y}`;
+    for (const next of [...passed, { x: other.x, y: other.y + HEIGHT / 2 }]) {
+      const near = isLeft ? next.x + WIDTH : next.x;
+      const middle = (x + near) / 2;
+      x = isLeft ? next.x : next.x + WIDTH;
+      text += `C${middle},${y} ${middle},${next.y} ${near},${next.y}`;
+      y = next.y;
+      text += next.x === other.x ? "" : `H${x}`;
+    }
+    return text;
+  }
+
+  function headText([from, to]) {
+    const [one, other] = [spot(from), spot(to)];
+    const [x, back] = one.x > other.x ? [other.x + WIDTH, 8] : [other.x, -8];
+    return `M${x},${other.y + HEIGHT / 2}l${back},-4v8Z`;
   }
 
   function nodeElement(at) {
     const node = state.graph.nodes[at];
     const isPicked = node.rows.some((row) => state.picked.has(row.address));
     const isFolded = node.kind !== "instance";
-    const label = isFolded ? `${shortened(node.label)} (${node.rows.length})` : shortened(node.label);
+    const [path, label] = linesOf(node);
     const element = draw("g", {
       role: "button", class: `${isFolded ? "folded" : ""} ${isPicked ? "picked" : ""}`, "data-key": node.key,
       tabindex: node.key === state.focus ? 0 : -1, "aria-label": described(node, isPicked), transform: `translate(${spot(at).x} ${spot(at).y})`,
       "aria-expanded": isFolded ? "false" : "true",
-    }, draw("rect", { width: WIDTH, height: HEIGHT, rx: 4 }), draw("text", { x: 8, y: 18 }, label));
+    }, draw("rect", { width: WIDTH, height: HEIGHT, rx: 4 }), draw("text", { class: "of", x: 8, y: 16 }, path), draw("text", { x: 8, y: 33 }, label));
     element.append(draw("title", {}, shown(node.label)));
     return element;
   }
@@ -84,13 +115,16 @@ export function makeGraph(toggle) {
     }
     scene.setAttribute("transform", `translate(${state.x} ${state.y}) scale(${scale})`);
     const visible = graph.nodes.map((node, at) => inView(at));
-    edges.setAttribute("d", graph.edges.filter(([from, to]) => visible[from] || visible[to]).map(edgeText).join(""));
+    const pairs = graph.edges.filter(([from, to]) => visible[from] || visible[to]);
+    edges.setAttribute("d", pairs.map(edgeText).join(""));
+    heads.setAttribute("d", pairs.map(headText).join(""));
     const numbers = graph.nodes.map((node, at) => at).filter((at) => visible[at]);
     const isSmall = scale < SMALL && numbers.length > 300;
     const hadFocus = nodes.contains(document.activeElement);
     dots.setAttribute("d", isSmall ? numbers.map((at) => `M${spot(at).x},${spot(at).y}h${WIDTH}v${HEIGHT}h-${WIDTH}Z`).join("") : "");
     const drawn = isSmall ? numbers.filter((at) => graph.nodes[at].key === state.focus) : numbers;
     nodes.replaceChildren(...drawn.map(nodeElement));
+    narrow([...nodes.querySelectorAll("text")]);
     if (hadFocus) {
       focusNode();
     }
@@ -125,8 +159,8 @@ export function makeGraph(toggle) {
     const { width, height } = size();
     const { graph } = state;
     state.scale = Math.min(1.2, Math.max(0.02, Math.min((width - 20) / graph.width, (height - 20) / graph.height)));
-    state.x = (width - graph.width * state.scale) / 2 + 10;
-    state.y = (height - graph.height * state.scale) / 2 + 5;
+    state.x = (width - graph.width * state.scale) / 2;
+    state.y = (height - graph.height * state.scale) / 2;
     later();
   }
 
@@ -195,6 +229,7 @@ export function makeGraph(toggle) {
     show(graph, picked, focus) {
       state.graph = graph;
       state.picked = picked;
+      box.style.height = `${Math.min(576, Math.max(240, graph.height + 40))}px`;
       const keys = new Set(graph.nodes.map((node) => node.key));
       state.focus = [focus, state.focus, graph.nodes[0]?.key].find((key) => keys.has(key)) ?? null;
       fit();

@@ -1,9 +1,11 @@
 // Graphs of instances: which nodes are shown, folded by module and by resource, and where.
 
-export const COLUMN = 340;
-export const ROW = 34;
-export const WIDTH = 280;
-export const HEIGHT = 26;
+export const COLUMN = 270;
+export const ROW = 52;
+export const WIDTH = 220;
+export const HEIGHT = 42;
+
+const MODULES = /^(?:module\.[^.[\]]+(?:\[(?:"(?:[^"\\]|\\.)*"|[^"\]]*)\])?\.)*/s;
 
 // Returns the module of a configuration address; an empty text for the root module.
 export function moduleOf(resource) {
@@ -13,6 +15,12 @@ export function moduleOf(resource) {
     length += 2;
   }
   return words.slice(0, length).join(".");
+}
+
+// Returns the modules of an address with their keys, and the rest of it.
+export function splitAddress(address) {
+  const [path] = MODULES.exec(address);
+  return [path.slice(0, -1), address.slice(path.length)];
 }
 
 // Groups rows of instances by module and by resource.
@@ -147,9 +155,22 @@ export function placed(shownNodes, most = 6000) {
     }
   }
   const tallest = Math.max(1, ...columns.map((column) => column.length));
-  const spots = nodes.map((node, at) => ({
-    x: layers[at] * COLUMN,
-    y: (rank[at] + (tallest - columns[layers[at]].length) / 2) * ROW,
-  }));
-  return { nodes, edges, spots, width: columns.length * COLUMN, height: tallest * ROW };
+  const top = (layer) => ((tallest - columns[layer].length) / 2) * ROW;
+  const spots = nodes.map((node, at) => ({ x: layers[at] * COLUMN, y: rank[at] * ROW + top(layers[at]) }));
+  const routed = edges.map(([from, to]) => [from, to, passed(from, to)]);
+  return { nodes, edges: routed, spots, width: columns.length * COLUMN - COLUMN + WIDTH, height: tallest * ROW - ROW + HEIGHT };
+
+  // Returns where an edge passes the columns between its nodes: in the gap that is nearest to a
+  // straight line.
+  function passed(from, to) {
+    const step = Math.sign(layers[to] - layers[from]);
+    const points = [];
+    for (let layer = layers[from] + step; step !== 0 && layer !== layers[to]; layer += step) {
+      const part = (layer - layers[from]) / (layers[to] - layers[from]);
+      const y = spots[from].y + (spots[to].y - spots[from].y) * part + HEIGHT / 2;
+      const gap = Math.min(columns[layer].length, Math.max(0, Math.round((y - top(layer)) / ROW)));
+      points.push({ x: layer * COLUMN, y: top(layer) + gap * ROW - (ROW - HEIGHT) / 2 });
+    }
+    return points;
+  }
 }

@@ -1,6 +1,7 @@
 // Requests, elements of the page, and texts as they are shown.
 
 const HIDDEN = /[\p{Cc}\p{Cf}\p{Zl}\p{Zp}]/gu;
+const TIME = /^\d{4}-\d\d-\d\dT\d\d:\d\d:\d\d(\.\d+)?(Z|[+-]\d\d:\d\d)$/;
 const SECONDS = [["d", 86400], ["h", 3600], ["min", 60], ["s", 1]];
 
 // Returns a text with its invisible characters escaped: a client chose it.
@@ -92,13 +93,22 @@ export function since(text, now = Date.now()) {
   return small ? `${first} ${Math.floor((rest % size) / smaller)} ${small}` : first;
 }
 
-// Returns an element with a time as the client wrote it, and how long ago it was.
+// Returns a time in UTC, to the second; a text that isn't a time (RFC 3339) as the client wrote it.
+function utc(text) {
+  if (!TIME.test(text) || Number.isNaN(Date.parse(text))) {
+    return shown(text);
+  }
+  const [day, time] = new Date(text).toISOString().split("T");
+  return `${day} ${time.slice(0, 8)} UTC`;
+}
+
+// Returns an element with a time, and how long ago it was.
 export function moment(text) {
   if (text === null || text === undefined) {
     return "–";
   }
   const ago = since(text);
-  const own = make("time", Number.isNaN(Date.parse(text)) ? {} : { datetime: text }, shown(text));
+  const own = make("time", Number.isNaN(Date.parse(text)) ? {} : { datetime: text }, utc(text));
   return ago === "" ? own : make("span", {}, own, " ", make("span", { class: "quiet" }, `(${ago} ago)`));
 }
 

@@ -3,6 +3,8 @@
 import { announce, ask, count, link, make, moment, reason, shown } from "./parts.js";
 
 const REFRESH_MILLISECONDS = 5000;
+const VERSION_HEADS = [["Position", "number"], ["What"], ["Instances", "number"], ["Bytes", "number"], ["Who"], ["When"], ["Changes"], ["Restore"]];
+const LOCK_HEADS = [["Position", "number"], ["Who"], ["Operation"], ["Taken"], ["End"]];
 const SIGNS = { added: "+", removed: "−", changed: "~" };
 
 // Gives each act the lock under which it was made, as far as the journals tell, and each version
@@ -35,18 +37,21 @@ function who(lock) {
   return lock === null ? "–" : make("span", {}, shown(lock.who ?? "unknown"), lock.operation === null ? "" : ` (${shown(lock.operation)})`);
 }
 
-// Who made a version: the recorded user, or else the holder of its lock.
+// Who made a version: the recorded user, or else the recorded address, or else the holder of its lock.
 function author(row) {
-  return row.user === undefined ? who(row.lock) : shown(row.user);
+  const client = row.user ?? row.address;
+  return client === undefined ? who(row.lock) : shown(client);
 }
 
-// The button that shows which instances changed from the version before to this one.
+// Returns a button and a row below its own, in which it shows the instances that changed from the
+// version before to this one.
 function changes(name, row, signal) {
-  const list = make("ul", { class: "plain", id: `changes-${row.position}`, hidden: true });
+  const list = make("ul", { class: "plain", id: `changes-${row.position}` });
+  const more = make("tr", { hidden: true }, make("td", { class: "more", colspan: VERSION_HEADS.length }, list));
   const button = make("button", { type: "button", "aria-expanded": "false", "aria-controls": list.id }, "What changed");
   button.addEventListener("click", async () => {
-    if (!list.hidden) {
-      list.hidden = true;
+    if (!more.hidden) {
+      more.hidden = true;
       button.setAttribute("aria-expanded", "false");
       return;
     }
@@ -62,10 +67,10 @@ function changes(name, row, signal) {
     } catch (error) {
       list.replaceChildren(make("li", { class: "warn" }, reason(error)));
     }
-    list.hidden = false;
+    more.hidden = false;
     button.setAttribute("aria-expanded", "true");
   });
-  return [button, list];
+  return { button, more };
 }
 
 // Quotes a word for a shell.
@@ -78,20 +83,21 @@ function restoring(name, row) {
   const isOption = name.startsWith("-");
   const words = ["restore", "--position", row.position, ...(isOption ? ["--"] : []), "/var/lib/tfstated/journal", quoted(name)];
   const text = `tfstatectl ${words.join(" ")} >restored.json\nterraform state push restored.json`;
-  return make("details", {}, make("summary", {}, `Restore version ${row.serial}`), make("pre", { tabindex: "0" }, make("code", {}, text)));
+  return make("details", {}, make("summary", { class: "short" }, `Restore ${row.serial}`), make("pre", { tabindex: "0" }, make("code", {}, text)));
 }
 
 function version(name, row, signal) {
   const isPush = row.act === "push";
-  return make("tr", {},
+  const { button, more } = isPush && row.before !== null ? changes(name, row, signal) : { button: isPush ? "first version" : "–", more: null };
+  return [make("tr", {},
     make("th", { scope: "row", class: "number" }, count(row.position)),
-    make("td", {}, isPush ? `version ${row.serial}` : "deleted"),
+    make("td", { class: "short" }, isPush ? `version ${row.serial}` : "deleted"),
     make("td", { class: "number" }, isPush ? count(row.instances) : "–"),
     make("td", { class: "number" }, isPush ? count(row.bytes) : "–"),
     make("td", {}, author(row)),
     make("td", {}, moment(row.time ?? row.lock?.created)),
-    make("td", {}, isPush && row.before !== null ? changes(name, row, signal) : isPush ? "first version" : "–"),
-    make("td", {}, isPush ? restoring(name, row) : "–"));
+    make("td", { class: "short" }, button),
+    make("td", {}, isPush ? restoring(name, row) : "–")), more].filter((one) => one !== null);
 }
 
 function locked(row) {
@@ -129,9 +135,6 @@ function summary(current) {
       : "free"));
 }
 
-const VERSION_HEADS = [["Position", "number"], ["What"], ["Instances", "number"], ["Bytes", "number"], ["Who"], ["When"], ["Changes"], ["Restore"]];
-const LOCK_HEADS = [["Position", "number"], ["Who"], ["Operation"], ["Taken"], ["End"]];
-
 // Shows a workspace in a box until the view is left.
 export async function showWorkspace(box, name, signal) {
   const path = `/${encodeURIComponent(name)}`;
@@ -148,7 +151,7 @@ export async function showWorkspace(box, name, signal) {
       known = acts;
       const rows = told(answer.acts);
       versions.replaceChildren(table("Versions", VERSION_HEADS, rows.filter((row) => row.act === "push" || row.act === "delete")
-        .map((row) => version(name, row, signal)), "No version is kept."));
+        .flatMap((row) => version(name, row, signal)), "No version is kept."));
       locks.replaceChildren(table("Locks", LOCK_HEADS, rows.filter((row) => row.act === "lock").map(locked), "Nobody has locked it."));
     }
     announce("");

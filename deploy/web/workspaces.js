@@ -18,7 +18,7 @@ function changed(row) {
   if (row.changed_by === null && row.changed_at === null) {
     return "–";
   }
-  return make("span", {}, shown(row.changed_by ?? ""), " ", moment(row.changed_at));
+  return make("span", { class: "short" }, shown(row.changed_by ?? "–"), make("br"), moment(row.changed_at));
 }
 
 function lock({ workspace }) {
@@ -26,9 +26,9 @@ function lock({ workspace }) {
     return make("span", { class: "quiet" }, "free");
   }
   const who = shown(workspace.who ?? "unknown");
-  const what = workspace.operation === null ? "" : ` (${shown(workspace.operation)})`;
+  const what = workspace.operation === null ? "" : shown(workspace.operation);
   const ago = workspace.created === null ? "" : since(workspace.created);
-  return make("span", {}, make("strong", {}, who), what, ago && ` for ${ago}`);
+  return make("span", {}, make("strong", {}, who), make("br"), what, " ", make("span", { class: "short" }, ago && `for ${ago}`));
 }
 
 function compare(one, other) {

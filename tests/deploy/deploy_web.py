@@ -1,7 +1,7 @@
 """Opens the page of `tfstatectl web` in a headless Chromium: the three views, with 200 workspaces
 and with 4,096 instances, by keyboard, in both colour schemes, with texts that try to be more than
 texts, and while the folder is compacted and its server restarted. With TFSTATED_PICTURES it saves a
-picture of each view in that folder."""
+picture of each view in that folder, the same in each run."""
 import json
 import os
 import sys
@@ -16,10 +16,13 @@ from folder_program import Serving
 from folders import free_port, fresh, goes_on_alone, named
 from journal_reader import push_content, record_text
 from sample_states import resource, text_of
+from team_folder import team_folder
 from web_program import Web
 
 WHO = {"ID": "x", "Who": "<img src=x onerror=alert(1)>\x1b[31m", "Operation": "OperationTypeApply", "Created": "2026-02-03T04:05:06Z"}
 MODULES, RESOURCES, EACH = 16, 32, 8
+# The width of the pictures in pixels, and the time at which they are made.
+WIDTH, NOW = 1040, 1770091445
 ODD = '"><script>alert(1)</script>'
 # Returns each text of the page whose contrast with its background is below 4.5 (WCAG 2.2, 1.4.3).
 CONTRAST = """
@@ -72,9 +75,11 @@ def address(web, place=""):
     return f"http://127.0.0.1:{web.port}/#/{place}"
 
 
-def saved(window, name):
+def saved(window, name, last="main"):
+    """Saves a picture of the page, down to the last line of an element."""
     if folder := os.environ.get("TFSTATED_PICTURES"):
-        window.picture(Path(folder) / f"{name}.png")
+        height = window.run("return Math.ceil(document.querySelector(arguments[0]).getBoundingClientRect().bottom) + 16", last)
+        window.picture(Path(folder) / f"web-{name}.png", WIDTH, height)
 
 
 def expect_access(window):
@@ -101,7 +106,6 @@ def check_200_workspaces_are_sorted_searched_and_refreshed():
         window.open(address(web))
         window.sees("200 of 200 workspaces")
         expect(window.texts("tbody th"), names)
-        saved(window, "workspaces")
         expect_access(window)
         window.click("thead th:nth-child(1) button")
         expect((window.texts("tbody th")[0], window.run("return document.querySelector('thead th').ariaSort")), ("team-199", "descending"))
@@ -138,7 +142,6 @@ def check_a_workspace_with_texts_that_try_to_be_more():
         window.run("document.querySelector('details').open = true")
         window.sees("tfstatectl restore --position 3 -- /var/lib/tfstated/journal -odd.name")
         expect(window.run("return [document.querySelectorAll('main img').length, document.querySelectorAll('main script').length]"), [0, 0])
-        saved(window, "workspace")
         expect_access(window)
 
 
@@ -155,7 +158,6 @@ def check_the_impact_in_4096_instances():
         print(f"    first picture of 4,096 instances after {drawn:.0f} ms", flush=True)
         expect(window.text("#answer"), f"{MODULES * RESOURCES * EACH - EACH:,} of 4,096 instances of version 7 are reached.")
         window.sees(f"{MODULES} nodes and {MODULES - 1} arrows for 4,096 instances")
-        saved(window, "impact")
         expect_access(window)
         window.focus("svg g[tabindex='0']")
         window.press("Enter")
@@ -174,6 +176,28 @@ def check_the_impact_in_4096_instances():
         window.until(lambda: "kind=all" in window.run("return location.hash"))
         window.click("#picked button")
         window.sees("Pick at least one")
+
+
+def check_a_teams_folder_in_three_pictures():
+    with Web(team_folder(NOW)) as web, Browser() as window:
+        window.tell("Page.addScriptToEvaluateOnNewDocument", source=f"Date.now = () => {NOW * 1000}")
+        window.resize(WIDTH, 900)
+        window.open(address(web))
+        window.sees("8 of 8 workspaces")
+        row = "[...document.querySelectorAll('tbody tr')].find((one) => one.cells[0].innerText === 'shop.prod').cells[4].innerText"
+        expect(window.run(f"return {row}.split('\\n')[0]"), "pipeline", "the recorded user, not the lock's")
+        expect_access(window)
+        saved(window, "workspaces")
+        window.open(address(web, "shop.prod"))
+        window.sees("version 4")
+        window.click("tbody button")
+        window.sees("changed module.database.aws_db_instance.main")
+        expect_access(window)
+        saved(window, "workspace", "main table")
+        window.open(address(web, "shop.prod/impact?kind=any&address=module.network.aws_vpc.main"))
+        window.sees("29 of 32 instances")
+        expect_access(window)
+        saved(window, "impact", ".graph")
 
 
 def check_the_keyboard_reaches_each_control_in_order():

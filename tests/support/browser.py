@@ -110,6 +110,12 @@ class Browser:
         policy."""
         return [entry["message"] for entry in self.send("POST", "/se/log", type="browser") if entry["level"] in ("SEVERE", "WARNING")]
 
-    def picture(self, path):
-        """Saves a picture of the window."""
-        path.write_bytes(base64.b64decode(self.send("GET", "/screenshot")))
+    def resize(self, width, height):
+        """Gives the page this size in pixels."""
+        self.tell("Emulation.setDeviceMetricsOverride", width=width, height=height, deviceScaleFactor=1, mobile=False)
+
+    def picture(self, path, width, height):
+        """Saves a picture of the page's upper left part."""
+        clip = {"x": 0, "y": 0, "width": width, "height": height, "scale": 1}
+        found = self.tell("Page.captureScreenshot", format="png", clip=clip, captureBeyondViewport=True)
+        path.write_bytes(base64.b64decode(found["data"]))

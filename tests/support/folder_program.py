@@ -10,7 +10,7 @@ from checking import SECONDS, STARTED, expect
 from folders import LOOPBACK, ask_over, free_port
 from programs import TFSTATECTL as FOLDER_PROGRAM
 
-# The exit statuses by the names of faults, as docs/FOLDER.md lists them.
+# The exit statuses by the names of faults, as docs/FAULTS.md lists them.
 STATUSES = {
     **dict.fromkeys(("Locked", "CannotRead", "CannotWrite", "CannotBind", "SyncFault", "AcceptFault", "Write", "Changing", "NoReply", "Status"), 20),
     **dict.fromkeys(("Arguments", "NotPast", "BadTime", "OneInput", "NoSource", "BadUrl"), 21), "TornBase": 22, "Damaged": 23, "Unlawful": 24,

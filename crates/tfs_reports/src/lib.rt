@@ -31,6 +31,7 @@ mod versions;
 
 pub use across::print_across;
 pub use acts::{Printing, history, history_rows};
+pub use clients::{Record, Records, records_of_last_changes};
 pub use comparison::{Comparison, print_diff};
 pub use fault::{ReportEnd, ReportFault, ReportPlace, end_by, status_of};
 pub use files::{Newest, newest_journal};

@@ -11,6 +11,7 @@ use Rattle.tfs_records.proofs.base.Base.TheSendSync as base
 use Rattle.tfs_records.proofs.entry.Entry.TheSendSync as entry
 use Rattle.tfs_records.proofs.out.Out.TheSendSync as out
 use Rattle.tfs_table.proofs.workspace.Workspace.TheSendSync as workspace
+use Rattle.tfs_reports.proofs.clients.Record.TheSendSync as client
 use Rattle.tfs_site.specs.contracts.reading.Kept as Kept
 use Rattle.tfs_site.specs.contracts.site.Source as Source
 
@@ -25,7 +26,7 @@ module _ (name : Sym) (A B C D E : RattleType) where
 
 -- The newest journal may move to another thread.
 kept_send : IsSend Kept.the_row
-kept_send = search (sendable, crosses, base.the_send, entry.the_send, out.the_send, workspace.the_send) depth 40
+kept_send = search (sendable, crosses, base.the_send, entry.the_send, out.the_send, workspace.the_send, client.the_send) depth 60
 
 -- Several threads may use what all workers answer from.
 pub source_sync : (a : NamedLft) → IsSync (Source.the_row a)

@@ -11,7 +11,7 @@ use Rattle.serde_json.specs.Written.{compact_text, has_float, items_have_float}
 use Rattle.tfs_records.specs.Journal.{Journal, names_of, position_of}
 use Rattle.tfs_reports.specs.Rows.{IsListed, name_row, text_or_null, whole_or_null}
 use Rattle.tfs_web_answers.specs.Readers.{Rights}
-use Rattle.tfs_site.specs.Workspaces.{IsList, IsShown, ShowAll, Shows, changed_row, list_of}
+use Rattle.tfs_site.specs.Workspaces.{IsList, IsShown, IsTextOr, ShowAll, Shows, changed_row, list_of}
 
 -- The row of one name.
 pub show_one : (rights : Rights) (j : Journal) (now : Option ℤ) (name : List ℕ) (own : List Data)
@@ -55,11 +55,18 @@ text_has_none (Some text) = refl
 listed_has_none : (name : List ℕ) (j : Journal) (now : Option ℤ) (row : Data) → IsListed name j now row → has_float row ≡ false
 listed_has_none name j now row listed = rw listed.is (simp (whole_has_none, text_has_none))
 
+-- A text, or another that may be unknown, is no float.
+text_or_has_none : (other : Option (List ℕ)) (value : Data) → IsTextOr other value → has_float value ≡ false
+text_or_has_none other value (inl (text, is)) = rw is refl
+text_or_has_none other value (inr is) = rw is (text_has_none other)
+
 -- A shown row has no floats.
 shown_has_none : (name : List ℕ) (j : Journal) (now : Option ℤ) (row : Data) → IsShown name j now row → has_float row ≡ false
 shown_has_none name j now row shown =
     let listed = listed_has_none name j now shown.listed shown.is_listed in
-    rw shown.is (simp (text_has_none, listed))
+    let who = text_or_has_none _ shown.is.who shown.is.is_who in
+    let time = text_or_has_none _ shown.is.time shown.is.is_time in
+    rw shown.is.is (simp (who, time, listed))
 
 -- The shown rows have no floats.
 rows_have_none : (rights : Rights) (j : Journal) (now : Option ℤ) (names : List (List ℕ)) (rows : List Data)

@@ -1,16 +1,19 @@
 -- The replies of the page, and what a reader is answered.
-use Rattle.std.specs.Prelude.{◌≡◌, ◌⊎◌, ◌||◌, ℕ, ℤ, Bool, false, List, codes, Option, Result, Ok, Err, bytes_eq, string_bytes}
+use Rattle.std.specs.Prelude.{◌≡◌, ◌⊎◌, ◌||◌, ℕ, ℤ, Bool, false, List, codes, Option, Some, None, Result, Ok, Err, bytes_eq, string_bytes}
 use Rattle.http.specs.declared.request.Request.{Request}
 use Rattle.http.specs.Request.{head_of}
+use Rattle.http_header.specs.FieldValue.{FieldValue, IsVisibleAscii}
 use Rattle.http_server.specs.declared.response.Response.{Response}
 use Rattle.http_server.specs.Response.{IsResponse}
 use Rattle.tfs_records.specs.Journal.{Journal}
+use Rattle.regex.specs.Patterns.{Re}
+use Rattle.tfs_web.specs.Access.{IsUser}
 use Rattle.tfs_web.specs.Refusal.{body_of, status_of}
 use Rattle.tfs_web.specs.Replies.{head_fields, refusal_fields}
 use Rattle.tfs_web.specs.declared.asked.Asked.{Asked}
 use Rattle.tfs_web.specs.declared.asked.Asked.TheVariants as asked
 use Rattle.tfs_web.specs.declared.refusal.WebRefusal.{WebRefusal}
-use Rattle.tfs_web.specs.declared.refusal.WebRefusal.TheVariants.{MethodNotAllowed, NoName}
+use Rattle.tfs_web.specs.declared.refusal.WebRefusal.TheVariants.{MethodNotAllowed, NoAccessFile, NoName, NoUser}
 use Rattle.tfs_web.specs.declared.replies.Content.{Content}
 use Rattle.tfs_web_answers.specs.Readers.{Reads, Rights}
 use Rattle.tfs_site.specs.Workspaces.{IsList}
@@ -51,3 +54,20 @@ IsFor rights asked.Workspaces (Ok answer) = AnswersList rights answer
 IsFor rights asked.Workspaces (Err refusal) = Unit {0}
 IsFor rights (asked.Workspace name question) found = ¬ (Reads rights name) → found ≡ Err NoName
 IsFor rights (asked.File file) found = Unit {0}
+
+-- The user that a header field names: its text, if it is a valid name.
+abbrev pub IsUserIn : Option FieldValue → Option (List ℕ) → Type 0
+IsUserIn None user = user ≡ None
+IsUserIn (Some value) None = IsVisibleAscii value.bytes → ¬ (IsUser value.bytes)
+IsUserIn (Some value) (Some user) = (user ≡ value.bytes) × IsUser user
+
+-- What a user may be answered by an access file: with the rights that its patterns give, or that the
+-- file can't be used. Without a user: that the request names none.
+abbrev pub IsForUser : Option (List ℕ) → Asked → Result Answer WebRefusal → Type 0
+IsForUser None asked found = found ≡ Err NoUser
+IsForUser (Some user) asked found = (found ≡ Err NoAccessFile)
+    ⊎ ((patterns : List Re) × IsFor (Some (patterns, user)) asked found)
+
+-- What a request with this header field may be answered by an access file.
+abbrev pub IsForField : Option FieldValue → Asked → Result Answer WebRefusal → Type 0
+IsForField field asked found = (user : Option (List ℕ)) × IsUserIn field user × IsForUser user asked found

@@ -1,6 +1,6 @@
 -- The workspaces that a reader may read, as JSON.
 use Rattle.std.specs.Prelude.{◌≡◌, ◌⊎◌, ℕ, ℤ, List, [], ◌∷◌, ◌++◌, codes, Option}
-use Rattle.serde_json.specs.Data.{Data, array, object, member, no_members}
+use Rattle.serde_json.specs.Data.{Data, array, string, object, member, no_members}
 use Rattle.serde_json.specs.View.{items_of}
 use Rattle.serde_json.specs.Written.{compact_text}
 use Rattle.tfs_json.specs.Json.{text_at}
@@ -8,19 +8,31 @@ use Rattle.tfs_records.specs.Journal.{Journal, names_of, position_of}
 use Rattle.tfs_reports.specs.Rows.{IsListed, text_or_null, whole}
 use Rattle.tfs_web_answers.specs.Readers.{Reads, Rights}
 
--- A row with who made a workspace's last change, and when its lock was taken, by lock information.
-abbrev pub changed_row : Data → Data → Data
-changed_row row words = object
-    (member (codes "changed_at") (text_or_null (text_at (codes "Created") words))
-    (member (codes "changed_by") (text_or_null (text_at (codes "Who") words))
+-- A row with who made a workspace's last change, and when.
+abbrev pub changed_row : Data → Data → Data → Data
+changed_row row who time = object
+    (member (codes "changed_at") time
+    (member (codes "changed_by") who
     (member (codes "workspace") row no_members)))
 
--- The row shows a workspace as `list` prints it, and texts of some lock information.
+-- The value is a text, or this one as far as it is known.
+abbrev pub IsTextOr : Option (List ℕ) → Data → Type 0
+IsTextOr other value = ((text : List ℕ) × (value ≡ string text)) ⊎ (value ≡ text_or_null other)
+
+-- The value is a row with two texts, who and when; without them, those of some lock information.
+pub record IsChangedRow (row words value : Data) : Type 0 where
+  pub who : Data
+  pub is_who : IsTextOr (text_at (codes "Who") words) who
+  pub time : Data
+  pub is_time : IsTextOr (text_at (codes "Created") words) time
+  pub is : value ≡ changed_row row who time
+
+-- The row shows a workspace as `list` prints it, and who made its last change and when.
 pub record IsShown (name : List ℕ) (j : Journal) (now : Option ℤ) (row : Data) : Type 0 where
   pub listed : Data
   pub is_listed : IsListed name j now listed
   pub words : Data
-  pub is : row ≡ changed_row listed words
+  pub is : IsChangedRow listed words row
 
 -- The rows of one name for a reader: its row if the reader may read it, and otherwise none.
 abbrev pub Shows : Rights → Journal → Option ℤ → List ℕ → List Data → Type 0

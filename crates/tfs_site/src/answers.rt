@@ -1,33 +1,35 @@
 //! The answers about workspaces, as JSON.
 
-ghost use Rattle.std.specs.Prelude.{◌≡◌, ◌++◌, map, option_map, slice_get, string_bytes, IfOk, OnOk};
+ghost use Rattle.std.specs.Prelude.{◌≡◌, ◌++◌, codes, map, option_map, slice_get, string_bytes, IfOk, OnOk};
 ghost use Rattle.std.specs.Option.{option_to_list};
 ghost use Rattle.serde_json.specs.View.{view};
+ghost use Rattle.tfs_json.specs.Json.{text_at};
 ghost use Rattle.tfs_records.specs.Journal.{names_of};
 ghost use Rattle.tfs_web_answers.specs.Readers.{rights_of};
-ghost use Rattle.tfs_site.specs.Workspaces.{IsList, IsShown, ShowAll, Shows, changed_row, list_of};
+ghost use Rattle.tfs_site.specs.Workspaces.{IsChangedRow, IsList, IsShown, IsTextOr, ShowAll, Shows, list_of};
 
+use crate::reading::Present;
 use serde_json::{Value, json};
 use std::alloc::{AllocError, Global};
 use tfs_lock::LockInfo;
 use tfs_records::Discard;
-use tfs_reports::{member, workspace_row};
+use tfs_reports::{Record, member, workspace_row};
 use tfs_rules::{Act, Name};
 use tfs_table::Table;
-use tfs_versions::words_of;
+use tfs_versions::{last_change, words_of};
 use tfs_web_answers::Reader;
 
 /// Returns the workspaces that a reader may read, and the journal's position.
 pub(crate) fn workspaces_text(
     alloc: Global,
-    table: &Table<Discard>,
+    present: &Present,
     reader: &mut Reader<'_>,
     now: Option<i64>,
 ) -> Result<String, AllocError>
-    ensures { IfOk result (λ text. IsList (rights_of reader.old) table.now.journal now (string_bytes text)) }
+    ensures { IfOk result (λ text. IsList (rights_of reader.old) present.now.newest.table.journal now (string_bytes text)) }
 {
-    let rows = readable_rows(alloc, table, reader, now)?;
-    let list = list_of(alloc, rows, table.position())?;
+    let rows = readable_rows(alloc, present, reader, now)?;
+    let list = list_of(alloc, rows, present.newest.table.position())?;
     list.to_string(alloc)
 }
 
@@ -41,16 +43,16 @@ fn list_of(alloc: Global, rows: Vec<Value>, position: u64) -> Result<Value, Allo
 /// Returns the rows of the workspaces that a reader may read, in the table's order.
 fn readable_rows(
     alloc: Global,
-    table: &Table<Discard>,
+    present: &Present,
     reader: &mut Reader<'_>,
     now: Option<i64>,
 ) -> Result<Vec<Value>, AllocError>
-    ensures { IfOk result (λ rows. ShowAll (rights_of reader.old) table.now.journal now
-        (names_of table.now.journal) (map view rows.items)) }
+    ensures { IfOk result (λ rows. ShowAll (rights_of reader.old) present.now.newest.table.journal now
+        (names_of present.now.newest.table.journal) (map view rows.items)) }
 {
-    let mut rows = Vec::with_capacity(alloc, table.names())?;
-    for number in 0..table.names() {
-        let row = row_at(alloc, table, reader, number, now)?;
+    let mut rows = Vec::with_capacity(alloc, present.newest.table.names())?;
+    for number in 0..present.newest.table.names() {
+        let row = row_at(alloc, present, reader, number, now)?;
         push_some(&mut rows, row)?;
     }
     Ok(rows)
@@ -70,18 +72,18 @@ fn push_some(rows: &mut Vec<Value>, row: Option<Value>) -> Result<(), AllocError
 /// Returns the row of the workspace with a number, if the reader may read it.
 fn row_at(
     alloc: Global,
-    table: &Table<Discard>,
+    present: &Present,
     reader: &mut Reader<'_>,
     number: usize,
     now: Option<i64>,
 ) -> Result<Option<Value>, AllocError>
-    ensures row { IfOk result (λ row. ShowAll (rights_of reader.old) table.now.journal now
-        (option_to_list (slice_get (names_of table.now.journal) number))
+    ensures row { IfOk result (λ row. ShowAll (rights_of reader.old) present.now.newest.table.journal now
+        (option_to_list (slice_get (names_of present.now.newest.table.journal) number))
         (option_to_list (option_map view row))) }
     ensures rights { rights_of reader.new ≡ rights_of reader.old }
 {
-    match table.name(number) {
-        Some(name) => row_for(alloc, table, reader, name, now),
+    match present.newest.table.name(number) {
+        Some(name) => row_for(alloc, present, reader, name, now),
         None => Ok(None),
     }
 }
@@ -89,35 +91,44 @@ fn row_at(
 /// Returns the row of a workspace, if the reader may read it.
 fn row_for(
     alloc: Global,
-    table: &Table<Discard>,
+    present: &Present,
     reader: &mut Reader<'_>,
     name: &Name,
     now: Option<i64>,
 ) -> Result<Option<Value>, AllocError>
-    ensures row { IfOk result (λ row. Shows (rights_of reader.old) table.now.journal now name.now
+    ensures row { IfOk result (λ row. Shows (rights_of reader.old) present.now.newest.table.journal now name.now
         (option_to_list (option_map view row))) }
     ensures rights { rights_of reader.new ≡ rights_of reader.old }
 {
     if reader.may_read(alloc, name)? {
-        Ok(Some(changed_row(alloc, table, name, now)?))
+        Ok(Some(changed_row(alloc, present, name, now)?))
     } else {
         Ok(None)
     }
 }
 
-/// Returns the row of a workspace, with who made its last change and when the lock for it was
-/// taken, if they are known.
+/// Returns the row of a workspace, with who made its last change and when: by the log of clients, or
+/// else by the lock for the change, as far as they are known.
 pub(crate) fn changed_row(
     alloc: Global,
-    table: &Table<Discard>,
+    present: &Present,
     name: &Name,
     now: Option<i64>,
 ) -> Result<Value, AllocError>
-    ensures { IfOk result (λ row. IsShown name.now table.now.journal now (view row)) }
+    ensures { IfOk result (λ row. IsShown name.now present.now.newest.table.journal now (view row)) }
 {
+    let table = &present.newest.table;
     let row = workspace_row(alloc, table, name, now)?;
     let words = words_of_change(alloc, table, name)?;
-    row_with(alloc, row, &words)
+    let record = record_of_change(present, name);
+    row_with(alloc, row, &words, record)
+}
+
+/// Returns the log record of a workspace's last change, if there is one.
+fn record_of_change<'p>(present: &'p Present, name: &Name) -> Option<&'p Record> {
+    present
+        .records
+        .at(last_change(&present.newest.table, name)?)
 }
 
 /// Returns the members of the lock information under which a workspace was changed last; null if
@@ -133,12 +144,40 @@ fn words_of_change(
     }
 }
 
-/// Returns a row with who made a change and when, by lock information.
-fn row_with(alloc: Global, row: Value, words: &Value) -> Result<Value, AllocError>
-    ensures { IfOk result (λ value. view value ≡ changed_row (view row) (view words.now)) }
+/// Returns a row with who made a change and when.
+fn row_with(
+    alloc: Global,
+    row: Value,
+    words: &Value,
+    record: Option<&Record>,
+) -> Result<Value, AllocError>
+    ensures { IfOk result (λ value. IsChangedRow (view row) (view words.now) (view value)) }
 {
-    json!(in alloc; {"workspace": row, "changed_by": member(alloc, words, "Who")?,
-        "changed_at": member(alloc, words, "Created")?})
+    let client = client_of(alloc, record, words)?;
+    let time = time_of(alloc, record, words)?;
+    json!(in alloc; {"workspace": row, "changed_by": client, "changed_at": time})
+}
+
+/// Returns who made a change: by its record, or else by lock information.
+fn client_of(alloc: Global, record: Option<&Record>, words: &Value) -> Result<Value, AllocError>
+    ensures { IfOk result (λ value. IsTextOr (text_at (codes "Who") (view words.now)) (view value)) }
+{
+    match record.and_then(Record::client) {
+        Some(client) => Value::try_from_str(alloc, client),
+        None => member(alloc, words, "Who"),
+    }
+}
+
+/// Returns when a change was made: by its record, or else when the lock for it was taken.
+fn time_of(alloc: Global, record: Option<&Record>, words: &Value) -> Result<Value, AllocError>
+    ensures { IfOk result (λ value. IsTextOr (text_at (codes "Created") (view words.now)) (view value)) }
+{
+    if let Some(record) = record {
+        if let Some(time) = record.time(alloc)? {
+            return Ok(Value::String(time));
+        }
+    }
+    member(alloc, words, "Created")
 }
 
 /// Returns the lock under which a workspace was changed last, if the newest journal has it. None

@@ -5,6 +5,7 @@
 mod answers;
 mod changes;
 mod files;
+mod headers;
 mod reading;
 mod server;
 mod site;

@@ -1,16 +1,18 @@
 //! The service of the page: each request is answered from the folder as it is then.
 
-ghost use Rattle.std.specs.Prelude.{◌≡◌, false, Err, IfOk, IfSome, OnOk, string_bytes};
+ghost use Rattle.std.specs.Prelude.{◌≡◌, false, None, Some, Err, IfOk, IsSome, OnOk, map, option_copied, string_bytes};
+ghost use Rattle.std.specs.Char.{to_ascii_lowercase};
 ghost use Rattle.http.specs.Request.{head_of};
+ghost use Rattle.http_header.specs.HeaderMap.{get};
 ghost use Rattle.http_server.specs.Response.{IsBlank};
-ghost use Rattle.tfs_site.specs.Answers.{AnswersList, IsFor, IsReply, IsSomeList, is_read};
-ghost use Rattle.tfs_web.specs.Access.{IsUser};
+ghost use Rattle.tfs_site.specs.Answers.{AnswersList, IsFor, IsForField, IsForUser, IsReply, IsSomeList, is_read};
 ghost use Rattle.tfs_web.specs.declared.refusal.WebRefusal.TheVariants.{MethodNotAllowed, NoName};
 ghost use Rattle.tfs_web_answers.specs.Readers.{Reads, rights_of};
 
 use crate::answers::{changed_row, history_text, workspaces_text};
 use crate::changes::changes_text;
 use crate::files::{PageFiles, content_of};
+use crate::headers::{is_own_host, user_in};
 use crate::reading::Kept;
 use bytes::Bytes;
 use http::{HeaderValue, Request};
@@ -24,9 +26,7 @@ use tfs_calls::{Impact, Kind, Query, Refusal, Text, Texts};
 use tfs_reports::{At, ReportEnd, ReportFault, ReportPlace, fault_of, history_rows, version_of};
 use tfs_rules::Name;
 use tfs_versions::diff;
-use tfs_web::{
-    Access, Asked, Content, PageFile, Question, WebRefusal, asked_of, is_user, refuse, reply,
-};
+use tfs_web::{Access, Asked, Content, PageFile, Question, WebRefusal, asked_of, refuse, reply};
 use tfs_web_answers::{Reader, chosen_text, instances_text};
 
 /// What all workers answer from.
@@ -120,13 +120,44 @@ impl<'w, 's, R: Wait> Site<'w, 's, R> {
         &self,
         request: &Request<Bytes>,
         asked: Asked,
-    ) -> Result<Result<Answer, WebRefusal>, AllocError> {
-        let Some(path) = self.source.access else {
-            return self.answer_for(&mut Reader::Everyone, asked);
-        };
-        let Some(user) = user_in(request.headers().get(self.source.user_header)) else {
-            return Ok(Err(WebRefusal::NoUser));
-        };
+    ) -> Result<Result<Answer, WebRefusal>, AllocError>
+        ensures everyone { self.now.source.now.access ≡ None → IfOk result (IsFor None asked) }
+        ensures user { IsSome self.now.source.now.access → IfOk result (IsForField
+            (get (head_of request.now).headers (map to_ascii_lowercase self.now.source.now.user_header.now)) asked) }
+    {
+        match self.source.access {
+            Some(path) => {
+                let field = request.headers().get(self.source.user_header);
+                self.answer_by(path, field, asked)
+            }
+            None => self.answer_for(&mut Reader::Everyone, asked),
+        }
+    }
+
+    /// Answers the user that a header field names, by an access file.
+    fn answer_by(
+        &self,
+        path: &str,
+        field: Option<&HeaderValue>,
+        asked: Asked,
+    ) -> Result<Result<Answer, WebRefusal>, AllocError>
+        ensures { IfOk result (IsForField (option_copied field.entry) asked) }
+    {
+        match user_in(field) {
+            Some(user) => self.answer_to(path, user, asked),
+            None => Ok(Err(WebRefusal::NoUser)),
+        }
+    }
+
+    /// Answers a user by an access file.
+    fn answer_to(
+        &self,
+        path: &str,
+        user: &str,
+        asked: Asked,
+    ) -> Result<Result<Answer, WebRefusal>, AllocError>
+        ensures { IfOk result (IsForUser (Some user.now) asked) }
+    {
         let Ok(text) = fs::read_to_string(self.source.host, path) else {
             return Ok(Err(WebRefusal::NoAccessFile));
         };
@@ -195,9 +226,9 @@ impl<'w, 's, R: Wait> Site<'w, 's, R> {
     fn workspaces_in(&self, kept: &mut Kept, reader: &mut Reader<'_>) -> Result<String, ReportEnd>
         ensures list { IfOk result (λ text. IsSomeList (rights_of reader.old) (string_bytes text)) }
     {
-        let newest = kept.newest(self.source.host, self.source.folder)?;
+        let present = kept.present(self.source.host, self.source.folder)?;
         let now = seconds_now(self.source.host);
-        Ok(workspaces_text(self.alloc(), &newest.table, reader, now)?)
+        Ok(workspaces_text(self.alloc(), present, reader, now)?)
     }
 
     /// Answers a question about a workspace.
@@ -220,12 +251,12 @@ impl<'w, 's, R: Wait> Site<'w, 's, R> {
 
     /// Returns the row of a workspace of the newest journal; none if it doesn't have it.
     fn row_in(&self, kept: &mut Kept, name: &Name) -> Result<Option<Value>, ReportEnd> {
-        let newest = kept.newest(self.source.host, self.source.folder)?;
-        if newest.table.number(name).is_none() {
+        let present = kept.present(self.source.host, self.source.folder)?;
+        if present.newest.table.number(name).is_none() {
             return Ok(None);
         }
         let now = seconds_now(self.source.host);
-        Ok(Some(changed_row(self.alloc(), &newest.table, name, now)?))
+        Ok(Some(changed_row(self.alloc(), present, name, now)?))
     }
 
     /// Returns the changes of a workspace between two positions.
@@ -252,8 +283,8 @@ impl<'w, 's, R: Wait> Site<'w, 's, R> {
         name: &Name,
         question: Question,
     ) -> Result<String, ReportEnd> {
-        let newest = kept.newest(self.source.host, self.source.folder)?;
-        let table = &newest.table;
+        let present = kept.present(self.source.host, self.source.folder)?;
+        let table = &present.newest.table;
         if let Question::Impact(is_all, addresses) = question {
             let query = query_for(self.alloc(), is_all, addresses)?;
             return match table.impact(name, &query) {
@@ -273,31 +304,6 @@ fn is_read(method: &str) -> bool
     ensures { result ≡ is_read method.now }
 {
     method == "GET" || method == "HEAD"
-}
-
-/// Returns true if a host is a name of this machine, with or without a port.
-fn is_own_host(host: Option<&HeaderValue>) -> bool {
-    let Some(host) = host else {
-        return false;
-    };
-    let Ok(text) = host.to_str() else {
-        return false;
-    };
-    let name = match text.rsplit_once(':') {
-        Some((name, port)) if port.bytes().all(|byte| byte.is_ascii_digit()) => name,
-        _ => text,
-    };
-    name == "localhost" || name == "127.0.0.1" || name == "[::1]"
-}
-
-/// Returns the user's name in a header field, if it is valid.
-fn user_in(value: Option<&HeaderValue>) -> Option<&str>
-    ensures valid { IfSome result (λ user. IsUser user.now) }
-{
-    let Ok(text) = value?.to_str() else {
-        return None;
-    };
-    if is_user(text) { Some(text) } else { None }
 }
 
 /// Returns the query for `any` or `all` of the addresses.

@@ -11,7 +11,7 @@ use Rattle.tfs_site.proofs.answers.readable_rows.Goals as goal
 pub loop-number-init : goal.loop-number-init
 loop-number-init c =
     let rights = rights_of c.args.reader.now in
-    let j = c.args.table.now.journal in record {
+    let j = c.args.present.now.newest.table.journal in record {
       rights = refl;
       rows = subst (λ rows. ShowAll rights j c.args.now [] (map view rows)) (sym c.in_ok-rows.ensures.items) (show_none rights j c.args.now);
     }
@@ -19,7 +19,7 @@ loop-number-init c =
 pub loop-number-preserved : goal.loop-number-preserved
 loop-number-preserved c =
     let rights = rights_of c.args.reader.now in
-    let j = c.args.table.now.journal in
+    let j = c.args.present.now.newest.table.journal in
     let now = c.args.now in
     let names = names_of j in
     let number = c.loop-number.number in

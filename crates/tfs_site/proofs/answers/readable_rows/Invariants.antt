@@ -9,5 +9,5 @@ use Rattle.tfs_site.proofs.answers.readable_rows.Given as goal
 abbrev pub invariant-loop-number : goal.invariant-loop-number
 invariant-loop-number l = record {
   rights : rights_of l.reader ≡ rights_of l.fn.reader;
-  rows : ShowAll (rights_of l.fn.reader) l.table.journal l.now (take l.number (names_of l.table.journal)) (map view l.rows.items);
+  rows : ShowAll (rights_of l.fn.reader) l.present.newest.table.journal l.now (take l.number (names_of l.present.newest.table.journal)) (map view l.rows.items);
 }

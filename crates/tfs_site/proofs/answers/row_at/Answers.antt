@@ -11,7 +11,7 @@ use Rattle.tfs_site.proofs.answers.row_at.Goals as goal
 pub returns-in-Some-clause-row : goal.returns-in-Some-clause-row
 returns-in-Some-clause-row c =
     let rights = rights_of c.args.reader.now in
-    let j = c.args.table.now.journal in
+    let j = c.args.present.now.newest.table.journal in
     IfOk-weaker c.row_for.result _ _
     (λ row shows. subst (λ name. ShowAll rights j c.args.now (option_to_list name) (option_to_list (option_map view row))) c.in-Some.ensures.value
     (show_one rights j c.args.now _ _ shows))
@@ -20,5 +20,5 @@ returns-in-Some-clause-row c =
 pub returns-in-None-clause-row : goal.returns-in-None-clause-row
 returns-in-None-clause-row c =
     let rights = rights_of c.args.reader.now in
-    let j = c.args.table.now.journal in
+    let j = c.args.present.now.newest.table.journal in
     subst (λ name. ShowAll rights j c.args.now (option_to_list name) []) c.in-None.ensures.value (show_none rights j c.args.now)
