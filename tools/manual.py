@@ -1,14 +1,14 @@
 """Makes the manual pages of both programs and of each command of `tfstatectl`, in mdoc. Commands
-and options are those of `tfstatectl --help`, files and statuses those of docs/FOLDER.md, and what `tfstated` does is from
-docs/PROTOCOL.md and docs/JOURNAL.md. So no page has a text of its own that could differ from
-these."""
+and options are those of `tfstatectl --help`, files those of docs/FOLDER.md, statuses those of
+docs/FAULTS.md, and what `tfstated` does is from docs/PROTOCOL.md and docs/JOURNAL.md. So no page
+has a text of its own that could differ from these."""
 import datetime
 import re
 import subprocess
 
 from repository import TOP
 
-FOLDER, PROTOCOL, JOURNAL = ((TOP / "docs" / name).read_text() for name in ("FOLDER.md", "PROTOCOL.md", "JOURNAL.md"))
+FOLDER, FAULTS, PROTOCOL, JOURNAL = ((TOP / "docs" / f"{name}.md").read_text() for name in ("FOLDER", "FAULTS", "PROTOCOL", "JOURNAL"))
 BETWEEN_SENTENCES = re.compile(r"(?<=[.;]) +")
 
 
@@ -106,7 +106,7 @@ def about_command(parts):
 def statuses():
     """Returns each status of `tfstatectl` with its faults and what to do about them."""
     found = {}
-    for status, fault, remedy in rows_of(FOLDER, "| Status | Fault | What to do |"):
+    for status, fault, remedy in rows_of(FAULTS, "| Status | Fault | What to do |"):
         found.setdefault(status, []).append(f"{fault}: {remedy}.")
     return [(status, " ".join(lines)) for status, lines in found.items()]
 

@@ -21,7 +21,8 @@ WANTED = """usr/bin/tfstatectl usr/bin/tfstated usr/sbin/tfstated-user usr/share
 usr/lib/systemd/system/tfstated.service usr/lib/systemd/system/tfstated-copy.service usr/lib/systemd/system/tfstated-copy.timer
 usr/lib/systemd/system/tfstated-standby.service usr/lib/systemd/system/tfstated-standby.timer
 usr/lib/systemd/system/tfstated-stats.service usr/lib/systemd/system/tfstated-stats.timer
-usr/share/doc/tfstated/README.md usr/share/doc/tfstated/INSTALL.md usr/share/doc/tfstated/OPERATE.md usr/share/doc/tfstated/RECOVER.md
+usr/share/doc/tfstated/README.md usr/share/doc/tfstated/INSTALL.md usr/share/doc/tfstated/OPERATE.md usr/share/doc/tfstated/STANDBY.md
+usr/share/doc/tfstated/RECOVER.md usr/share/doc/tfstated/FAULTS.md
 usr/share/doc/tfstated/REFERENCE.md usr/share/doc/tfstated/PROTOCOL.md usr/share/doc/tfstated/JOURNAL.md usr/share/doc/tfstated/MODEL.md
 usr/share/doc/tfstated/picture.svg usr/share/doc/tfstated/UPGRADING.md usr/share/doc/tfstated/CHANGELOG.md
 usr/share/doc/tfstated/IMPACT.md usr/share/doc/tfstated/FOLDER.md usr/share/doc/tfstated/SERVING.md
@@ -154,9 +155,9 @@ def check_zsh_gets_the_options_and_words_of_each_command():
 
 
 def check_a_start_that_a_person_has_to_look_at_is_not_tried_again():
-    """Compares the unit with docs/FOLDER.md: its table, and the statuses after which the unit
+    """Compares the unit with docs/FAULTS.md: its table, and the statuses after which the unit
     retries."""
-    text = (TOP / "docs" / "FOLDER.md").read_text()
+    text = (TOP / "docs" / "FAULTS.md").read_text()
     again = set(re.search(r"The package's unit\s+retries\s+after\s+(\d+)\s+and\s+(\d+)\.", text).groups())
     others = set(re.findall(r"^\| (2\d) \| ", text, re.M)) - again
     expect((len(again), len(others)), (2, 8))

@@ -1,6 +1,6 @@
 """Checks the picture of a state and of the answer to an impact query, with the example of
 docs/PROTOCOL.md and with odd addresses. Checks that docs/PROTOCOL.md says what to do about each
-refusal and docs/FOLDER.md about each fault, and that no block of deploy/'s pages has commands that
+refusal and docs/FAULTS.md about each fault, and that no block of deploy/'s pages has commands that
 no test finds."""
 import re
 import shutil
@@ -15,7 +15,7 @@ from page_blocks import FENCED, IMPACT, PAGE, other_blocks
 from picture import picture
 from stdio_program import TOP, run
 
-PROTOCOL, FOLDER = ((TOP / "docs" / name).read_text() for name in ("PROTOCOL.md", "FOLDER.md"))
+PROTOCOL, FAULTS = ((TOP / "docs" / name).read_text() for name in ("PROTOCOL.md", "FAULTS.md"))
 DRAWN = """digraph impact {
   rankdir=LR;
   node [shape=box, style=filled, fillcolor=white, fontname="sans-serif"];
@@ -66,10 +66,10 @@ def check_each_refusal_and_each_fault_has_a_remedy():
     rows = re.findall(r"^\| `(?:rebase|serve)` \| (Cannot.*) \|$", PROTOCOL, re.M)
     faults = set(re.findall(r"[A-Z]\w+", " ".join(rows)))
     expect(len(faults) > 10, True, faults)
-    rows = re.findall(r"^\| [0-9]{2} \| ([^|]+) \| [^| ][^|]* \|$", FOLDER, re.M)
+    rows = re.findall(r"^\| [0-9]{2} \| ([^|]+) \| [^| ][^|]* \|$", FAULTS, re.M)
     listed = set(re.findall(r"\w+", " ".join(rows)))
     expect(set(STATUSES) - {"Arguments"} - listed, set(), "faults of tfstatectl without a row")
-    others = PROTOCOL.split("[FOLDER.md](FOLDER.md) says what to do:")[1].split("\n\n")[0]
+    others = PROTOCOL.split("[FAULTS.md](FAULTS.md) says what to do:")[1].split("\n\n")[0]
     expect(faults - listed - set(re.findall(r"\w+", others)), set(), "faults without a remedy")
 
 

@@ -8,7 +8,7 @@ import re
 from checking import expect
 from repository import TOP
 
-PAGES = ("README", "INSTALL", "OPERATE", "RECOVER", "REFERENCE")
+PAGES = ("README", "INSTALL", "OPERATE", "STANDBY", "RECOVER", "REFERENCE")
 PAGE = "\n".join((TOP / "deploy" / f"{name}.md").read_text() for name in PAGES)
 IMPACT = (TOP / "deploy" / "IMPACT.md").read_text()
 # The headings whose blocks set a server up, in order, and those whose blocks watch it.
