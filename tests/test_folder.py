@@ -298,7 +298,7 @@ def expect_as_the_model(files):
     server = Serving(folder).listens()
     server.kill()
     text, numbers = started(number, data), [number_of(name) for name in files if number_of(name) is not None]
-    new = number if text == data else max(numbers) + 1
+    new = number if text == files[f"{named(number)}.tfj"] else max(numbers) + 1
     expect(journals(folder), {new: text}, about)
     put_away = {number_of(name): content for name, content in files.items() if number_of(name) not in (None, left, new)}
     expect(old_of(folder), put_away, about)
@@ -331,3 +331,26 @@ def test_check_reports_each_journal():
     for path, fault in ((fresh(), "NoJournal"), (none, "NoFolder"), (file, "NotFolder"), (file / "more", "NotFolder")):
         status, output, errors = run("check", path)
         expect((status, output, f"{path}: {fault}" in errors), (STATUSES[fault], "", True), errors)
+
+
+@pytest.mark.parametrize(("content", "line", "fault"), [
+    (NEWEST, "base 1, position 3, 1 names, whole", None),
+    (NEWEST + PUSH3[:9], f"base 1, position 3, 1 names, torn at byte {len(NEWEST)}", None),
+    (b"TFJ", "base 0, position 0, 0 names, torn at byte 0", "TornBase"),
+    (REBASED[:40], "the journal ends inside its base", "TornBase"),
+    (b"TFJ9\n", "the journal is damaged at byte 0", "Damaged"),
+    (EMPTY + PUSH2 + PUSH1, "record 2 of the journal breaks the rules", "Unlawful"),
+    (b"TFJ2\n" + base_text(1 << 62, []) + PUSH1, "the position is too high for a base", "TooFar")])
+def test_check_reports_a_single_journal(content, line, fault):
+    folder = fresh(n3=content)
+    wanted = f"{named(3)}.tfj: {line}\n"
+    if fault is None:
+        expect(run("check", folder), (0, f"{wanted}a start continues {named(3)}.tfj at position 3\n", ""))
+    else:
+        status, output, errors = run("check", folder)
+        expect((status, output, f"{named(3)}.tfj: {fault}" in errors), (STATUSES[fault], wanted, True), errors)
+    (folder / "old").mkdir()
+    (folder / "old" / f"{named(3)}.tfj").write_bytes(NEWEST)
+    wanted = f"old/{named(3)}.tfj: base 1, position 3, 1 names, whole\n{wanted}"
+    status, output, errors = run("check", folder)
+    expect((status, output), (STATUSES[fault or "TwoOfName"], wanted), errors)

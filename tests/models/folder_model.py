@@ -48,7 +48,31 @@ def compacted(number, data):
     return b"TFJ2\n" + base_text(position, [row for row in rows if any(row[1:])])
 
 
+def without_zeros(data):
+    """Returns the bytes of a damaged journal before the zeros in which it ends, or None."""
+    kind, *at = read_journal(data)[4].split()
+    at = int(at[0]) if kind == "damaged" else 0
+    return data[:at] if at > 5 and not any(data[at:]) else None
+
+
 def chosen(files, least=0):
+    """Returns the choice of a start, which cuts zeros at the end of a damaged journal, unless the
+    journals diverge without them."""
+    try:
+        return chosen_among(files, least)
+    except Fault as fault:
+        name, number = fault.args
+        file = f"journal-{number or 0:010}.tfj"
+        front = without_zeros(files[file]) if name == "Damaged" else None
+        if front is None:
+            raise
+        try:
+            return chosen_among({**files, file: front}, least)
+        except Fault as again:
+            raise fault if again.args[0] == "Diverged" else again
+
+
+def chosen_among(files, least):
     """Returns the number and the bytes of the journal that a start continues, and the number of a
     journal that a failed start left, or None."""
     journals = sorted((number_of(name), data) for name, data in files.items() if number_of(name) is not None)

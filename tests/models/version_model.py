@@ -5,7 +5,7 @@ import calendar
 import json
 import re
 
-from folder_model import Fault
+from folder_model import Fault, without_zeros
 from impact_model import instances_of
 from journal_reader import read_journal
 from replay import replay
@@ -19,7 +19,7 @@ WORDS = {"who": "Who", "operation": "Operation", "created": "Created"}
 
 class Opened:
     """A journal as it is read: its position, its entries up to the first unlawful one, their
-    result, and its fault, or None."""
+    result, its fault, or None, and whether it is only that a start would cut zeros."""
 
     def __init__(self, data):
         form, self.base, self.rows, entries, end = read_journal(data)
@@ -30,6 +30,7 @@ class Opened:
         self.read, self.entries = entries, entries[: unlawful - 1] if unlawful else entries
         self.damage = "Damaged" if end.startswith("damaged") else None
         self.fault = "TornBase" if self.is_cut else "Unlawful" if unlawful else self.damage
+        self.has_zeros = self.fault == "Damaged" and without_zeros(data) is not None
 
     def has(self, name):
         return any(name == row[0] for row in self.rows) or any(name == entry[1] for entry in self.read)
@@ -94,7 +95,7 @@ def past(files, name):
             acts.append((journal.base + place, own, kind, fields, least, None if act_of(kind, fields) == "force-unlock" else held.get(own)))
             if kind == "unlock":
                 held.pop(own, None)
-        if journal.fault:
+        if journal.fault and not journal.has_zeros:
             if not is_there:
                 raise Fault(journal.fault, number)
             return acts, (journal.fault, number)

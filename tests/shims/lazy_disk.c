@@ -99,10 +99,10 @@ static int is_on_disk(const char *path) {
     return path[length] == '/' || !path[length];
 }
 
-/* A journal, but not the log next to it. */
+/* A journal, but neither the log nor the record of synced bytes next to it. */
 static int is_journal(const char *path) {
     const char *name = last_of(path), *end = strrchr(name, '.');
-    return !strncmp(name, "journal-", 8) && !(end && !strcmp(end, ".who"));
+    return !strncmp(name, "journal-", 8) && !(end && (!strcmp(end, ".who") || !strcmp(end, ".synced")));
 }
 
 static void find_path(int descriptor, char *path) {

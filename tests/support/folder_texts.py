@@ -1,5 +1,5 @@
 """Files of folders for Hypothesis: journals that follow one another, most of them valid. Some are
-cut, grown, swapped or renamed."""
+cut, grown, swapped or renamed, or end in zeros."""
 from hypothesis import strategies as st
 
 from folder_model import Fault, compacted, started
@@ -12,7 +12,7 @@ COUNTS = st.sampled_from([0, 1, 2, 2, 2, 3, 3, 4])
 SOME = [
     st.lists(st.integers(1, 29), unique=True, min_size=count, max_size=count) for count in range(5)]
 MORE = st.sampled_from([0, 0, 1, 2])
-KINDS = st.sampled_from(["none", "none", "cut", "cut last", "grow", "swap", "rename"])
+KINDS = st.sampled_from(["none", "none", "cut", "cut last", "grow", "swap", "rename", "zeros", "zeros last"])
 WRITERS = st.sampled_from([started, compacted])
 OTHER_NAMES = st.sampled_from([f"{named(31)}.tfj.part", "copy", f"{named(31)}.tfj"])
 
@@ -50,13 +50,16 @@ def followed_files(draw):
 
 @st.composite
 def folder_files(draw):
-    """Draws the same folder, in which a file is sometimes cut, grown, swapped or renamed."""
+    """Draws the same folder, in which a file is sometimes cut, grown, swapped or renamed, or end in zeros."""
     files = draw(followed_files())
     names = sorted(files)
     kind = draw(KINDS) if names else "none"
     if kind in ("cut", "cut last"):
         name = names[-1] if kind == "cut last" else draw(st.sampled_from(names))
         files[name] = files[name][: draw(up_to(len(files[name])))]
+    elif kind in ("zeros", "zeros last"):
+        name = names[-1] if kind == "zeros last" else draw(st.sampled_from(names))
+        files[name] += bytes(draw(st.integers(1, 40)))
     elif kind == "grow":
         files[draw(st.sampled_from(names))] += draw(RECORDS)
     elif kind == "swap":

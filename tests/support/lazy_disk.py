@@ -48,10 +48,13 @@ class Disk:
         number = dict(self.names())[str(Path(path).relative_to(self.root))]
         return (self.kept / str(number)).read_bytes()
 
-    def cut(self):
+    def cut(self, has_zeros=False):
         """Cuts the power after the program has ended: the disk has only what was kept. A file is
-        lost with its directory."""
+        lost with its directory. With zeros, journals keep their lengths: zeros follow the kept
+        bytes."""
         names = self.names()
+        paths = [self.root / path for path, _ in names if has_zeros and path.endswith(".tfj")]
+        sizes = {path: path.stat().st_size for path in paths if path.exists()}
         shutil.rmtree(self.root)
         self.root.mkdir()
         for path, number in names:
@@ -60,5 +63,6 @@ class Disk:
                 continue
             if number:
                 shutil.copyfile(self.kept / str(number), place)
+                os.truncate(place, max(sizes.get(place, 0), place.stat().st_size))
             else:
                 place.mkdir()

@@ -5,3 +5,4 @@ pub mod Start
 pub mod Retention
 pub mod Status
 pub mod Faults
+pub mod Zeros

@@ -4,8 +4,10 @@ ghost use Rattle.std.specs.Prelude.{◌≡◌};
 ghost use Rattle.std.specs.IoError.{error_kind};
 ghost use Rattle.tfs_files.specs.Faults.{by_kind, is_folder};
 ghost use Rattle.tfs_files.specs.Status.{status_of};
+ghost use Rattle.tfs_files.specs.Zeros.{damage_of};
 
 use crate::folder::JournalName;
+use crate::zeros::Damage;
 use std::io;
 use std::process::ExitCode;
 use tfs_folder::Unchosen;
@@ -221,6 +223,21 @@ impl CommandEnd {
     /// Returns the subject of the fault.
     pub fn place(&self) -> FaultPlace {
         self.place
+    }
+
+    /// Returns the folder's damaged journal if the fault is that it is damaged.
+    pub(crate) fn damage(&self) -> Option<Damage>
+        ensures value { result ≡ damage_of self.now }
+    {
+        match (self.place, self.fault) {
+            (FaultPlace::Journal(number), CommandFault::Damaged(at)) => Some(Damage { number, at }),
+            _ => None,
+        }
+    }
+
+    /// Returns true if the fault is that two journals have diverged.
+    pub(crate) fn is_diverged(&self) -> bool {
+        self.fault == CommandFault::Diverged
     }
 
     /// Creates the end if no journal was chosen with at least this position.

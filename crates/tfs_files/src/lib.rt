@@ -25,8 +25,10 @@ mod readers;
 mod retention;
 mod stack;
 mod start;
+mod synced;
+mod zeros;
 
-pub use choosing::{choose_parts, choose_planned, plan_of};
+pub use choosing::{Choice, choose_parts, choose_planned, plan_of};
 pub use copies::{CopyFolders, Gap, name_parts};
 pub use fault::{CommandEnd, CommandFault, FaultPlace, end_by, status_of};
 pub use first::{FIRST_NUMBER, make_first};
@@ -40,10 +42,14 @@ pub use marks::MOST_MARKED;
 pub use naming::{DurableJournal, FolderFiles, NamingFault, place, place_copy, place_new, retire};
 pub use next::{JournalSink, part_path, remove_part, sink_of};
 pub use old::remove_expired;
-pub use outline::{JournalOutline, Outlined, outline_here, outline_old};
+pub use outline::{
+    JournalOutline, Outlined, OutlinedAlone, outline_alone, outline_here, outline_old,
+};
 pub use own::{mark_copies, mark_grown, refuse_other_copies, refuse_other_original};
 pub use parts::{CopyEnd, Parts, write_parts};
 pub use position_file::{PositionFile, least_position, raise_least};
 pub use retention::{Limits, OldFile, Retention, expired};
 pub use stack::{LEAST_STACK, refuse_small_stack};
 pub use start::{Made, Start, start_journal};
+pub use synced::{SyncedName, record_synced};
+pub use zeros::{Zeros, is_cut};

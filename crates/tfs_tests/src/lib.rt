@@ -71,3 +71,5 @@ mod withheld;
 mod within;
 #[cfg(test)]
 mod workers;
+#[cfg(test)]
+mod zeros;

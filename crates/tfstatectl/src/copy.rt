@@ -99,7 +99,7 @@ fn own_among(
     parts: &[u64],
     least: u64,
 ) -> Result<Newest, CommandEnd> {
-    let newest = Newest::of(&choose_parts(rt, asked.to, parts, least)?);
+    let newest = Newest::of(&choose_parts(rt, asked.from, asked.to, parts, least)?);
     refuse_other_original(rt, asked.from, newest.number)?;
     Ok(newest)
 }
