@@ -179,13 +179,11 @@ def test_a_write_or_a_sync_that_a_signal_interrupts_is_made_once(program):
     expect(server.cut(), journal_of(b"n0", [state(serial, ("a",), ("b", "t.a")) for serial in range(1, 10)]), program.__name__)
 
 
-def rate(server, names, seconds):
-    """Returns how many changes a second a writer on each name makes."""
-    told, end = Told(), time.monotonic() + seconds
-
+def push_beside(server, told, names, number):
+    """Pushes a number of states to each name, each name on a connection of its own."""
     def write(name):
-        connection = http.client.HTTPConnection(LOOPBACK, server.port, timeout=10)
-        while time.monotonic() < end:
+        connection = http.client.HTTPConnection(LOOPBACK, server.port, timeout=SECONDS)
+        for _ in range(number):
             told.push(connection, name)
         connection.close()
     threads = [threading.Thread(target=write, args=(name,)) for name in names]
@@ -193,14 +191,16 @@ def rate(server, names, seconds):
         thread.start()
     for thread in threads:
         thread.join()
-    return sum(told.acknowledged.values()) / seconds
 
 
+# While a sync lasts, the next change of each other name comes.
 def test_one_sync_serves_many():
-    server = serving(fresh(), workers="16", env=slow(DELAY=5000))
-    one, many = rate(server, ["one"], 2), rate(server, [f"m{number}" for number in range(16)], 3)
+    told, trace = Told(), fresh() / "trace"
+    server = serving(fresh(), workers="16", env=slow(DELAY=50000, TRACE=trace))
+    push_beside(server, told, [f"m{number}" for number in range(16)], 20)
     server.kill()
-    expect(many >= 6 * one, True, f"{one:.0f} changes a second of one writer, {many:.0f} of 16")
+    replies, syncs = expect_synced(trace, "16 writers"), sum(letter == "s" for letter, _ in events_in(trace))
+    expect((replies, replies >= 6 * syncs), (320, True), f"{syncs} syncs for {replies} changes")
 
 
 def count(port, end, step, counts):
