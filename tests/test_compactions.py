@@ -13,6 +13,7 @@ import socket
 import subprocess
 import threading
 import time
+from contextlib import ExitStack
 
 import pytest
 
@@ -27,6 +28,7 @@ from stdio_program import request_text
 pytestmark = pytest.mark.usefixtures("tfstatectl")
 SHIM = preloaded("kill_calls.c")
 CHANGES = 500  # of each of 8 clients
+NO_STATE = (404, b'{"error":"NoState"}')
 
 
 def expect_all(folder, pushers, about):
@@ -93,28 +95,54 @@ def test_a_file_requests_a_compaction():
     expect(serials_of(folder), ({"a": [1]}, 3))
 
 
-def test_a_run_that_ends_answers_what_has_begun_and_waits_for_nobody():
+def test_a_compaction_waits_for_no_client_and_keeps_its_connection():
     folder, text = fresh(), request_text("GET", "/state/a")
-    # Of four workers one has a request that comes in two parts, one a client that is silent, and
-    # two no client.
+    # Of four workers one has a request that comes in two parts, one a client that is silent, one a
+    # client between two requests, and one none.
     server = serving(folder, workers="4")
-    address, began = (LOOPBACK, server.port), time.monotonic()
-    with socket.create_connection(address, timeout=SECONDS) as begun, socket.create_connection(address, timeout=SECONDS) as silent:
+    address = (LOOPBACK, server.port)
+    with ExitStack() as stack:
+        begun, silent, idle = (stack.enter_context(socket.create_connection(address, timeout=SECONDS)) for _ in range(3))
+        answers = {who: stack.enter_context(who.makefile("rb")) for who in (begun, silent, idle)}
         begun.sendall(text[:17])
-        time.sleep(0.3)  # in which each has a worker
         (folder / "compact").touch()
-        expect(silent.recv(1), b"", "who is silent is left")
-        # The server looks for a file once a second; without a compaction the client is left after
-        # two.
-        expect(time.monotonic() - began < 1.8, True, "before its time")
-        time.sleep(0.3)
-        expect(newest(folder), 1, "what has begun is waited for")
-        begun.sendall(text[17:])
-        with begun.makefile("rb") as file:
-            expect((reply_of(file), file.read()), ((404, b'{"error":"NoState"}'), b""), "what has begun is answered")
-    has_come(lambda: newest(folder) == 2, "the next term", 1)
-    expect(server.ask("GET", "/state/a")[0], 404, "in the next term")
+        idle.sendall(text)
+        expect(reply_of(answers[idle]), NO_STATE, "before the compaction")
+        # The server looks for the file once a second, and keeps an idle client for two.
+        has_come(lambda: newest(folder) == 2, "a compaction that waits for nobody", 1.8)
+        for who, rest in ((idle, text), (silent, text), (begun, text[17:])):
+            who.sendall(rest)
+            expect(reply_of(answers[who]), NO_STATE, "after it, on the same connection")
+    expect(server.ask("GET", "/state/a")[0], 404, "on a new one")
     server.kill()
+
+
+def test_a_body_goes_on_after_each_compaction():
+    folder, text = fresh(), S1[:-1] + b',"x":"' + b"x" * 100_000 + b'"}'
+    server = serving(folder, workers="2")
+    head, size = request_text("POST", "/state/a", text).split(b"\r\n\r\n")[0] + b"\r\n\r\n", len(text) // 3
+    with socket.create_connection((LOOPBACK, server.port), timeout=SECONDS) as client, client.makefile("rb") as answers:
+        client.sendall(head)
+        for number, at in enumerate(range(0, len(text), size), 2):
+            client.sendall(text[at : at + size])
+            (folder / "compact").touch()
+            has_come(lambda: newest(folder) == number or len(text) <= at + size, "a compaction within the body")
+        expect(reply_of(answers), (200, b""), "the body is whole")
+    expect(server.ask("GET", "/state/a"), (200, text))
+    server.kill()
+
+
+@pytest.mark.parametrize("size, count", [(1_000, 400), (1_000_000, 40)])
+def test_no_request_fails_because_of_compactions(size, count):
+    folder = fresh()
+    # With a worker to spare, a client may be idle for two seconds.
+    server = serving(folder, "--compact-bytes", "8M" if size > 10_000 else "100K", workers="16")
+    pushers = [Pusher(server, f"n{k}", b"x" * size) for k in range(8)]
+    expect(work(server, pushers, count), 1, "tries of a push")
+    expect(newest(folder) > 4, True, newest(folder))
+    expect_served(server, pushers)
+    server.kill()
+    expect_all(folder, pushers, "on connections that last")
 
 
 def grows(folder, size, *words, seconds):

@@ -320,21 +320,31 @@ def send_slowly(connection):
             time.sleep(0.5)
 
 
+def next_run_beside(work):
+    """Returns the seconds until a compaction that is requested while a client works slowly."""
+    server = Serving(fresh(), "--first").listens()
+    server.address, second = f"{LOOPBACK}:{server.port}", server.folder / f"{named(2)}.tfj"
+    push_long(server)
+    with small_connection(server) as connection:
+        threading.Thread(target=work, args=(connection,), daemon=True).start()
+        time.sleep(1)  # in which it has a worker
+        (server.folder / "compact").touch()
+        began = time.monotonic()
+        while not second.exists() and time.monotonic() - began < ENDING_SECONDS[1]:
+            time.sleep(0.05)
+        seconds = time.monotonic() - began
+        expect(server.ask("GET", "/state/b")[0], 404, "in the next run")
+    return seconds
+
+
 @slow
-def test_a_request_in_progress_has_five_seconds_when_its_run_ends():
-    for work in (send_slowly, read_slowly):
-        server = Serving(fresh(), "--first").listens()
-        server.address, second = f"{LOOPBACK}:{server.port}", server.folder / f"{named(2)}.tfj"
-        push_long(server)
-        with small_connection(server) as connection:
-            threading.Thread(target=work, args=(connection,), daemon=True).start()
-            time.sleep(1)  # in which it has a worker
-            (server.folder / "compact").touch()
-            began = time.monotonic()
-            while not second.exists() and time.monotonic() - began < ENDING_SECONDS[1]:
-                time.sleep(0.05)
-            expect_between(time.monotonic() - began, ENDING_SECONDS, f"{work.__name__}: until the next term")
-            expect(server.ask("GET", "/state/b")[0], 404, "in the next term")
+def test_a_reply_in_progress_has_five_seconds_when_its_run_ends():
+    expect_between(next_run_beside(read_slowly), ENDING_SECONDS, "until the next run")
+
+
+def test_a_request_in_progress_delays_no_compaction():
+    # The server looks for the file once a second.
+    expect_between(next_run_beside(send_slowly), (0, 2.5), "until the next run")
 
 
 def test_a_thousand_connections_wait_for_the_only_worker():

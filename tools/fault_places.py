@@ -5,7 +5,7 @@ A contract can't distinguish a refused request for memory, or a failed read, fro
 made. So tools/fault_places.txt lists each place that makes such a fault, or notes one for later,
 with what it passes on, and any other place is reported here. tools/room_requests.py checks the
 requests themselves. `set_len`, `File::create(` and `try_clone` occur nowhere in src/, because no
-contract says what they do to a file."""
+contract says what they do to a file. A listener, and a registry of descriptors, is no file."""
 import re
 
 from repository import TOP
@@ -17,7 +17,7 @@ FAULT = re.compile(
     r"|\blost = true\b|\breason(?: =|:) None\b"
     rf"|{BEFORE}(?:AllocError|SinkFault|SyncFault|AcceptFault|LentFault|OutOfMemory|NoMemory|NoCopy|NoPlace|JournalFault|JournalStopped)\b"
 )
-CALLS = re.compile(r"\bset_len\b|\bFile::create\(|\btry_clone\b")
+CALLS = re.compile(r"\bset_len\b|\bFile::create\(|(?<!\blistener\.)(?<!\bregistry\(\)\.)\btry_clone\b")
 FUNCTION = re.compile(r"^\s*(?:pub(?:\([a-z]+\))? )?(?:const )?(?:unsafe )?fn (\w+)")
 LEFT_OUT = ("tfs_tests", "tfs_bench", "tfs_probe")
 

@@ -1,14 +1,17 @@
 //! Listeners on a TCP address or a unix socket.
 
+use crate::lasting::LastingStream;
 use crate::limits::{LOOK_MILLISECONDS, MAX_WAITING};
+use crate::paused::Paused;
 use crate::transport::Connection;
 use crate::written::Text;
 use std::fs::{self, Files, Permissions};
 use std::io;
 use std::net::{IpAddr, Ipv4Addr, Net, OpenListener, SocketAddr, TcpListener, TcpStream};
-use std::os::fd::{AsFd, AsRawFd, OwnedFd};
+use std::os::fd::{AsFd, AsRawFd, OwnedFd, RawFd};
 use std::os::unix::fs::PermissionsExt;
 use std::os::unix::net::{self, UnixListener, UnixStream};
+use std::sync::Wait;
 use std::time::Duration;
 
 /// The mode of a socket: its user and group may connect.
@@ -41,11 +44,61 @@ impl OpenListener for AnyListener {
             }
             AnyListener::Local(listener) => {
                 let (stream, _) = listener.accept()?;
-                let nowhere = SocketAddr::new(IpAddr::V4(Ipv4Addr::UNSPECIFIED), 0);
-                Ok((AnyStream::Local(stream), nowhere))
+                Ok((AnyStream::Local(stream), unspecified()))
             }
         }
     }
+}
+
+impl AnyListener {
+    /// Returns another handle of the listener.
+    pub(crate) fn another_handle(&self) -> io::Result<AnyListener> {
+        match self {
+            AnyListener::Tcp(listener) => Ok(AnyListener::Tcp(listener.try_clone()?)),
+            AnyListener::Local(listener) => Ok(AnyListener::Local(listener.try_clone()?)),
+        }
+    }
+
+    /// Has accept report that no connection waits, instead of waiting for one.
+    pub(crate) fn never_wait(&self) -> io::Result<()> {
+        match self {
+            AnyListener::Tcp(listener) => listener.set_nonblocking(true),
+            AnyListener::Local(listener) => listener.set_nonblocking(true),
+        }
+    }
+}
+
+impl AsRawFd for AnyListener {
+    fn as_raw_fd(&self) -> RawFd {
+        match self {
+            AnyListener::Tcp(listener) => listener.as_raw_fd(),
+            AnyListener::Local(listener) => listener.as_raw_fd(),
+        }
+    }
+}
+
+impl AsRawFd for AnyStream {
+    fn as_raw_fd(&self) -> RawFd {
+        match self {
+            AnyStream::Tcp(stream) => stream.as_raw_fd(),
+            AnyStream::Local(stream) => stream.as_raw_fd(),
+        }
+    }
+}
+
+impl AnyStream {
+    /// Sets a timeout on reads.
+    pub(crate) fn limit_reads(&self, timeout: Duration) -> io::Result<()> {
+        match self {
+            AnyStream::Tcp(stream) => stream.set_read_timeout(Some(timeout)),
+            AnyStream::Local(stream) => stream.set_read_timeout(Some(timeout)),
+        }
+    }
+}
+
+/// Returns the unspecified address, for a client without a network address.
+pub(crate) fn unspecified() -> SocketAddr {
+    SocketAddr::new(IpAddr::V4(Ipv4Addr::UNSPECIFIED), 0)
 }
 
 impl Connection for AnyStream {
@@ -77,12 +130,14 @@ impl Connection for AnyStream {
         }
     }
 
-    fn into_any(self) -> AnyStream {
-        self
+    fn pause<R: Wait>(self, _rt: &R, _paused: Paused, _until: Duration) {}
+
+    fn into_lasting(self) -> LastingStream {
+        LastingStream::new(self, None)
     }
 }
 
-/// A borrowed listener that returns each connection as an `AnyStream`.
+/// A borrowed listener that returns each connection as a `LastingStream`.
 #[derive(Drop)]
 pub struct LentListener<'l, L: OpenListener> {
     listener: &'l L,
@@ -99,11 +154,11 @@ impl<'l, L: OpenListener> OpenListener for LentListener<'l, L>
 where
     L::Stream: Connection,
 {
-    type Stream = AnyStream;
+    type Stream = LastingStream;
 
-    fn accept(&self) -> io::Result<(AnyStream, SocketAddr)> {
+    fn accept(&self) -> io::Result<(LastingStream, SocketAddr)> {
         let (stream, address) = self.listener.accept()?;
-        Ok((stream.into_any(), address))
+        Ok((stream.into_lasting(), address))
     }
 }
 

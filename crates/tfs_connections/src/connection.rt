@@ -1,6 +1,6 @@
 //! The two ends of a connection, with time limits.
 
-ghost use Rattle.std.specs.Prelude.{◌≡◌, ◌<◌, [], IfOk};
+ghost use Rattle.std.specs.Prelude.{◌≡◌, ◌<◌, IfOk};
 ghost use Rattle.std.specs.Io.{ReadsAtMost, WritesAtMost};
 ghost use Rattle.std.specs.Io.KnownBytes.{ReadConsumes, WriteAppends};
 ghost use Rattle.std.specs.IoError.{error_kind};
@@ -16,7 +16,7 @@ use tfs_conversation::{LentFault, Outlet, Source};
 
 /// The reading end of a connection. It fails if its stream fails, if the client takes too long, or
 /// if the conversation is to end. After a failure each read fails. For proofs, it keeps the bytes
-/// that its stream gave.
+/// that its stream gave, after those of earlier turns that belong to no answered message.
 #[derive(Drop)]
 pub struct Incoming<'t, 'r, 'e, R: Clock, S: Read> {
     timing: &'t Timing<'r, 'e, R>,
@@ -26,15 +26,15 @@ pub struct Incoming<'t, 'r, 'e, R: Clock, S: Read> {
 }
 
 impl<'t, 'r, 'e, R: Clock, S: Read> Incoming<'t, 'r, 'e, R, S> {
-    /// Wraps a stream that hasn't failed.
-    pub fn new(timing: &'t Timing<'r, 'e, R>, stream: S) -> Incoming<'t, 'r, 'e, R, S>
-        ensures given { result.given.bytes ≡ [] }
+    /// Wraps a stream that hasn't failed, from which these bytes were read before.
+    pub fn new(timing: &'t Timing<'r, 'e, R>, stream: S, given: Text) -> Incoming<'t, 'r, 'e, R, S>
+        ensures given { result.given ≡ given }
     {
         Incoming {
             timing,
             stream,
             has_failed: false,
-            given: Text::new(),
+            given,
         }
     }
 }
@@ -54,7 +54,7 @@ impl<'t, 'r, 'e, R: Clock, S: Read> Source for Incoming<'t, 'r, 'e, R, S> {
 
     ghost remaining = { λ i. S.remaining i.stream };
 
-    // The bytes that the stream gave.
+    // The bytes that the stream gave, after those of earlier turns.
     ghost taken = { λ i. Some i.given.bytes };
 
     ghost failed = { λ i. i.has_failed };

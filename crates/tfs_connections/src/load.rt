@@ -1,14 +1,21 @@
 //! How busy the workers of a run are.
 
 use crate::limits::most_slow;
+use std::array;
 use std::sync::atomic::{AtomicU64, Ordering};
 
-/// The number of workers, of workers that wait for a connection, and of workers with a slow client.
+/// The maximal number of slow clients that are told apart. A run has at most so many workers.
+const MAX_SLOW: usize = 16;
+
+/// The number of workers, of workers that wait for a connection, and since when workers have slow
+/// clients.
 #[derive(Drop)]
 pub struct Load {
     workers: u64,
     waiting: AtomicU64,
-    slow: AtomicU64,
+    /// For each slow client, the nanoseconds of the clock at which its request or reply began. Zero
+    /// stands for none.
+    slow: [AtomicU64; MAX_SLOW],
 }
 
 impl Load {
@@ -17,7 +24,7 @@ impl Load {
         Load {
             workers: workers as u64,
             waiting: AtomicU64::new(0),
-            slow: AtomicU64::new(0),
+            slow: array::from_fn(|_| AtomicU64::new(0)),
         }
     }
 
@@ -36,27 +43,36 @@ impl Load {
         self.waiting.load(Ordering::SeqCst) == 0
     }
 
-    /// Records that a worker has a slow client.
-    pub(crate) fn begin_slow(&self) {
-        self.slow.fetch_add(1, Ordering::SeqCst);
+    /// Records that a worker has a slow client, whose request or reply began then. Returns its place
+    /// among the slow clients, if there is one left.
+    pub(crate) fn begin_slow(&self, began: u64) -> Option<usize> {
+        for (place, slow) in self.slow.iter().enumerate() {
+            let order = Ordering::SeqCst;
+            if slow.compare_exchange(0, began.max(1), order, order).is_ok() {
+                return Some(place);
+            }
+        }
+        None
     }
 
-    /// Records that a worker no longer has a slow client.
-    pub(crate) fn end_slow(&self) {
-        self.slow.fetch_sub(1, Ordering::SeqCst);
+    /// Returns true if a worker is to drop its slow client of a place, because no worker is free and
+    /// too many clients are slow, of which the older ones are dropped.
+    pub(crate) fn leaves_slow(&self, place: usize) -> bool {
+        let own = match self.slow.get(place) {
+            Some(slow) => slow.load(Ordering::SeqCst),
+            None => return false,
+        };
+        let younger = self.slow.iter().enumerate().filter(|(other, slow)| {
+            let began = slow.load(Ordering::SeqCst);
+            own < began || own == began && place < *other
+        });
+        self.is_crowded() && most_slow(self.workers) <= younger.count() as u64
     }
 
-    /// Returns true if a worker is to drop its slow client, which then isn't counted any more.
-    pub(crate) fn leaves_slow(&self) -> bool {
-        if !self.is_crowded() {
-            return false;
+    /// Records that a worker no longer has the slow client of a place.
+    pub(crate) fn end_slow(&self, place: usize) {
+        if let Some(slow) = self.slow.get(place) {
+            slow.store(0, Ordering::SeqCst);
         }
-        // A worker uncounts its client before it compares, so that workers that do so concurrently
-        // don't drop more clients than they have to.
-        if self.slow.fetch_sub(1, Ordering::SeqCst) > most_slow(self.workers) {
-            return true;
-        }
-        self.begin_slow();
-        false
     }
 }

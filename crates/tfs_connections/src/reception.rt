@@ -8,15 +8,16 @@ ghost use Rattle.tfs_conversation.specs.Conversation.{HasSpoken, HasTalked};
 use crate::accepting::{AcceptFault, Listening, take_connection};
 use crate::connection::{Incoming, Outgoing};
 use crate::load::Load;
+use crate::paused::{Begun, Paused};
 use crate::timing::Timing;
 use crate::transport::{Connection, LentConnection};
 use crate::written::{Text, Written};
-use std::alloc::Global;
+use std::alloc::{AllocError, Global};
 use std::net::OpenListener;
 use std::sync::Wait;
 use std::sync::atomic::AtomicBool;
 use std::time::Clock;
-use tfs_conversation::{Desk, OwedDesk, Plain, Reads, converse_owed};
+use tfs_conversation::{Conversation, Desk, OwedDesk, Plain, Turn};
 
 /// The setting of conversations: the runtime, the allocator, the flag that asks conversations to
 /// end, the flag that forbids all writes, and the load of the workers.
@@ -145,8 +146,9 @@ impl Texts {
     }
 }
 
-/// Holds a conversation over a desk on a connection, if there is one. Returns what was read and
-/// written.
+/// Holds a turn of a conversation over a desk on a connection, if there is one. If reading pauses,
+/// has the connection wait for its client. Returns what was written, and what was read, after what
+/// earlier turns left unanswered.
 fn converse_on<S: Connection + Drop, D: OwedDesk, R: Wait + Clock>(
     setting: &Setting<'_, R>,
     stream: Option<S>,
@@ -157,33 +159,72 @@ fn converse_on<S: Connection + Drop, D: OwedDesk, R: Wait + Clock>(
     let Some(stream) = stream else {
         return Texts::new();
     };
+    let mut stream = stream;
     if stream.limit().is_err() {
         return Texts::new();
     }
+    let Ok((conversation, begun)) = resume(setting.alloc, stream.take_paused(), desk.wants_heads())
+    else {
+        return Texts::new();
+    };
     desk.note_client(stream.client());
-    let timing = Timing::new(setting.rt, setting.ended, setting.muted, setting.load);
-    let texts = converse_in_time(setting.alloc, &timing, &stream, desk);
+    let mut timing = Timing::new(setting.rt, setting.ended, setting.muted, setting.load);
+    if let Some(place) = stream.place() {
+        timing.outlast(begun, place);
+    }
+    let (texts, left) = converse_in_time(conversation, &timing, &stream, desk);
     timing.end_slow();
+    if let (true, Some(conversation)) = (timing.is_paused(), left) {
+        let paused = pause(conversation, &timing);
+        let until = timing.until(&paused);
+        stream.pause(setting.rt, paused, until);
+    }
     texts
 }
 
-/// Holds a conversation over a desk on a connection within the time limits. Returns what was read
-/// and written.
-fn converse_in_time<S: Connection, D: OwedDesk, C: Clock>(
+/// Returns the conversation that earlier turns have left, or else a new one; and how the request has
+/// begun that was being read, if there is one.
+fn resume(
     alloc: Global,
+    paused: Option<Paused>,
+    keeps_heads: bool,
+) -> Result<(Conversation, Option<Begun>), AllocError> {
+    match paused {
+        Some(Paused::Within(paused, begun)) => Ok((paused.resume(alloc)?, Some(begun))),
+        Some(Paused::Between(reads)) => {
+            Ok((Conversation::after(alloc, keeps_heads, reads)?, None))
+        }
+        None => Ok((Conversation::new(alloc, keeps_heads)?, None)),
+    }
+}
+
+/// Returns what to keep of a conversation until its next turn.
+fn pause<C: Clock>(conversation: Conversation, timing: &Timing<'_, '_, C>) -> Paused {
+    match conversation.pause() {
+        Ok(reads) => Paused::Between(reads),
+        Err(paused) => Paused::Within(paused, timing.begun()),
+    }
+}
+
+/// Holds a turn of a conversation over a desk on a connection within the time limits. Returns what
+/// was written, and what was read, after what earlier turns left unanswered; and the conversation,
+/// if it can be resumed.
+fn converse_in_time<S: Connection, D: OwedDesk, C: Clock>(
+    conversation: Conversation,
     timing: &Timing<'_, '_, C>,
     stream: &S,
     desk: &mut D,
-) -> Texts
-    ensures talked { HasSpoken D.step desk.old desk.new result.read.bytes result.written.bytes }
+) -> (Texts, Option<Conversation>)
+    ensures talked { HasSpoken D.step desk.old desk.new result.0.read.bytes result.0.written.bytes }
 {
-    let mut reader = Incoming::new(timing, LentConnection::of(stream));
+    let given = Text::of(&conversation);
+    let mut reader = Incoming::new(timing, LentConnection::of(stream), given);
     let mut writer = Outgoing::new(timing, LentConnection::of(stream));
-    let mut reads = Reads::new();
-    let _ = converse_owed(alloc, &mut reader, &mut writer, desk, &mut reads);
+    let Turn { left, .. } = conversation.hold(&mut reader, &mut writer, desk);
     let LentConnection { written, .. } = writer.into_stream();
-    Texts {
+    let texts = Texts {
         read: reader.into_given(),
         written,
-    }
+    };
+    (texts, left)
 }

@@ -3,11 +3,15 @@
 ghost use Rattle.std.specs.Prelude.{◌≡◌, []};
 
 use crate::any_listener::AnyStream;
+use crate::lasting::LastingStream;
 use crate::limits::LOOK_MILLISECONDS;
+use crate::parked::ParkedConnections;
+use crate::paused::Paused;
 use crate::written::Text;
 use std::io::{self, Read, Write};
 use std::net::{IpAddr, TcpStream};
 use std::os::unix::net::UnixStream;
+use std::sync::{Arc, Wait};
 use std::time::Duration;
 
 /// A connection to a client.
@@ -31,8 +35,21 @@ pub trait Connection {
         ensures bound { WritesAtMost result text.now }
         ensures bytes { WriteAppends (Some written.old.bytes) (Some written.new.bytes) result text.now };
 
+    /// Returns the place where the connection can wait for its client without a worker.
+    fn place(&self) -> Option<Arc<ParkedConnections>> {
+        None
+    }
+
+    /// Takes what is left of the connection's conversation, if it was paused.
+    fn take_paused(&mut self) -> Option<Paused> {
+        None
+    }
+
+    /// Has the connection wait for its client until `until`, if it can. Otherwise closes it.
+    fn pause<R: Wait>(self, rt: &R, paused: Paused, until: Duration);
+
     /// Converts the connection to the type that workers take.
-    fn into_any(self) -> AnyStream;
+    fn into_lasting(self) -> LastingStream;
 }
 
 impl Connection for TcpStream {
@@ -59,8 +76,10 @@ impl Connection for TcpStream {
         Ok(count)
     }
 
-    fn into_any(self) -> AnyStream {
-        AnyStream::Tcp(self)
+    fn pause<R: Wait>(self, _rt: &R, _paused: Paused, _until: Duration) {}
+
+    fn into_lasting(self) -> LastingStream {
+        LastingStream::new(AnyStream::Tcp(self), None)
     }
 }
 
@@ -87,8 +106,10 @@ impl Connection for UnixStream {
         Ok(count)
     }
 
-    fn into_any(self) -> AnyStream {
-        AnyStream::Local(self)
+    fn pause<R: Wait>(self, _rt: &R, _paused: Paused, _until: Duration) {}
+
+    fn into_lasting(self) -> LastingStream {
+        LastingStream::new(AnyStream::Local(self), None)
     }
 }
 

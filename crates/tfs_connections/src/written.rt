@@ -5,6 +5,7 @@ ghost use Rattle.std.specs.Borrow.{ftrue};
 ghost use Rattle.std.specs.Coded.{coded_ℕ, coded_list};
 
 use std::marker::Model;
+use tfs_conversation::Conversation;
 
 /// The bytes read from a connection, or written to it. Clauses read them as `bytes`. Takes no memory, and its
 /// methods do nothing at run time.
@@ -22,6 +23,14 @@ impl Text {
     #[inline(always)]
     pub(crate) fn new() -> Text
         ensures { result.bytes ≡ [] }
+    {
+        Text {}
+    }
+
+    /// Creates the text of the bytes that earlier turns of a conversation have left.
+    #[inline(always)]
+    pub(crate) fn of(_conversation: &Conversation) -> Text
+        ensures { result.bytes ≡ _conversation.now.rest }
     {
         Text {}
     }

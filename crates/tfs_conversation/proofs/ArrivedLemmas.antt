@@ -11,13 +11,15 @@ use Rattle.tfs_conversation.specs.declared.input.Arrived.{Arrived}
 use Rattle.tfs_conversation.specs.declared.ended.Ended.{Ended}
 use Rattle.tfs_conversation.specs.declared.ended.Ended.TheVariants.{Clean, Cut}
 use Rattle.tfs_http.specs.declared.fault.ServeFault.{ServeFault}
+use Rattle.tfs_http.specs.declared.fault.ServeFault.TheVariants.{Read}
 
 -- What holds of a result also holds of a result equal to it.
 pub what_comes : (bytes left : List ℕ) (before after : ℕ) (a b : Result (Option Arrived) ServeFault) → a ≡ b
-    → IfOk b (ArrivesOrStays bytes left) × IfErr b (λ fault. BreaksThere bytes fault before after)
-    → IfOk a (ArrivesOrStays bytes left) × IfErr a (λ fault. BreaksThere bytes fault before after)
+    → IfOk b (ArrivesOrStays bytes left) × IfErr b (λ fault. BreaksThere bytes fault before after × (fault ≡ Read → left ≡ bytes))
+    → IfOk a (ArrivesOrStays bytes left) × IfErr a (λ fault. BreaksThere bytes fault before after × (fault ≡ Read → left ≡ bytes))
 what_comes bytes left before after a b is p =
-    subst (λ (r : Result (Option Arrived) ServeFault). IfOk r (ArrivesOrStays bytes left) × IfErr r (λ fault. BreaksThere bytes fault before after))
+    subst (λ (r : Result (Option Arrived) ServeFault). IfOk r (ArrivesOrStays bytes left)
+    × IfErr r (λ fault. BreaksThere bytes fault before after × (fault ≡ Read → left ≡ bytes)))
     (sym is) p
 
 -- Input that has arrived is the next input of the bytes.

@@ -13,7 +13,7 @@ use Rattle.tfs_conversation.specs.Conversation.{Said, said_text, is_open, Step, 
 use Rattle.tfs_conversation.specs.Turns.{moment, HasBroken}
 use Rattle.tfs_http.specs.Lent.{WritesPart}
 use Rattle.tfs_http.specs.declared.fault.ServeFault.{ServeFault}
-use Rattle.tfs_http.specs.declared.fault.ServeFault.TheVariants.{Write}
+use Rattle.tfs_http.specs.declared.fault.ServeFault.TheVariants.{Read, Write, NoMemory}
 use Rattle.tfs_conversation.proofs.CourseLemmas.{closing_form, course_of, takes_none, takes_refusal, takes_one}
 use Rattle.tfs_conversation.proofs.IoLemmas.{Known, Returns}
 use Rattle.tfs_conversation.proofs.ConversationLemmas.{moves_reading, moves_writing}
@@ -76,3 +76,10 @@ module _ {S : Type 0} (step : Step S) where
         text_is = w.split;
         comes_at = inr (w.part, inl (refusal, refl, sym w.split), w.one_of);
       })
+
+-- An error while a text is written isn't one of the reader.
+pub no_reading : (into writer : Option (List ℕ)) (text : List ℕ) (fault : ServeFault) → WritesPart into writer text fault → fault ≡ Read → ⊥
+no_reading into writer text fault w is = elim w.one_of [
+  | inl write ↦ (let wrong : Read ≡ Write = sym is ∙ write.0 in cc)
+  | inr memory ↦ (let wrong : Read ≡ NoMemory = sym is ∙ memory.0 in cc)
+]

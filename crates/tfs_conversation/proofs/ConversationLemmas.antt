@@ -14,7 +14,7 @@ use Rattle.tfs_conversation.specs.Messages.{Stop}
 use Rattle.tfs_conversation.specs.Arrived.{EndsSo}
 use Rattle.tfs_conversation.specs.Conversation.{Said, said_text, is_open, Step, AnswersRequest, Course, messages_of, course_text, TakesCourse}
 use Rattle.tfs_conversation.specs.Conversation.{IsReadThrough, ComesInReads}
-use Rattle.tfs_conversation.specs.Turns.{Moment, moment, Moves, Went, HasEnded, HasBroken}
+use Rattle.tfs_conversation.specs.Turns.{Moment, moment, Moves, Went, HasEnded, HasBroken, HasStopped}
 use Rattle.tfs_http.specs.declared.fault.ServeFault.{ServeFault}
 use Rattle.tfs_conversation.specs.declared.ended.Ended.{Ended}
 use Rattle.tfs_conversation.specs.declared.ended.Ended.TheVariants.{Asked, Refused}
@@ -114,6 +114,10 @@ module _ {S : Type 0} (step : Step S) where
         text_is = text_later a b w d.course ∙ ap (λ t. w.text ++ t) d.text_is ∙ sym (append_assoc w.text e.text d.lost);
         comes_at = comes_later fault w.does.exchanges d.course d.lost a.reads b.reads c.reads w.came.counted w.does.goes_on d.comes_at;
       })
+
+  -- If a conversation stops after a turn, it stops from the moment before the turn.
+  pub went_then_stopped : (a b c : Moment S) (fault : ServeFault) → Went step a b → HasStopped step b c fault → HasStopped step a c fault
+  went_then_stopped a b c fault w s = (went_then_broken a b c fault w s.0, λ is. went_then a b c w (s.1 is))
 
   -- ---- the turns
 

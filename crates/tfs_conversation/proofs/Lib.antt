@@ -9,3 +9,5 @@ pub mod ArrivedLemmas
 pub mod StepLemmas
 pub mod OutputLemmas
 pub mod ExistenceLemmas
+pub mod ResumedLemmas
+pub mod Sent

@@ -1,10 +1,11 @@
 -- The steps of a conversation.
-use Rattle.std.specs.Prelude.{◌≡◌, ◌+◌, ◌-◌, ◌*◌, ℕ, List, ◌++◌, length, flat_map, Option, None, false}
+use Rattle.std.specs.Prelude.{◌≡◌, ◌+◌, ◌-◌, ◌*◌, ℕ, List, ◌++◌, length, flat_map, Option, None, false, Result, MatchResult}
 use Rattle.std.specs.Io.KnownBytes.{Appends, Consumes}
 use Rattle.tfs_conversation.specs.Conversation.{Step, Exchange, requests_of, exchange_text, AreOpen, TakesCourse, IsReadThrough, ComesInReads, Talks, Breaks}
 use Rattle.tfs_conversation.specs.Messages.{one_asks}
 use Rattle.tfs_conversation.specs.declared.ended.Ended.{Ended}
 use Rattle.tfs_http.specs.declared.fault.ServeFault.{ServeFault}
+use Rattle.tfs_http.specs.declared.fault.ServeFault.TheVariants.{Read}
 
 -- Desk, bytes to read and read, bytes written, read count, and unused input.
 pub record Moment (S : Type 0) : Type 0 where
@@ -46,6 +47,20 @@ module _ {S : Type 0} (step : Step S) where
   abbrev pub HasBroken : Moment S → Moment S → ServeFault → Type 0
   HasBroken from to fault = Moves from to (λ bytes text. Breaks step from.desk to.desk bytes text fault from.reads to.reads)
 
+  -- An error breaks the conversation off. After an error of the reader it can go on.
+  abbrev pub HasStopped : Moment S → Moment S → ServeFault → Type 0
+  HasStopped from to fault = HasBroken from to fault × (fault ≡ Read → Went from to)
+
+  -- Between two moments a turn of a conversation ends, or an error breaks it off.
+  abbrev pub HasTurned : Moment S → Moment S → Result Ended ServeFault → Type 0
+  HasTurned from to end = MatchResult end (HasEnded from to) (HasStopped from to)
+
 -- A bound on the steps left: each makes a read or uses at least one byte.
 abbrev pub work_left : ℕ → List ℕ → ℕ
 work_left reads input = (1048576 - reads) * (65536 + 1) + length input
+
+-- What is left of a conversation that can go on: the bytes that belong to no answered message, and
+-- the number of reads so far.
+pub record Left : Type 0 where
+  pub rest : List ℕ
+  pub reads : ℕ

@@ -1,10 +1,10 @@
 //! Conversations: requests in, replies out.
 
-ghost use Rattle.std.specs.Prelude.{◌≡◌, ◌≤◌, ◌<◌, ◌⊎◌, ◌++◌, ℕ, List, [], length, Some, None, Ok, Err, true, false, if◌then◌else◌, IfOk, IfErr, IfSome, OnOk};
+ghost use Rattle.std.specs.Prelude.{◌≡◌, ◌≤◌, ◌<◌, ◌⊎◌, ◌++◌, ◌↔◌, ℕ, List, [], length, Some, None, Ok, Err, true, false, if◌then◌else◌, IsTrue, IfOk, IfErr, IfSome, OnOk};
 ghost use Rattle.std.specs.Io.KnownBytes.{Appends, Consumes};
 ghost use Rattle.tfs_framing.specs.Form.{form_of};
 ghost use Rattle.tfs_conversation.specs.Conversation.{Said, said_text, is_open, Withholds, AnswersRequest, ComesInReads, Talks, Breaks, IsReadThrough};
-ghost use Rattle.tfs_conversation.specs.Turns.{moment, Went, HasEnded, HasBroken, work_left};
+ghost use Rattle.tfs_conversation.specs.Turns.{moment, Went, HasEnded, HasStopped, work_left};
 ghost use Rattle.tfs_http.specs.Lent.{TellsReader, TellsWriter, WritesPart};
 ghost use Rattle.tfs_http.specs.declared.fault.ServeFault.TheVariants.{Write as WriteFault};
 ghost use Rattle.tfs_conversation.specs.declared.ended.Ended.TheVariants.{Asked};
@@ -60,7 +60,7 @@ pub fn converse_owed<R: Source, W: Outlet, D: OwedDesk>(
 
 /// The memory of a conversation.
 #[derive(Drop)]
-struct Connection {
+pub(crate) struct Connection {
     alloc: Global,
     routes: Routes,
     input: Input,
@@ -69,20 +69,43 @@ struct Connection {
 
 impl Connection {
     /// Makes a connection that has read nothing yet.
-    fn new(alloc: Global, keeps_heads: bool) -> Result<Connection, AllocError>
+    pub(crate) fn new(alloc: Global, keeps_heads: bool) -> Result<Connection, AllocError>
         ensures { IfOk result (λ connection. connection.input ≡ []) }
+    {
+        let input = Input::new(alloc, keeps_heads)?;
+        Connection::after(alloc, input)
+    }
+
+    /// Makes a connection that has read this input.
+    pub(crate) fn after(alloc: Global, input: Input) -> Result<Connection, AllocError>
+        ensures { IfOk result (λ connection. connection.input ≡ input) }
     {
         Ok(Connection {
             alloc,
             routes: Routes::new(alloc)?,
-            input: Input::new(alloc, keeps_heads)?,
+            input,
             buffer: ReplyBuffer::new(alloc)?,
         })
+    }
+
+    /// Returns the input.
+    pub(crate) fn into_input(self) -> Input
+        ensures { result ≡ self.input }
+    {
+        let Connection { input, .. } = self;
+        input
+    }
+
+    /// Returns true if nothing was read of the next message.
+    pub(crate) fn is_between(&self) -> bool
+        ensures { IsTrue result ↔ (self.now.input ≡ []) }
+    {
+        self.input.is_empty()
     }
 }
 
 /// Reads and answers until the conversation ends.
-fn run<R: Source, W: Outlet, D: OwedDesk>(
+pub(crate) fn run<R: Source, W: Outlet, D: OwedDesk>(
     connection: &mut Connection,
     reader: &mut R,
     writer: &mut W,
@@ -91,7 +114,7 @@ fn run<R: Source, W: Outlet, D: OwedDesk>(
 ) -> Result<Ended, ServeFault>
     ensures ended { IfOk result (HasEnded D.step (moment desk.old (R.remaining reader.old, R.taken reader.old) (W.contents writer.old) reads.old connection.old.input)
         (moment desk.new (R.remaining reader.new, R.taken reader.new) (W.contents writer.new) reads.new connection.new.input)) }
-    ensures fault { IfErr result (HasBroken D.step (moment desk.old (R.remaining reader.old, R.taken reader.old) (W.contents writer.old) reads.old connection.old.input)
+    ensures fault { IfErr result (HasStopped D.step (moment desk.old (R.remaining reader.old, R.taken reader.old) (W.contents writer.old) reads.old connection.old.input)
         (moment desk.new (R.remaining reader.new, R.taken reader.new) (W.contents writer.new) reads.new connection.new.input)) }
     ensures reader { TellsReader result (R.failed reader.old) (R.failed reader.new) }
     ensures writer { TellsWriter result (W.failed writer.old) (W.failed writer.new)
@@ -124,7 +147,7 @@ fn turn<R: Source, W: Outlet, D: OwedDesk>(
     ensures ended { IfOk result (λ end. IfSome end (HasEnded D.step
         (moment desk.old (R.remaining reader.old, R.taken reader.old) (W.contents writer.old) reads.old connection.old.input)
         (moment desk.new (R.remaining reader.new, R.taken reader.new) (W.contents writer.new) reads.new connection.new.input))) }
-    ensures fault { IfErr result (HasBroken D.step (moment desk.old (R.remaining reader.old, R.taken reader.old) (W.contents writer.old) reads.old connection.old.input)
+    ensures fault { IfErr result (HasStopped D.step (moment desk.old (R.remaining reader.old, R.taken reader.old) (W.contents writer.old) reads.old connection.old.input)
         (moment desk.new (R.remaining reader.new, R.taken reader.new) (W.contents writer.new) reads.new connection.new.input)) }
     ensures reader { TellsReader result (R.failed reader.old) (R.failed reader.new) }
     ensures writer { TellsWriter result (W.failed writer.old) (W.failed writer.new)

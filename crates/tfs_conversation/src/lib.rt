@@ -13,6 +13,7 @@ mod laws;
 mod owed;
 mod reads;
 mod rebase;
+mod resumed;
 mod table_desk;
 
 pub use buffer::ReplyBuffer;
@@ -24,5 +25,6 @@ pub use laws::{bytes_have_an_output, bytes_have_one_list_of_messages, bytes_have
 pub use owed::OwedDesk;
 pub use reads::{MAX_READS, Reads};
 pub use rebase::run_rebase;
+pub use resumed::{Conversation, PausedConversation, Turn};
 pub use table_desk::{TableDesk, converse_over_table};
 pub use tfs_http::{LentFault, Outlet, ServeFault, Source, Watched};

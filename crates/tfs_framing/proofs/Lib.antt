@@ -27,3 +27,4 @@ pub mod DigestLemmas
 pub mod PrefixLemmas
 mod Walks
 pub mod DecoderLemmas
+pub mod Sent

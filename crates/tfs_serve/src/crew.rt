@@ -19,7 +19,7 @@ use std::snapshot::Snapshot;
 use std::sync::Wait;
 use std::thread::Threads;
 use std::time::Clock;
-use tfs_connections::{AnyStream, Connection, LentListener, Written};
+use tfs_connections::{Connection, LastingStream, LentListener, Written};
 use tfs_records::Sink;
 use tfs_shared::{Naming, Session, Shared};
 use tfs_table::Table;
@@ -138,7 +138,7 @@ fn make_members<J: Naming, G: Gate + Drop>(
 /// Runs the members, and returns them when each has finished its work.
 fn run_members<
     J: Naming + Send + Sync,
-    L: OpenListener<Stream = AnyStream> + Sync,
+    L: OpenListener<Stream = LastingStream> + Sync,
     K: Sink + Send,
     G: Gate + Send + Drop,
     R: Threads + Wait + Clock + Sync,

@@ -29,11 +29,12 @@ pub use runtime::Runtime;
 pub use serving::work;
 pub use session_desk::{MAX_BYTES_AT_ONCE, Service, SessionDesk};
 pub use tfs_connections::{
-    AcceptError, AcceptFault, AnyListener, AnyStream, Connection, LOOK_MILLISECONDS, Load,
-    MAX_CROWDED_IDLE_MILLISECONDS, MAX_ENDING_SECONDS, MAX_IDLE_SECONDS, MAX_REPLY_SECONDS,
-    MAX_REQUEST_SECONDS, MAX_WAIT_SECONDS, MAX_WAITING, PAUSE_MILLISECONDS, REPLY_BYTES_A_SECOND,
-    Remedy, SLOW_BYTES_A_SECOND, SLOW_SECONDS, WORKERS_FOR_A_SLOW_CLIENT, Written, bind_local,
-    let_wait, limit_waits, remedy_of,
+    AcceptError, AcceptFault, AnyListener, AnyStream, Connection, LOOK_MILLISECONDS, LastingStream,
+    LentListener, Load, MAX_CROWDED_IDLE_MILLISECONDS, MAX_ENDING_SECONDS, MAX_IDLE_SECONDS,
+    MAX_PARKED, MAX_PARKED_SECONDS, MAX_REPLY_SECONDS, MAX_REQUEST_SECONDS, MAX_WAIT_SECONDS,
+    MAX_WAITING, PAUSE_MILLISECONDS, ParkedConnections, REPLY_BYTES_A_SECOND, Remedy,
+    SLOW_BYTES_A_SECOND, SLOW_SECONDS, WORKERS_FOR_A_SLOW_CLIENT, Written, bind_local, let_wait,
+    limit_waits, remedy_of,
 };
 pub use tfs_conversation::{
     Desk, Ended, LentFault, MAX_READS, Outlet, Reads, RunFault, ServeFault, Source, TableDesk,

@@ -17,7 +17,7 @@ use std::sync::{Mutex, Wait};
 use std::thread;
 use std::thread::Threads;
 use std::time::Clock;
-use tfs_connections::{AcceptFault, AnyStream, Load, Reception, Written};
+use tfs_connections::{AcceptFault, LastingStream, Load, Reception, Written};
 use tfs_records::Sink;
 use tfs_shared::{Naming, Session, Shared};
 
@@ -33,7 +33,7 @@ pub(crate) struct Member<J: Naming, G: Gate> {
 
 impl<J: Naming, G: Gate> Member<J, G> {
     /// Works until the gate admits no further connection, or the listener fails.
-    fn run<L: OpenListener<Stream = AnyStream>, K: Sink, R: Wait + Clock, H: Hold>(
+    fn run<L: OpenListener<Stream = LastingStream>, K: Sink, R: Wait + Clock, H: Hold>(
         &mut self,
         post: &Post<'_, '_, J, K, R, H>,
         listener: &L,
@@ -54,7 +54,7 @@ impl<J: Naming, G: Gate> Member<J, G> {
 /// Runs the members, concurrently if the system creates the threads, each until its gate admits no
 /// further connection or its listener fails.
 pub(crate) fn work_until<
-    L: OpenListener<Stream = AnyStream> + Sync,
+    L: OpenListener<Stream = LastingStream> + Sync,
     J: Naming + Send + Sync,
     K: Sink + Send,
     G: Gate + Send,

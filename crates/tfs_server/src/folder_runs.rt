@@ -21,7 +21,9 @@ use tfs_durable::{Device, Durable, FileDevice};
 use tfs_files::{DurableJournal, JournalSink, PositionFile, ServedJournal};
 use tfs_metrics::{Journal, Meter};
 use tfs_runs::{NotCompacted, Runs, Tally};
-use tfs_serve::{AcceptFault, AnyListener, AnyStream, Heard, Served, first_fault};
+use tfs_serve::{
+    AcceptFault, AnyListener, Heard, LastingStream, ParkedConnections, Served, first_fault,
+};
 use tfs_table::Table;
 
 /// The runs of a folder: what they share, what to report when the next one starts, and the journal
@@ -36,6 +38,7 @@ pub(crate) struct FolderRuns<'t, 'w, R: AllocGlobal + Wait + Clock> {
     pub(crate) in_place: DurableJournal<'w>,
     pub(crate) least: &'t Mutex<Option<PositionFile>>,
     pub(crate) listener: &'t AnyListener,
+    pub(crate) parked: Option<&'t Arc<ParkedConnections>>,
     pub(crate) notice: Cell<Notice>,
     pub(crate) placed: Snapshot<Table<JournalSink>>,
     pub(crate) meter: Option<&'t Meter>,
@@ -91,9 +94,9 @@ impl<'t, 'w, R: AllocGlobal + Wait + Clock + Sync> Runs for FolderRuns<'t, 'w, R
 
     type Sink = JournalSink;
 
-    type Stream = AnyStream;
+    type Stream = LastingStream;
 
-    type Listener = Listening<'t, 'w>;
+    type Listener = Listening<'t, 'w, R>;
 
     type Hold = SyncHold<'t, 'w, R>;
 
@@ -132,7 +135,7 @@ impl<'t, 'w, R: AllocGlobal + Wait + Clock + Sync> Runs for FolderRuns<'t, 'w, R
         }
     }
 
-    fn listen(&self) -> Result<Listening<'t, 'w>, CompactionFault> {
+    fn listen(&self) -> Result<Listening<'t, 'w, R>, CompactionFault> {
         let waited = self.watch.go_on();
         let notice = self.notice.replace(Notice::Nothing);
         self.measure(&notice, waited);
@@ -141,9 +144,11 @@ impl<'t, 'w, R: AllocGlobal + Wait + Clock + Sync> Runs for FolderRuns<'t, 'w, R
         }
         match self.journal.clone() {
             Ok(journal) => Ok(Listening {
+                rt: self.rt,
                 listener: self.listener,
                 watch: self.watch,
                 journal,
+                parked: self.parked,
             }),
             Err(_) => Err(CompactionFault::NoMemory),
         }

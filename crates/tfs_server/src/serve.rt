@@ -20,7 +20,7 @@ use tfs_files::{
 };
 use tfs_metrics::{Journal, Meter};
 use tfs_runs::{Tally, serve_runs};
-use tfs_serve::{AcceptFault, AnyListener, ClientFields};
+use tfs_serve::{AcceptFault, AnyListener, ClientFields, ParkedConnections};
 use tfs_table::Table;
 
 /// How much the journal of a run may grow before it is compacted, in bytes and in entries.
@@ -99,6 +99,8 @@ pub fn serve_folder<R: AllocGlobal + Threads + Wait + Clock + Sync>(
         return unread(table);
     };
     let least = Mutex::new(least);
+    // Without it, each connection has its worker until it ends.
+    let parked = ParkedConnections::beside(host, rt.alloc(), &listener).ok();
     let watch = Watch::new(host, lock, plan, in_place);
     watch.open(rt, in_place, table.base().position());
     measure(meter, table.position(), watch.bytes());
@@ -111,6 +113,7 @@ pub fn serve_folder<R: AllocGlobal + Threads + Wait + Clock + Sync>(
         in_place,
         least: &least,
         listener: &listener,
+        parked: parked.as_ref(),
         notice: Cell::new(Notice::First),
         placed: Snapshot::of(&table),
         meter,

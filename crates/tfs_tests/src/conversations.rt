@@ -8,7 +8,10 @@ use std::alloc::Global;
 use std::io;
 use std::process::Abort;
 use tfs_calls::{Call, Refusal, Reply};
-use tfs_conversation::{Desk, Ended, Reads, ServeFault, TableDesk, Watched, converse_over_table};
+use tfs_conversation::{
+    Conversation, Desk, Ended, Plain, Reads, ServeFault, TableDesk, Turn, Watched,
+    converse_over_table,
+};
 use tfs_records::Discard;
 use tfs_table::Table;
 
@@ -236,4 +239,55 @@ fn a_desk_over_a_table_answers(rt: HostRuntime) {
     };
     let reply = desk.answer(Call::Read(name_of(&rt)));
     assert!(rt; matches!(reply, Reply::Refused(Refusal::NoState)));
+}
+
+/// Holds the conversation of the push and the read over a new table in two turns, in reads of at
+/// most `most` bytes; the reader of the first turn fails after `count` bytes. Checks that both turns
+/// together have the replies, and whether the first one ended between two messages.
+fn goes_on(rt: &(impl Alloc<A = Global> + Abort), count: usize, most: usize) {
+    let mut table = Table::new(rt.alloc(), Discard).ok().expect(rt, "a table");
+    let mut desk = TableDesk {
+        alloc: rt.alloc(),
+        table: &mut table,
+    };
+    let mut desk = Plain { desk: &mut desk };
+    let (front, rest) = PUSH_AND_READ.as_bytes().split_at(count.min(130));
+    let mut writer = Watched::new(Taking::new(REPLIES.as_bytes(), usize::MAX, usize::MAX));
+    let conversation = Conversation::new(rt.alloc(), false).ok();
+    let mut reader = Watched::new(Pieces::new(front, most, true));
+    let turn = conversation
+        .expect(rt, "memory")
+        .hold(&mut reader, &mut writer, &mut desk);
+    let Turn { end, left } = turn;
+    assert!(rt; end == Err(ServeFault::Read), "{count}");
+    let conversation = paused_and_resumed(rt, left, count);
+    let mut reader = Watched::new(Pieces::new(rest, most, false));
+    let Turn { end, left } = conversation.hold(&mut reader, &mut writer, &mut desk);
+    assert!(rt; end == Ok(Ended::Clean) && left.is_none(), "{count}");
+    assert!(rt; writer.inner.has_all(), "{count}");
+}
+
+/// Pauses and resumes the conversation that `count` bytes have left. Checks whether it was between
+/// two messages.
+fn paused_and_resumed(
+    rt: &(impl Alloc<A = Global> + Abort),
+    left: Option<Conversation>,
+    count: usize,
+) -> Conversation {
+    let paused = left.expect(rt, "a conversation that can go on").pause();
+    let is_between = matches!(count, 0 | 96 | 130);
+    assert!(rt; paused.is_ok() == is_between, "{count}");
+    let resumed = match paused {
+        Ok(reads) => Conversation::after(rt.alloc(), false, reads),
+        Err(paused) => paused.resume(rt.alloc()),
+    };
+    resumed.ok().expect(rt, "memory")
+}
+
+#[test]
+fn a_conversation_goes_on_where_its_reader_failed(rt: HostRuntime) {
+    for count in 0..131 {
+        goes_on(&rt, count, 1);
+        goes_on(&rt, count, usize::MAX);
+    }
 }

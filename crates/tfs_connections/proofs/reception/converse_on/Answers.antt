@@ -13,3 +13,10 @@ returns-then-is_err g c = record {
   talked = talked_no_bytes g.D.OwedDesk.step c.args.desk.now c.new-then-is_err.result.read.bytes c.new-then-is_err.result.written.bytes
       c.new-then-is_err.ensures.read c.new-then-is_err.ensures.written;
 }
+
+pub returns-in_default-resume : goal.returns-in_default-resume
+returns-in_default-resume g c = record {
+  talked = talked_no_bytes g.D.OwedDesk.step c.args.desk.now c.new-in_default-resume.result.read.bytes
+      c.new-in_default-resume.result.written.bytes c.new-in_default-resume.ensures.read
+      c.new-in_default-resume.ensures.written;
+}

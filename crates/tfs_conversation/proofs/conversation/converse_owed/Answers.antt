@@ -3,7 +3,7 @@ use Rattle.std.proofs.Common.{◌≡◌, List, ℕ, [], ◌++◌, Result, Ok, Er
 use Rattle.tfs_framing.proofs.MessageLemmas.{no_bytes_are_unfinished}
 use Rattle.std.specs.Io.KnownBytes.{Appends, Consumes}
 use Rattle.tfs_conversation.specs.Conversation.{Breaks, ComesInReads, IsReadThrough, Step, Talks}
-use Rattle.tfs_conversation.specs.Turns.{HasBroken, HasEnded, Moment}
+use Rattle.tfs_conversation.specs.Turns.{HasEnded, HasStopped, Moment}
 use Rattle.tfs_conversation.specs.declared.ended.Ended.{Ended}
 use Rattle.tfs_http.specs.declared.fault.ServeFault.{ServeFault}
 use Rattle.tfs_conversation.proofs.BrokenLemmas.{broken_between}
@@ -27,18 +27,18 @@ module _ {S : Type 0} (step : Step S) (from to : Moment S) (none : from.input �
   ended_told (Err fault) h = tt
 
   -- From a moment without input, an error breaks off a conversation of the bytes read.
-  broken_told : (r : Result Ended ServeFault) → IfErr r (HasBroken step from to) → IfErr r (λ fault. (bytes : List ℕ) × (text : List ℕ)
+  broken_told : (r : Result Ended ServeFault) → IfErr r (HasStopped step from to) → IfErr r (λ fault. (bytes : List ℕ) × (text : List ℕ)
       × Consumes from.reader.0 to.reader.0 bytes × Appends from.reader.1 to.reader.1 bytes × Appends from.writer to.writer text × ComesInReads bytes from.reads to.reads
       × Breaks step from.desk to.desk bytes text fault from.reads to.reads)
   broken_told (Ok ended) h = tt
   broken_told (Err fault) h = (
-    h.more,
-    h.text,
-    h.consumed,
-    h.taken,
-    h.appended,
-    h.came,
-    subst (λ (t : List ℕ). Breaks step from.desk to.desk (t ++ h.more) h.text fault from.reads to.reads) none h.does,
+    h.0.more,
+    h.0.text,
+    h.0.consumed,
+    h.0.taken,
+    h.0.appended,
+    h.0.came,
+    subst (λ (t : List ℕ). Breaks step from.desk to.desk (t ++ h.0.more) h.0.text fault from.reads to.reads) none h.0.does,
   )
 
 -- If input ended the conversation, the reader is at its end.

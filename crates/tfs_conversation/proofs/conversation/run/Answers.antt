@@ -2,7 +2,7 @@
 use Rattle.std.proofs.Common.{◌≡◌, Bool, Option, IfSome, Ok, Err, refl, ◌∙◌, ap, subst, inl, inr}
 use Rattle.tfs_conversation.specs.declared.ended.Ended.{Ended}
 use Rattle.tfs_conversation.specs.Turns.{moment, HasEnded}
-use Rattle.tfs_conversation.proofs.ConversationLemmas.{went_nowhere, went_then, went_then_ended, went_then_broken}
+use Rattle.tfs_conversation.proofs.ConversationLemmas.{went_nowhere, went_then, went_then_ended, went_then_stopped}
 use Rattle.tfs_http.specs.Lent.{writing_failed}
 use Rattle.tfs_http.specs.declared.fault.ServeFault.TheVariants.{Write}
 use Rattle.tfs_conversation.proofs.conversation.run.Goals as goal
@@ -29,7 +29,7 @@ loop-end-preserved g c = record {
 }
 
 pub returns-in-Err-clause-fault : goal.returns-in-Err-clause-fault
-returns-in-Err-clause-fault g c = went_then_broken g.D.OwedDesk.step _ _ _ c.in-Err.fault c.loop-end.invariant.went c.in-Err.ensures.fault
+returns-in-Err-clause-fault g c = went_then_stopped g.D.OwedDesk.step _ _ _ c.in-Err.fault c.loop-end.invariant.went c.in-Err.ensures.fault
 
 pub returns-in-Err-clause-writer : goal.returns-in-Err-clause-writer
 returns-in-Err-clause-writer g c = elim c.in-Err.ensures.writer [

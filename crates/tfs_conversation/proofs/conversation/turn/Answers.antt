@@ -10,7 +10,7 @@ use Rattle.tfs_conversation.specs.declared.ended.Ended.TheVariants.{Asked, Refus
 use Rattle.tfs_conversation.proofs.ArrivedLemmas.{some_arrives, none_arrives, ended_through, less_behind}
 use Rattle.tfs_conversation.proofs.ConversationLemmas.{went_reading, went_then, went_then_ended, went_then_broken}
 use Rattle.tfs_conversation.proofs.ConversationLemmas.{ended_with_input, went_answering, ended_asked, ended_refusing, not_asked, asked_ends}
-use Rattle.tfs_conversation.proofs.BrokenLemmas.{broken_between, broken_answering, broken_refusing}
+use Rattle.tfs_conversation.proofs.BrokenLemmas.{broken_between, broken_answering, broken_refusing, no_reading}
 use Rattle.tfs_conversation.proofs.conversation.turn.Goals as goal
 
 -- ---- no input, or an error
@@ -25,10 +25,14 @@ returns-in-Ok-None-clause-went g c e =
 
 pub returns-in-Err-clause-fault : goal.returns-in-Err-clause-fault
 returns-in-Err-clause-fault g c =
-    let read = c.in-Err.ensures.bytes in
-    broken_between g.D.OwedDesk.step c.args.desk.now (g.R.Source.remaining c.args.reader.now, g.R.Source.taken c.args.reader.now) (g.R.Source.remaining c.arrive.new.reader, g.R.Source.taken c.arrive.new.reader)
-    (g.W.Outlet.contents c.args.writer.now) c.args.reads.now c.arrive.new.reads c.args.connection.now.input
-    c.arrive.new.self read.0 c.in-Err.fault read.1 read.2 read.4
+    let read = c.in-Err.ensures.bytes in (
+      broken_between g.D.OwedDesk.step c.args.desk.now (g.R.Source.remaining c.args.reader.now, g.R.Source.taken c.args.reader.now) (g.R.Source.remaining c.arrive.new.reader, g.R.Source.taken c.arrive.new.reader)
+          (g.W.Outlet.contents c.args.writer.now) c.args.reads.now c.arrive.new.reads c.args.connection.now.input
+          c.arrive.new.self read.0 c.in-Err.fault read.1 read.2 read.4.0,
+      λ is. went_reading g.D.OwedDesk.step c.args.desk.now (g.R.Source.remaining c.args.reader.now, g.R.Source.taken c.args.reader.now) (g.R.Source.remaining c.arrive.new.reader, g.R.Source.taken c.arrive.new.reader)
+          (g.W.Outlet.contents c.args.writer.now) c.args.reads.now c.arrive.new.reads c.args.connection.now.input
+          c.arrive.new.self read.0 (read.4.1 is) read.1 read.2,
+    )
 
 -- ---- a message
 
@@ -100,21 +104,23 @@ returns-in-Message-clause-fault g c =
     let read = c.in-Ok-Some.ensures.bytes in
     let message = some_arrives (c.args.connection.now.input ++ read.0) c.arrive.new.self c.in-Ok-Some.field-0 c.in-Ok-Some.arrived
     (Arrived.Message c.in-Message.request) c.in-Ok-Some.field-0-is c.in-Message.is read.3 in
-    let reply = c.in-Err-reply_to.ensures.err in
-    went_then_broken g.D.OwedDesk.step
-    (moment c.args.desk.now (g.R.Source.remaining c.args.reader.now, g.R.Source.taken c.args.reader.now) (g.W.Outlet.contents c.args.writer.now) c.args.reads.now c.args.connection.now.input)
-    (moment c.args.desk.now (g.R.Source.remaining c.arrive.new.reader, g.R.Source.taken c.arrive.new.reader) (g.W.Outlet.contents c.args.writer.now)
-    c.arrive.new.reads (c.args.connection.now.input ++ read.0))
-    (moment c.reply_to.new.desk (g.R.Source.remaining c.arrive.new.reader, g.R.Source.taken c.arrive.new.reader) (g.W.Outlet.contents c.reply_to.new.writer)
-    c.arrive.new.reads c.reply_to.new.connection.input)
-    c.in-Err-reply_to.fault (went_reading g.D.OwedDesk.step c.args.desk.now (g.R.Source.remaining c.args.reader.now, g.R.Source.taken c.args.reader.now) (g.R.Source.remaining c.arrive.new.reader, g.R.Source.taken c.arrive.new.reader)
-    (g.W.Outlet.contents c.args.writer.now) c.args.reads.now c.arrive.new.reads c.args.connection.now.input
-    (c.args.connection.now.input ++ read.0) read.0 refl read.1 read.2)
-    (broken_answering g.D.OwedDesk.step c.args.desk.now c.reply_to.new.desk
-    (g.R.Source.remaining c.arrive.new.reader, g.R.Source.taken c.arrive.new.reader) (g.W.Outlet.contents c.args.writer.now)
-    (g.W.Outlet.contents c.reply_to.new.writer) c.arrive.new.reads (c.args.connection.now.input ++ read.0)
-    c.reply_to.new.connection.input c.in-Message.request message.0
-    reply.0 c.in-Err-reply_to.fault message.1 (c.in-Err-reply_to.ensures.input ∙ message.2) reply.1 reply.2.0 reply.2.1)
+    let reply = c.in-Err-reply_to.ensures.err in (
+      went_then_broken g.D.OwedDesk.step
+          (moment c.args.desk.now (g.R.Source.remaining c.args.reader.now, g.R.Source.taken c.args.reader.now) (g.W.Outlet.contents c.args.writer.now) c.args.reads.now c.args.connection.now.input)
+          (moment c.args.desk.now (g.R.Source.remaining c.arrive.new.reader, g.R.Source.taken c.arrive.new.reader) (g.W.Outlet.contents c.args.writer.now)
+          c.arrive.new.reads (c.args.connection.now.input ++ read.0))
+          (moment c.reply_to.new.desk (g.R.Source.remaining c.arrive.new.reader, g.R.Source.taken c.arrive.new.reader) (g.W.Outlet.contents c.reply_to.new.writer)
+          c.arrive.new.reads c.reply_to.new.connection.input)
+          c.in-Err-reply_to.fault (went_reading g.D.OwedDesk.step c.args.desk.now (g.R.Source.remaining c.args.reader.now, g.R.Source.taken c.args.reader.now) (g.R.Source.remaining c.arrive.new.reader, g.R.Source.taken c.arrive.new.reader)
+          (g.W.Outlet.contents c.args.writer.now) c.args.reads.now c.arrive.new.reads c.args.connection.now.input
+          (c.args.connection.now.input ++ read.0) read.0 refl read.1 read.2)
+          (broken_answering g.D.OwedDesk.step c.args.desk.now c.reply_to.new.desk
+          (g.R.Source.remaining c.arrive.new.reader, g.R.Source.taken c.arrive.new.reader) (g.W.Outlet.contents c.args.writer.now)
+          (g.W.Outlet.contents c.reply_to.new.writer) c.arrive.new.reads (c.args.connection.now.input ++ read.0)
+          c.reply_to.new.connection.input c.in-Message.request message.0
+          reply.0 c.in-Err-reply_to.fault message.1 (c.in-Err-reply_to.ensures.input ∙ message.2) reply.1 reply.2.0 reply.2.1),
+      λ is. absurd (no_reading _ _ _ _ reply.2.0 is),
+    )
 
 -- ---- a refusal
 
@@ -141,18 +147,20 @@ returns-in-Refused-clause-fault g c =
     let read = c.in-Ok-Some.ensures.bytes in
     let is : framing_refusal (c.args.connection.now.input ++ read.0) c.in-Refused.refusal =
     some_arrives (c.args.connection.now.input ++ read.0) c.arrive.new.self c.in-Ok-Some.field-0 c.in-Ok-Some.arrived
-    (Arrived.Refused c.in-Refused.refusal) c.in-Ok-Some.field-0-is c.in-Refused.is read.3 in
-    went_then_broken g.D.OwedDesk.step
-    (moment c.args.desk.now (g.R.Source.remaining c.args.reader.now, g.R.Source.taken c.args.reader.now) (g.W.Outlet.contents c.args.writer.now) c.args.reads.now c.args.connection.now.input)
-    (moment c.args.desk.now (g.R.Source.remaining c.arrive.new.reader, g.R.Source.taken c.arrive.new.reader) (g.W.Outlet.contents c.args.writer.now)
-    c.arrive.new.reads (c.args.connection.now.input ++ read.0))
-    (moment c.args.desk.now (g.R.Source.remaining c.arrive.new.reader, g.R.Source.taken c.arrive.new.reader) (g.W.Outlet.contents c.send.new.writer) c.arrive.new.reads c.arrive.new.self)
-    c.in-Err-send.fault (went_reading g.D.OwedDesk.step c.args.desk.now (g.R.Source.remaining c.args.reader.now, g.R.Source.taken c.args.reader.now) (g.R.Source.remaining c.arrive.new.reader, g.R.Source.taken c.arrive.new.reader)
-    (g.W.Outlet.contents c.args.writer.now) c.args.reads.now c.arrive.new.reads c.args.connection.now.input
-    (c.args.connection.now.input ++ read.0) read.0 refl read.1 read.2)
-    (broken_refusing g.D.OwedDesk.step c.args.desk.now (g.R.Source.remaining c.arrive.new.reader, g.R.Source.taken c.arrive.new.reader) (g.W.Outlet.contents c.args.writer.now)
-    (g.W.Outlet.contents c.send.new.writer) c.arrive.new.reads (c.args.connection.now.input ++ read.0) c.arrive.new.self c.in-Refused.refusal
-    c.in-Err-send.fault is c.in-Err-send.ensures.err)
+    (Arrived.Refused c.in-Refused.refusal) c.in-Ok-Some.field-0-is c.in-Refused.is read.3 in (
+      went_then_broken g.D.OwedDesk.step
+          (moment c.args.desk.now (g.R.Source.remaining c.args.reader.now, g.R.Source.taken c.args.reader.now) (g.W.Outlet.contents c.args.writer.now) c.args.reads.now c.args.connection.now.input)
+          (moment c.args.desk.now (g.R.Source.remaining c.arrive.new.reader, g.R.Source.taken c.arrive.new.reader) (g.W.Outlet.contents c.args.writer.now)
+          c.arrive.new.reads (c.args.connection.now.input ++ read.0))
+          (moment c.args.desk.now (g.R.Source.remaining c.arrive.new.reader, g.R.Source.taken c.arrive.new.reader) (g.W.Outlet.contents c.send.new.writer) c.arrive.new.reads c.arrive.new.self)
+          c.in-Err-send.fault (went_reading g.D.OwedDesk.step c.args.desk.now (g.R.Source.remaining c.args.reader.now, g.R.Source.taken c.args.reader.now) (g.R.Source.remaining c.arrive.new.reader, g.R.Source.taken c.arrive.new.reader)
+          (g.W.Outlet.contents c.args.writer.now) c.args.reads.now c.arrive.new.reads c.args.connection.now.input
+          (c.args.connection.now.input ++ read.0) read.0 refl read.1 read.2)
+          (broken_refusing g.D.OwedDesk.step c.args.desk.now (g.R.Source.remaining c.arrive.new.reader, g.R.Source.taken c.arrive.new.reader) (g.W.Outlet.contents c.args.writer.now)
+          (g.W.Outlet.contents c.send.new.writer) c.arrive.new.reads (c.args.connection.now.input ++ read.0) c.arrive.new.self c.in-Refused.refusal
+          c.in-Err-send.fault is c.in-Err-send.ensures.err),
+      λ is. absurd (no_reading _ _ _ _ c.in-Err-send.ensures.err is),
+    )
 
 -- ---- the end of the input
 

@@ -37,7 +37,7 @@ returns-in-Err-clause-bytes g c = (
   (consumes_nothing _, appends_nothing _),
   comes_nothing _,
   tt,
-  subst HasNoRefusal (c.self.view_is ∙ sym (append-nil c.args.self.now)) c.in-Err.ensures.memory,
+  (subst HasNoRefusal (c.self.view_is ∙ sym (append-nil c.args.self.now)) c.in-Err.ensures.memory, λ e. absurd (cc)),
 )
 
 pub returns-clause-bytes : goal.returns-clause-bytes
@@ -71,8 +71,10 @@ returns-clause-bytes g c =
       | in-Err-read_on w ↦
           (let same = c.self.view_is ∙ sym (append-nil c.args.self.now) in
           let fault = w.in-Err-read_on.ensures.fault in
-          let comes = what_comes (c.args.self.now ++ []) new c.args.reads.now c.read_on.new.reads c.match-read_on.result _ w.result-is
-          (tt, reading_breaks _ _ _ _ (subst IsUnfinished same told.0) fault.1) in
+          let comes = what_comes (c.args.self.now ++ []) new c.args.reads.now c.read_on.new.reads c.match-read_on.result _ w.result-is (
+            tt,
+            (reading_breaks _ _ _ _ (subst IsUnfinished same told.0) fault.1, λ e. w.in-Err-read_on.ensures.kept.0 ∙ view ∙ sym (append-nil c.args.self.now)),
+          ) in
           ([], (kept_nothing _ _ w.in-Err-read_on.ensures.kept.1, kept_taken _ _ w.in-Err-read_on.ensures.kept.2), no_reads _ _ fault.0, comes.0, comes.1))
     ]
 
