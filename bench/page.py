@@ -32,7 +32,7 @@ TABLES = {
     "ratios": ("Calls", "", ("What", "Compared with", "Times as fast")),
     "waits": (
         "What good clients wait because of bad ones",
-        "Bad clients reconnect once they are disconnected.",
+        "Good clients ask `tfstatectl serve` once a second. Bad ones reconnect once they are disconnected.",
         ("Bad clients", "At a time", "Longest wait of 20 good ones", "With nginx"),
     ),
 }
