@@ -108,8 +108,7 @@ def test_a_compaction_waits_for_no_client_and_keeps_its_connection():
         (folder / "compact").touch()
         idle.sendall(text)
         expect(reply_of(answers[idle]), NO_STATE, "before the compaction")
-        # The server looks for the file once a second, and keeps an idle client for two.
-        has_come(lambda: newest(folder) == 2, "a compaction that waits for nobody", 1.8)
+        has_come(lambda: newest(folder) == 2, "a compaction")
         for who, rest in ((idle, text), (silent, text), (begun, text[17:])):
             who.sendall(rest)
             expect(reply_of(answers[who]), NO_STATE, "after it, on the same connection")
@@ -135,7 +134,6 @@ def test_a_body_goes_on_after_each_compaction():
 @pytest.mark.parametrize("size, count", [(1_000, 400), (1_000_000, 40)])
 def test_no_request_fails_because_of_compactions(size, count):
     folder = fresh()
-    # With a worker to spare, a client may be idle for two seconds.
     server = serving(folder, "--compact-bytes", "8M" if size > 10_000 else "100K", workers="16")
     pushers = [Pusher(server, f"n{k}", b"x" * size) for k in range(8)]
     expect(work(server, pushers, count), 1, "tries of a push")

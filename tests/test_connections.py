@@ -18,8 +18,8 @@ from stdio_program import request_text
 
 pytestmark = pytest.mark.usefixtures("tfstatectl")
 GET, NO_STATE, LONG = request_text("GET", "/state/a"), b'{"error":"NoState"}', S1.ljust(10_000_000)
-# How long a good client may wait, in seconds.
-WAIT = 2.0
+# A good client waits less than this, in seconds, on any machine. Bad clients end much later.
+WAIT = 10.0
 # What a worker waits for a client before it leaves the connection, in seconds.
 TURN = 0.005
 
@@ -186,16 +186,16 @@ def is_whole(near):
         return reply_of(file) == (200, LONG)
 
 
-def test_of_slow_readers_those_that_began_first_are_left():
+def test_of_slow_readers_the_youngest_is_not_left():
     server, readers = started(4), []
     expect(server.ask("POST", "/state/long", LONG), (200, b""))
     for _ in range(4):
         readers.append(begin_to_read(server))
-        time.sleep(0.3)
+        time.sleep(1)
     expect(server.ask("GET", "/state/a")[0], 404, "a client that waits for a worker")
     whole = [is_whole(near) for near in readers]
     server.kill()
-    expect((whole[0], whole[-1]), (False, True), whole)
+    expect((all(whole), whole[-1]), (False, True), whole)
 
 
 def limit_descriptors():

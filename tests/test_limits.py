@@ -343,8 +343,7 @@ def test_a_reply_in_progress_has_five_seconds_when_its_run_ends():
 
 
 def test_a_request_in_progress_delays_no_compaction():
-    # The server looks for the file once a second.
-    expect_between(next_run_beside(send_slowly), (0, 2.5), "until the next run")
+    expect_between(next_run_beside(send_slowly), (0, ENDING_SECONDS[0]), "until the next run")
 
 
 def test_a_thousand_connections_wait_for_the_only_worker():
